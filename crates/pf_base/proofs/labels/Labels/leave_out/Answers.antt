@@ -1,0 +1,11 @@
+use Rattle.std.proofs.Common.{ap, ◌∙◌, not}
+use Rattle.std.specs.Arc.{arc_value}
+use Rattle.pf_base.specs.LabelChanges.{is_among, left_out}
+use Rattle.pf_base.proofs.LabelFacts.{labels_filter}
+use Rattle.pf_base.proofs.labels.Labels.leave_out.Goals as goal
+
+pub invariant_of-result : goal.invariant_of-result
+invariant_of-result c =
+    labels_filter (λ p. not (is_among c.args.names.now p)) (arc_value c.self.inside.pairs).items _ c.self.invariant
+    (ap (λ v. v.items) c.in_ok-new.ensures.ok ∙ c.in_ok-found.ensures
+    ∙ ap (left_out c.args.names.now) (c.deref-3.ensures.value ∙ ap (λ v. v.items) c.deref-2.ensures))

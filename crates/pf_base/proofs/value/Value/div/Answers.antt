@@ -1,0 +1,5 @@
+use Rattle.pf_base.proofs.Numbers.{quotient_at}
+use Rattle.pf_base.proofs.value.Value.div.Goals as goal
+
+pub returns : goal.returns
+returns c = quotient_at c.self.inside.micros c.other.inside.micros c.args.self c.args.other c.new.result c.self.invariant c.other.invariant c.self.view_is c.other.view_is c.if-other-eq0.false c.new.ensures

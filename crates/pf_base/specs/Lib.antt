@@ -1,0 +1,16 @@
+pub mod Arithmetic
+pub mod Batches
+pub mod DurationScans
+pub mod DurationTexts
+pub mod GridLists
+pub mod Grids
+pub mod LabelBuild
+pub mod LabelChanges
+pub mod LabelOrder
+pub mod LabelSets
+pub mod NumberScans
+pub mod NumberTexts
+pub mod LabelWalk
+pub mod ShardHash
+pub mod Sorting
+pub mod Tenants

@@ -1,0 +1,134 @@
+//! Durations as text.
+
+ghost use Rattle.std.specs.Prelude.{◌≡◌, ◌↔◌, ◌+◌, ◌<◌, ◌≤◌, ℕ, length, min, Result};
+ghost use Rattle.pf_base.specs.DurationTexts.{ReadsDuration};
+ghost use Rattle.pf_base.specs.DurationScans.{duration_of, letters_in_front, part_of, past_letters, past_part};
+ghost use Rattle.pf_base.specs.declared.duration.DurationError.{DurationError};
+
+use crate::grid::MAXT;
+use crate::number::{read_on, split_digits};
+
+/// Why a text is no duration within the limit.
+#[derive(Clone, Copy, Debug, PartialEq, Eq)]
+pub enum DurationError {
+    BadForm,
+    /// More than the greatest time, 4,398,046,511,103 ms.
+    TooLarge,
+}
+
+/// Reads digits with units, which are `y`, `w`, `d`, `h`, `m`, `s`, `ms` in this order, each at most once, and gives
+/// milliseconds.
+pub fn read_duration(bytes: &[u8]) -> Result<u64, DurationError>
+    ensures { (r : Result ℕ DurationError) → (result ≡ r) ↔ ReadsDuration bytes.now r }
+{
+    read_parts(bytes)
+}
+
+fn read_parts(bytes: &[u8]) -> Result<u64, DurationError>
+    ensures { result ≡ duration_of bytes.now }
+{
+    let (total, rest) = read_part(0, bytes, b"y", 31_536_000_000);
+    let (total, rest) = read_part(total, rest, b"w", 604_800_000);
+    let (total, rest) = read_part(total, rest, b"d", 86_400_000);
+    let (total, rest) = read_part(total, rest, b"h", 3_600_000);
+    let (total, rest) = read_part(total, rest, b"m", 60_000);
+    let (total, rest) = read_part(total, rest, b"s", 1000);
+    let (total, rest) = read_part(total, rest, b"ms", 1);
+    if bytes.is_empty() || !rest.is_empty() {
+        return Err(DurationError::BadForm);
+    }
+    if total > MAXT {
+        return Err(DurationError::TooLarge);
+    }
+    Ok(total)
+}
+
+/// Adds digits with this unit, of so many milliseconds, to a total, where they stand in front, and gives what is behind
+/// them. Past the greatest time the total is one more than that.
+fn read_part<'a>(total: u64, bytes: &'a [u8], unit: &[u8], millis: u64) -> (u64, &'a [u8])
+    requires total { total ≤ 4398046511104 }
+    requires millis { 0 < millis }
+    ensures total { result.0 ≡ min (total + part_of unit.now millis bytes.now) 4398046511104 }
+    ensures rest { result.1.now ≡ past_part unit.now bytes.now }
+{
+    let (digits, after) = split_digits(bytes);
+    let (letters, rest) = split_letters(after);
+    if digits.is_empty() || letters != unit {
+        return (total, bytes);
+    }
+    let part = read_on(0, digits).saturating_mul(millis);
+    (total.saturating_add(part).min(MAXT + 1), rest)
+}
+
+/// The bytes before the next digit, and what is behind them.
+fn split_letters(bytes: &[u8]) -> (&[u8], &[u8])
+    ensures letters { result.0.now ≡ letters_in_front bytes.now }
+    ensures rest { result.1.now ≡ past_letters bytes.now }
+{
+    for (i, byte) in bytes.iter().enumerate() {
+        if byte.is_ascii_digit() {
+            return bytes.split_at(i);
+        }
+    }
+    bytes.split_at(bytes.len())
+}
+
+#[cfg(test)]
+mod tests {
+    use super::*;
+
+    #[test]
+    fn durations_are_read(rt: HostRuntime) {
+        for (text, millis) in [
+            ("0s", 0),
+            ("5ms", 5),
+            ("007s", 7000),
+            ("1m", 60_000),
+            ("1m1ms", 60_001),
+            ("1h30m", 5_400_000),
+            ("1d", 86_400_000),
+            ("2w3d", 1_468_800_000),
+            ("1y", 31_536_000_000),
+            ("1y2w3d4h5m6s7ms", 33_019_506_007),
+            ("139y", 4_383_504_000_000),
+            ("4398046511103ms", 4_398_046_511_103),
+        ] {
+            assert_eq!(rt; read_duration(text.as_bytes()), Ok(millis), "at {text}");
+        }
+        for text in [
+            "",
+            "5",
+            "m",
+            "5m5m",
+            "1s1h",
+            "1ms1s",
+            "1x",
+            "1H",
+            "1h ",
+            "-1s",
+            "1.5h",
+            "5mss",
+            "1h30",
+            "99999999999999999999x",
+        ] {
+            assert_eq!(rt;
+                read_duration(text.as_bytes()),
+                Err(DurationError::BadForm),
+                "at {text}"
+            );
+        }
+        for text in [
+            "4398046511104ms",
+            "140y",
+            "139y25w",
+            "99999999999999999999999y",
+            "0y99999999999999999999ms",
+        ] {
+            assert_eq!(rt;
+                read_duration(text.as_bytes()),
+                Err(DurationError::TooLarge),
+                "at {text}"
+            );
+        }
+    }
+}

@@ -1,0 +1,65 @@
+//! The shard of a label set.
+
+ghost use Rattle.std.specs.Prelude.{◌≡◌, ◌≤◌};
+ghost use Rattle.pf_base.specs.LabelChanges.{metric_name, others};
+ghost use Rattle.pf_base.specs.ShardHash.{hash_step, hash_onto, label_bytes, labels_hash, shard_of};
+
+use crate::labels::{Labels, METRIC_NAME};
+use crate::text::Text;
+
+/// The offset basis of FNV with 64 bits.
+const OFFSET_BASIS: u64 = 14_695_981_039_346_656_037;
+
+/// Its prime.
+const PRIME: u64 = 1_099_511_628_211;
+
+/// What follows each name and each value: no byte of a text.
+const END: u8 = 255;
+
+fn hash_byte(hash: u64, byte: u8) -> u64
+    ensures { result ≡ hash_step hash byte }
+{
+    (hash ^ byte as u64).wrapping_mul(PRIME)
+}
+
+fn hash_bytes(mut hash: u64, bytes: &[u8]) -> u64
+    ensures { result ≡ hash_onto hash bytes.now }
+{
+    for byte in bytes {
+        hash = hash_byte(hash, *byte);
+    }
+    hash
+}
+
+#[tactic(auto, using(crate::proofs::ShardSteps::label_steps))]
+fn hash_label(hash: u64, pair: &(Text, Text)) -> u64
+    ensures { result ≡ hash_onto hash (label_bytes pair.now) }
+{
+    let named = hash_bytes(hash, pair.0.as_str().as_bytes());
+    let parted = hash_byte(named, END);
+    let valued = hash_bytes(parted, pair.1.as_str().as_bytes());
+    hash_byte(valued, END)
+}
+
+fn hash_labels(pairs: &[(Text, Text)]) -> u64
+    ensures { result ≡ labels_hash (others metric_name pairs.now) }
+{
+    let mut hash = OFFSET_BASIS;
+    for pair in pairs {
+        if pair.0.as_str() != METRIC_NAME {
+            hash = hash_label(hash, pair);
+        }
+    }
+    hash
+}
+
+impl Labels {
+    /// The shard of this label set among n. The metric name takes no part, so that label sets which differ in it alone
+    /// have one shard.
+    pub fn shard(&self, n: u32) -> u32
+        requires { 1 ≤ n }
+        ensures { result ≡ shard_of self.now n }
+    {
+        (hash_labels(&self.pairs) % n as u64) as u32
+    }
+}

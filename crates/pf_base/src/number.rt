@@ -1,0 +1,385 @@
+//! Numbers as text.
+
+ghost use Rattle.std.specs.Prelude.{◌≡◌, ◌↔◌, ◌+◌, ◌*◌, ◌^◌, ◌<◌, ◌≤◌, ◌++◌, true, length, map, take, vec_len, IfOk, OnOk, OnErr};
+ghost use Rattle.std.specs.Fmt.{decimal};
+ghost use Rattle.std.specs.Str.{all_ascii_digits};
+ghost use Rattle.std.specs.Char.{to_ascii_lowercase};
+ghost use Rattle.pf_base.specs.NumberTexts.{fraction_digits, fraction_text, micros_text, number_after, Reads, six_digits, value_text, without_end_zeros};
+ghost use Rattle.pf_base.specs.NumberScans.{capped, decimal_of, digits_in_front, exponent_of, fraction_in_front, is_minus, is_word, past_digits, past_fraction, past_sign, placed, read_of, sign_in_front, signed_by, sizes, small_of, tens_of};
+ghost use Rattle.pf_base.specs.declared.number.Read.{Read};
+
+use crate::memory::OutOfMemory;
+use crate::value::{LIM, Value};
+
+/// The greatest size of a value, in micros.
+const MOST: u64 = LIM as u64;
+
+/// What a number's text says.
+#[derive(Clone, Copy, Debug, PartialEq, Eq)]
+pub enum Read {
+    Number(Value),
+    NotANumber,
+}
+
+/// A text of another form than a number's.
+#[derive(Clone, Copy, Debug, PartialEq, Eq)]
+pub struct BadNumber;
+
+/// The power of ten by which an exponent multiplies, and the one by which it divides.
+#[derive(Clone, Copy)]
+struct Tens {
+    up: usize,
+    down: usize,
+}
+
+/// Reads a decimal of at most 128 bytes with an exponent of at most 9,999, cut toward zero to whole micros and moved into
+/// the bounds; `inf` or `infinity` as the greatest size; or `nan`. Each may have a sign, and words any case of letters.
+pub fn read_value(bytes: &[u8]) -> Result<Read, BadNumber>
+    ensures { (r : Read) → (result ≡ Ok r) ↔ Reads bytes.now r }
+{
+    read_text(bytes)
+}
+
+/// Appends the value's decimal text: no exponent, no zeros at the fraction's end, and `-` only for a negative value.
+pub fn push_value(out: &mut Vec<u8>, value: Value) -> Result<(), OutOfMemory>
+    ensures ok { OnOk result (out.new.items ≡ out.old.items ++ value_text value) }
+    ensures err { OnErr result (out.new.items ≡ out.old.items) }
+    ensures read_back { Reads (value_text value) (Read.Number value) }
+{
+    let before = out.len();
+    match push_text(out, value.micros()) {
+        Ok(()) => Ok(()),
+        Err(error) => {
+            out.truncate(before);
+            Err(error)
+        }
+    }
+}
+
+fn push_text(out: &mut Vec<u8>, micros: i64) -> Result<(), OutOfMemory>
+    ensures ok { OnOk result (out.new.items ≡ out.old.items ++ value_text micros) }
+    ensures kept { take (vec_len out.old) out.new.items ≡ out.old.items }
+{
+    if micros < 0 {
+        out.push(b'-')?;
+    }
+    push_micros(out, micros.unsigned_abs())
+}
+
+fn push_micros(out: &mut Vec<u8>, micros: u64) -> Result<(), OutOfMemory>
+    ensures ok { OnOk result (out.new.items ≡ out.old.items ++ micros_text micros) }
+    ensures kept { take (vec_len out.old) out.new.items ≡ out.old.items }
+{
+    push_decimal(out, micros / 1_000_000)?;
+    push_fraction(out, (micros % 1_000_000) as u32)
+}
+
+fn push_decimal(out: &mut Vec<u8>, number: u64) -> Result<(), OutOfMemory>
+    ensures ok { OnOk result (out.new.items ≡ out.old.items ++ decimal number) }
+    ensures kept { take (vec_len out.old) out.new.items ≡ out.old.items }
+{
+    if number >= 10 {
+        push_decimal(out, number / 10)?;
+    }
+    out.push(b'0' + (number % 10) as u8)?;
+    Ok(())
+}
+
+fn push_fraction(out: &mut Vec<u8>, micros: u32) -> Result<(), OutOfMemory>
+    requires { micros < 1000000 }
+    ensures ok { OnOk result (out.new.items ≡ out.old.items ++ fraction_text micros) }
+    ensures kept { take (vec_len out.old) out.new.items ≡ out.old.items }
+{
+    if micros == 0 {
+        return Ok(());
+    }
+    out.push(b'.')?;
+    let digits = digits_of(micros);
+    out.extend_from_slice(without_zeros(&digits))?;
+    Ok(())
+}
+
+/// The six digits of a number below a million.
+fn digits_of(number: u32) -> [u8; 6]
+    requires { number < 1000000 }
+    ensures { result ≡ six_digits number }
+{
+    [
+        b'0' + (number / 100_000) as u8,
+        b'0' + (number / 10_000 % 10) as u8,
+        b'0' + (number / 1000 % 10) as u8,
+        b'0' + (number / 100 % 10) as u8,
+        b'0' + (number / 10 % 10) as u8,
+        b'0' + (number % 10) as u8,
+    ]
+}
+
+/// The digits before the zeros at the end.
+fn without_zeros(digits: &[u8]) -> &[u8]
+    ensures { result.now ≡ without_end_zeros digits.now }
+{
+    let mut end = digits.len();
+    while end > 0 && digits[end - 1] == b'0' {
+        end -= 1;
+    }
+    &digits[..end]
+}
+
+/// Whether a `-` stands in front, and what is behind the sign.
+fn split_sign(bytes: &[u8]) -> (bool, &[u8])
+    ensures sign { result.0 ≡ is_minus (sign_in_front bytes.now) }
+    ensures rest { result.1.now ≡ past_sign bytes.now }
+{
+    match bytes.split_first() {
+        Some((b'-', rest)) => (true, rest),
+        Some((b'+', rest)) => (false, rest),
+        _ => (false, bytes),
+    }
+}
+
+/// The digits in front, and what is behind them.
+pub fn split_digits(bytes: &[u8]) -> (&[u8], &[u8])
+    ensures digits { result.0.now ≡ digits_in_front bytes.now }
+    ensures rest { result.1.now ≡ past_digits bytes.now }
+    ensures all { all_ascii_digits result.0.now ≡ true }
+    ensures len { length result.0.now + length result.1.now ≡ length bytes.now }
+{
+    for (i, byte) in bytes.iter().enumerate() {
+        if !byte.is_ascii_digit() {
+            return bytes.split_at(i);
+        }
+    }
+    bytes.split_at(bytes.len())
+}
+
+/// The digits behind a point in front, and what is behind them.
+fn split_fraction(bytes: &[u8]) -> (&[u8], &[u8])
+    ensures digits { result.0.now ≡ fraction_digits (fraction_in_front bytes.now) }
+    ensures rest { result.1.now ≡ past_fraction bytes.now }
+    ensures all { all_ascii_digits result.0.now ≡ true }
+    ensures len { length result.0.now ≤ length bytes.now }
+{
+    match bytes.split_first() {
+        Some((b'.', rest)) => split_digits(rest),
+        _ => bytes.split_at(0),
+    }
+}
+
+/// The number that the digits write behind those of another, at most the greatest size.
+pub fn read_on(size: u64, digits: &[u8]) -> u64
+    requires capped { size ≤ 1000000000000000000 }
+    requires digits { all_ascii_digits digits.now ≡ true }
+    ensures { result ≡ capped (number_after size digits.now) }
+{
+    let mut size = size;
+    for digit in digits {
+        size = (size * 10 + (*digit - b'0') as u64).min(MOST);
+    }
+    size
+}
+
+/// The number that digits alone write, where it is at most 9,999.
+fn small_number(bytes: &[u8]) -> Option<usize>
+    ensures { result ≡ small_of bytes.now }
+{
+    let (digits, rest) = split_digits(bytes);
+    if digits.is_empty() || !rest.is_empty() {
+        return None;
+    }
+    let number = read_on(0, digits);
+    if number > 9999 {
+        None
+    } else {
+        Some(number as usize)
+    }
+}
+
+/// The powers of an exponent, or of nothing.
+fn read_exponent(bytes: &[u8]) -> Result<Tens, BadNumber>
+    ensures tens { result ≡ tens_of (exponent_of bytes.now) }
+    ensures small { IfOk result (λ t. t.up ≤ 9999) }
+{
+    let Some((letter, rest)) = bytes.split_first() else {
+        return Ok(Tens { up: 0, down: 0 });
+    };
+    if *letter != b'e' && *letter != b'E' {
+        return Err(BadNumber);
+    }
+    let (minus, digits) = split_sign(rest);
+    match small_number(digits) {
+        None => Err(BadNumber),
+        Some(size) if minus => Ok(Tens { up: 0, down: size }),
+        Some(size) => Ok(Tens { up: size, down: 0 }),
+    }
+}
+
+/// A size with zeros behind it, at most the greatest.
+fn with_zeros(size: u64, zeros: usize) -> u64
+    requires { size ≤ 1000000000000000000 }
+    ensures { result ≡ capped (size * 10 ^ zeros) }
+{
+    let mut size = size;
+    let mut zeros = zeros;
+    while zeros > 0 && 0 < size && size < MOST {
+        size = (size * 10).min(MOST);
+        zeros -= 1;
+    }
+    size
+}
+
+/// The first so many of the digits before and behind the point, with zeros where there are fewer, as a size.
+fn placed(whole: &[u8], fraction: &[u8], places: usize) -> u64
+    requires whole { all_ascii_digits whole.now ≡ true }
+    requires fraction { all_ascii_digits fraction.now ≡ true }
+    ensures { result ≡ capped (placed (whole.now ++ fraction.now) places) }
+{
+    let front = places.min(whole.len());
+    let size = read_on(0, &whole[..front]);
+    let behind = (places - front).min(fraction.len());
+    let size = read_on(size, &fraction[..behind]);
+    with_zeros(size, places - front - behind)
+}
+
+/// The size in micros of a number without its sign.
+fn read_size(bytes: &[u8]) -> Result<u64, BadNumber>
+    requires { length bytes.now ≤ 128 }
+    ensures size { result ≡ sizes (decimal_of bytes.now) }
+    ensures capped { IfOk result (λ n. n ≤ 1000000000000000000) }
+{
+    let (whole, rest) = split_digits(bytes);
+    let (fraction, rest) = split_fraction(rest);
+    let tens = read_exponent(rest)?;
+    if whole.len() + fraction.len() == 0 {
+        return Err(BadNumber);
+    }
+    let places = (whole.len() + 6 + tens.up).saturating_sub(tens.down);
+    Ok(placed(whole, fraction, places))
+}
+
+#[tactic(auto, unfolding(crate::specs::Arithmetic::clamp))]
+fn signed_value(minus: bool, size: u64) -> Value
+    requires { size ≤ 1000000000000000000 }
+    ensures { result ≡ signed_by minus size }
+{
+    if minus {
+        Value::new(-(size as i128))
+    } else {
+        Value::new(size as i128)
+    }
+}
+
+/// Whether bytes are this word of small letters, in any case of letters.
+fn is_word(bytes: &[u8], word: &[u8]) -> bool
+    requires { map to_ascii_lowercase word.now ≡ word.now }
+    ensures { result ≡ is_word word.now bytes.now }
+{
+    bytes.eq_ignore_ascii_case(word)
+}
+
+/// What bytes are read as, from the left.
+fn read_text(bytes: &[u8]) -> Result<Read, BadNumber>
+    ensures { result ≡ read_of bytes.now }
+{
+    let (minus, rest) = split_sign(bytes);
+    if is_word(rest, b"nan") {
+        return Ok(Read::NotANumber);
+    }
+    if is_word(rest, b"inf") || is_word(rest, b"infinity") {
+        return Ok(Read::Number(signed_value(minus, MOST)));
+    }
+    if bytes.len() > 128 {
+        return Err(BadNumber);
+    }
+    let size = read_size(rest)?;
+    Ok(Read::Number(signed_value(minus, size)))
+}
+
+#[cfg(test)]
+mod tests {
+    use super::*;
+
+    #[test]
+    fn numbers_are_read(rt: HostRuntime) {
+        for (text, micros) in [
+            ("-0", 0),
+            ("1e12", 1_000_000_000_000_000_000),
+            ("-1E9999", -1_000_000_000_000_000_000),
+            ("0e9999", 0),
+            ("1e-9999", 0),
+            ("1e0000000001", 10_000_000),
+            ("+Inf", 1_000_000_000_000_000_000),
+            ("-inf", -1_000_000_000_000_000_000),
+            ("infinity", 1_000_000_000_000_000_000),
+            (".5", 500_000),
+            ("+5.e-1", 500_000),
+            ("5.", 5_000_000),
+            ("1.7560473e+07", 17_560_473_000_000),
+            ("0.0000019", 1),
+            ("-0.0000019", -1),
+            ("-0.0000001", 0),
+        ] {
+            assert_eq!(rt;
+                read_value(text.as_bytes()),
+                Ok(Read::Number(Value::new(micros))),
+                "at {text}"
+            );
+        }
+        for text in ["nan", "-NaN"] {
+            assert_eq!(rt;
+                read_value(text.as_bytes()),
+                Ok(Read::NotANumber),
+                "at {text}"
+            );
+        }
+        for text in [
+            "", "+", ".", "-.", "1e", "1e+", ".e5", "1e10000", "--1", " 1", "1 ", "1.2.3", "1e5.",
+            "infinit", "inf1",
+        ] {
+            assert_eq!(rt; read_value(text.as_bytes()), Err(BadNumber), "at {text}");
+        }
+    }
+
+    #[test]
+    fn long_numbers_are_read(rt: HostRuntime) {
+        let mut nines = vec![in rt.alloc(); b'9'; 128].expect(&rt, "memory");
+        assert_eq!(rt;
+            read_value(&nines),
+            Ok(Read::Number(Value::new(1_000_000_000_000_000_000)))
+        );
+        assert!(rt; nines.push(b'9').is_ok());
+        assert_eq!(rt; read_value(&nines), Err(BadNumber));
+
+        let zeros = vec![in rt.alloc(); b'0'; 119].expect(&rt, "memory");
+        let mut number = Vec::from_slice(rt.alloc(), b"0.").expect(&rt, "memory");
+        assert!(rt; number.extend_from_slice(&zeros).is_ok());
+        assert!(rt; number.extend_from_slice(b"1e+120").is_ok());
+        assert_eq!(rt;
+            read_value(&number),
+            Ok(Read::Number(Value::new(1_000_000)))
+        );
+    }
+
+    #[test]
+    fn values_are_written(rt: HostRuntime) {
+        for (micros, text) in [
+            (0, "[0"),
+            (1_000_000, "[1"),
+            (1_500_000, "[1.5"),
+            (-1, "[-0.000001"),
+            (116_666, "[0.116666"),
+            (-10_100_500, "[-10.1005"),
+            (123_000_010, "[123.00001"),
+            (1_000_000_000_000_000_000, "[1000000000000"),
+            (-999_999_999_999_999_999, "[-999999999999.999999"),
+        ] {
+            let mut out = Vec::new(rt.alloc());
+            assert!(rt; out.push(b'[').is_ok());
+            assert_eq!(rt;
+                push_value(&mut out, Value::new(micros)),
+                Ok(()),
+                "at {text}"
+            );
+            assert_eq!(rt; out.as_slice(), text.as_bytes(), "at {text}");
+        }
+    }
+}
