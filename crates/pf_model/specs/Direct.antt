@@ -1,0 +1,91 @@
+-- Direct evaluation of a query over its grid, and the matrix that is gathered. Prometheus, HTTP API: Range queries.
+use Rattle.std.specs.Prelude.{ℕ, ℤ, pos, Option, Some, None, List, [], ◌∷◌, ◌++◌, map, filter}
+use Rattle.pf_base.specs.declared.plain.Row.{Row}
+use Rattle.pf_base.specs.declared.plain.Sample.{Sample}
+use Rattle.pf_base.specs.GridLists.{GridData}
+use Rattle.pf_base.specs.Grids.{points}
+use Rattle.pf_base.specs.LabelSets.{Pairs}
+use Rattle.pf_model.specs.declared.cell.Element.{Element}
+use Rattle.pf_model.specs.declared.cell.ErrorKind.{ErrorKind}
+use Rattle.pf_model.specs.declared.cell.StepCell.{StepCell}
+use Rattle.pf_model.specs.declared.cell.StepCell.TheVariants.{Good, Bad}
+use Rattle.pf_model.specs.Evaluation.{eval, put}
+use Rattle.pf_model.specs.Lists.{joined}
+use Rattle.pf_model.specs.Selection.{same_labels}
+use Rattle.pf_model.specs.Trees.{Tree}
+
+-- an asked query: its tree and its grid
+pub record Asked : Type 0 where
+  pub tree : Tree
+  pub grid : GridData
+
+-- a row of a matrix: a label set and its points by time
+pub record MatrixRow : Type 0 where
+  pub labels : Pairs
+  pub points : List Sample
+
+-- the elements of a step, with its time
+pub record Step : Type 0 where
+  pub time : ℕ
+  pub elements : List Element
+
+-- the answer of a query: the matrix, or the first step that has an error
+pub data Answer : Type 0 where
+  gathered : List MatrixRow → Answer
+  failed : ℕ → ErrorKind → Answer
+
+-- the label sets that occur at some step, each once, in label order
+abbrev pub put_elements : List Element → List Pairs → List Pairs
+put_elements [] ls = ls
+put_elements (e ∷ es) ls = put e.labels (put_elements es ls)
+
+abbrev pub occurring : List Step → List Pairs
+occurring [] = []
+occurring (s ∷ ss) = put_elements s.elements (occurring ss)
+
+-- the points of one label set
+abbrev pub points_of : Pairs → List Step → List Sample
+points_of l steps =
+    joined (λ s. map (λ e. record { time = pos s.time; value = e.value }) (filter (λ e. same_labels e.labels l) s.elements)) steps
+
+abbrev pub gather : List Step → List MatrixRow
+gather steps = map (λ l. record { labels = l; points = points_of l steps }) (occurring steps)
+
+-- a query at one time
+pub record Evaluated : Type 0 where
+  pub time : ℕ
+  pub cell : StepCell
+
+abbrev pub evaluated : List Row → Tree → List ℕ → List Evaluated
+evaluated samples tree [] = []
+evaluated samples tree (t ∷ ts) = record { time = t; cell = eval samples tree (pos t) } ∷ evaluated samples tree ts
+
+-- the first step that has an error
+pub record Failure : Type 0 where
+  pub time : ℕ
+  pub kind : ErrorKind
+
+abbrev pub failure_at : ℕ → StepCell → Option Failure → Option Failure
+failure_at t (Good cell) later = later
+failure_at t (Bad kind) later = Some (record { time = t; kind = kind })
+
+abbrev pub first_failure : List Evaluated → Option Failure
+first_failure [] = None
+first_failure (e ∷ es) = failure_at e.time e.cell (first_failure es)
+
+abbrev pub elements_of : StepCell → List Element
+elements_of (Good cell) = cell
+elements_of (Bad kind) = []
+
+abbrev pub steps_of : List Evaluated → List Step
+steps_of [] = []
+steps_of (e ∷ es) = record { time = e.time; elements = elements_of e.cell } ∷ steps_of es
+
+abbrev pub answer_unless : Option Failure → List Step → Answer
+answer_unless None steps = gathered (gather steps)
+answer_unless (Some f) steps = failed f.time f.kind
+
+-- the direct evaluation of a query over samples
+abbrev pub direct : List Row → Asked → Answer
+direct samples asked =
+    let cells = evaluated samples asked.tree (points asked.grid) in answer_unless (first_failure cells) (steps_of cells)

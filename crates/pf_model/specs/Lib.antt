@@ -1,0 +1,15 @@
+pub mod Direct
+pub mod ErrorTexts
+pub mod Evaluation
+pub mod Exposition
+pub mod FirstForms
+pub mod Json
+pub mod Legal
+pub mod Lists
+pub mod Log
+pub mod Machine
+pub mod Report
+pub mod Scripts
+pub mod Selection
+pub mod Trees
+pub mod Weave

@@ -1,0 +1,47 @@
+-- What selectors accept and read. Prometheus, Querying basics: Time series selectors; that the look-back of five
+-- minutes is open at its left end is that of Prometheus 3.
+use Rattle.std.specs.Prelude.{ℕ, ℤ, pos, ◌-ℤ◌, int_lt, int_le, Bool, ◌&&◌, Option, Some, None, cond, List, [], ◌∷◌, nat_lt}
+use Rattle.std.specs.Ordering.{is_eq}
+use Rattle.std.specs.Str.{bytes_eq}
+use Rattle.std.specs.List.{list_all}
+use Rattle.pf_base.specs.declared.plain.Row.{Row}
+use Rattle.pf_base.specs.LabelSets.{Pairs, value_of}
+use Rattle.pf_base.specs.LabelOrder.{labels_cmp}
+use Rattle.pf_model.specs.declared.expr.Matcher.{Matcher}
+use Rattle.pf_model.specs.declared.expr.MatchSign.{MatchSign}
+use Rattle.pf_model.specs.declared.expr.MatchSign.TheVariants.{Equal}
+
+abbrev pub same_labels : Pairs → Pairs → Bool
+same_labels l m = is_eq (labels_cmp l m)
+
+-- what a sign says of a label's value and the matcher's text
+abbrev pub holds : MatchSign → List ℕ → List ℕ → Bool
+holds Equal value text = bytes_eq value text
+
+-- every matcher holds of its label's value
+abbrev pub accepts : List Matcher → Pairs → Bool
+accepts ms labels = list_all (λ m. holds m.sign (value_of labels m.label) m.text) ms
+
+-- every matcher accepts the empty text, as a selector's may not
+abbrev pub accepts_empty : List Matcher → Bool
+accepts_empty ms = list_all (λ m. holds m.sign [] m.text) ms
+
+-- the look-back, in milliseconds
+abbrev pub lookback : ℤ
+lookback = pos 300000
+
+-- a row's time lies in (t - look-back, t]
+abbrev pub is_read : ℤ → Row → Bool
+is_read t r = int_lt (t -ℤ lookback) (pos r.time) && int_le (pos r.time) t
+
+-- the row of greatest time
+abbrev pub later : Option Row → Row → Option Row
+later None r = Some r
+later (Some found) r = cond (nat_lt found.time r.time) (Some r) (Some found)
+
+abbrev pub last_onto : Option Row → List Row → Option Row
+last_onto found [] = found
+last_onto found (r ∷ rs) = last_onto (later found r) rs
+
+abbrev pub last_row : List Row → Option Row
+last_row = last_onto None
