@@ -1,0 +1,16 @@
+pub mod Braces
+pub mod Decided
+pub mod Digits
+pub mod Faults
+pub mod Files
+pub mod FirstBytes
+pub mod Fronts
+pub mod Lines
+pub mod Pairs
+pub mod Quoted
+pub mod Samples
+pub mod Shorter
+pub mod Skipped
+pub mod Texts
+pub mod Words
+pub mod Worked

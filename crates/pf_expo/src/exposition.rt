@@ -1,0 +1,110 @@
+//! Whole files.
+
+ghost use Rattle.std.specs.Prelude.{◌≡◌, ◌<◌, ◌≤◌, ◌∷◌, [], length, IfSome, MatchOption, nat_eq, position};
+ghost use Rattle.pf_model.specs.Exposition.{file_lines};
+ghost use Rattle.pf_expo.specs.Answers.{Adds, Answers, taken_of};
+ghost use Rattle.pf_expo.specs.Scans.{line_cut, without_return};
+
+use crate::fault::{ExpoError, ReadFault};
+use crate::line::{LineRead, read_line};
+use pf_base::{Batch, Row};
+use std::alloc::Global;
+
+/// The greatest number of rows of a file.
+const MOST_ROWS: usize = 2_000_000;
+
+/// What was taken of a file.
+#[derive(Drop)]
+struct Taken {
+    rows: Vec<Row>,
+    skipped: u64,
+}
+
+fn first_line_feed(bytes: &[u8]) -> Option<usize>
+    ensures place { result ≡ position (λ b. nat_eq b 10) bytes.now }
+    ensures within { IfSome result (λ n. n < length bytes.now) }
+{
+    bytes.iter().position(|byte| *byte == b'\n')
+}
+
+/// The line without one carriage return at its end.
+#[tactic(auto, using(crate::proofs::Lines::return_rules))]
+fn without_return(line: &[u8]) -> &[u8]
+    ensures { result.now ≡ without_return line.now }
+{
+    let Some((last, front)) = line.split_last() else {
+        return line
+    };
+    if *last == b'\r' { front } else { line }
+}
+
+/// The first line of a file, and what follows it. None for a file without a line.
+fn next_line(bytes: &[u8]) -> Option<(&[u8], &[u8])>
+    ensures lines { MatchOption result (file_lines bytes.now ≡ []) (λ c. file_lines bytes.now ≡ c.0.now ∷ file_lines c.1.now) }
+    ensures shorter { IfSome result (λ c. length c.1.now < length bytes.now) }
+{
+    if bytes.is_empty() {
+        return None;
+    }
+    let Some(end) = first_line_feed(bytes) else {
+        return Some((bytes, &[]))
+    };
+    Some((without_return(&bytes[..end]), &bytes[end + 1..]))
+}
+
+/// Adds what a line gives.
+fn add_line(
+    alloc: Global,
+    taken: &mut Taken,
+    text: &[u8],
+    line: u32,
+    default_time: u64,
+) -> Result<(), ExpoError>
+    requires time { default_time ≤ 4398046511103 }
+    requires room { taken.old.skipped < 18446744073709551615 }
+    requires few { length taken.old.rows.items ≤ 2000000 }
+    ensures { Adds default_time text.now line (taken_of taken.old) (taken_of taken.new) result }
+{
+    match read_line(alloc, text, default_time) {
+        Ok(LineRead::Nothing) => Ok(()),
+        Ok(LineRead::NoNumber) => {
+            taken.skipped += 1;
+            Ok(())
+        }
+        Ok(LineRead::Sample(row)) => {
+            if taken.rows.len() >= MOST_ROWS {
+                return Err(ExpoError::TooMany { line });
+            }
+            Ok(taken.rows.push(row)?)
+        }
+        Err(ReadFault::Bad) => Err(ExpoError::BadLine { line }),
+        Err(ReadFault::Late) => Err(ExpoError::TimeTooLarge { line }),
+        Err(ReadFault::OutOfMemory) => Err(ExpoError::OutOfMemory),
+    }
+}
+
+/// The rows of a file in the order of its lines, and the number of its lines whose value is no number. A line without a
+/// timestamp has the default time. Times are in milliseconds.
+pub fn read_exposition(alloc: Global, bytes: &[u8], default_time: u64) -> Result<Batch, ExpoError>
+    requires { default_time ≤ 4398046511103 }
+    ensures { Answers default_time bytes.now result }
+{
+    let mut taken = Taken {
+        rows: Vec::new(alloc),
+        skipped: 0,
+    };
+    let mut line: u32 = 0;
+    let mut rest = bytes;
+    while let Some((text, behind)) = next_line(rest) {
+        line = line.saturating_add(1);
+        add_line(alloc, &mut taken, text, line, default_time)?;
+        rest = behind;
+    }
+    Ok(Batch {
+        rows: taken.rows,
+        skipped: taken.skipped,
+    })
+}
+
+#[cfg(test)]
+mod tests;
