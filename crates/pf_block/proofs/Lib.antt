@@ -1,0 +1,5 @@
+pub mod Searches
+pub mod Postings
+pub mod Ids
+pub mod Keeping
+mod Worked

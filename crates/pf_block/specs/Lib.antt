@@ -1,0 +1,4 @@
+pub mod Indexes
+pub mod Samples
+pub mod SeriesIds
+pub mod Snaps

@@ -1,0 +1,17 @@
+//! Snapshots of a tenant's series and samples, unchanging and shared.
+//!
+//! What the layers above use: contracts see a snapshot as two lists by id, the labels of its series and their samples in
+//! order of time. A window of a series is a filter over its samples, `find` and `postings` are look-ups in the list of
+//! labels, and `with` and `without` give the two lists that they leave.
+//!
+//! The code keeps one sorted vector of samples a series, a map from label sets to ids, and a list of ids for each pair of
+//! a name and a value. Windows and look-ups search by halves and take no memory.
+#![tactic(auto)]
+
+mod index;
+mod samples;
+mod snap;
+mod window;
+
+pub use snap::Snap;
+pub use window::Window;
