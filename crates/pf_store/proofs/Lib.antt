@@ -1,0 +1,5 @@
+pub mod Deletions
+pub mod Holding
+pub mod Judging
+pub mod Logs
+pub mod Snapshots

@@ -1,0 +1,79 @@
+//! Verdicts on the rows of a batch.
+
+ghost use Rattle.std.specs.Prelude.{◌≡◌, ◌++◌, ◌∷◌, [], None, true, cond, List, map, IfOk, OnOk};
+ghost use Rattle.pf_base.specs.declared.plain.Row.{Row};
+ghost use Rattle.pf_block.specs.Snaps.{are_new, are_timed, held_of};
+ghost use Rattle.pf_model.specs.Log.{held_value, is_taken, taken_rows, verdict_on, verdicts_on};
+ghost use Rattle.pf_store.specs.Keys.{Finds};
+ghost use Rattle.pf_store.specs.Standing.{IsAlike, IsFresh, StandsFor};
+ghost use Rattle.pf_store.specs.Verdicts.{verdict_of};
+
+use crate::taken::{TakenRows, compared};
+use crate::verdict::Verdict;
+use pf_base::{Labels, OutOfMemory, Row, Value};
+use pf_block::Snap;
+use std::alloc::Global;
+
+/// The verdicts on some rows in order, and the rows that are taken.
+#[derive(Drop)]
+pub struct Judged {
+    pub list: Vec<Verdict>,
+    pub taken: Vec<Row>,
+}
+
+/// The value that a snapshot holds for a series at a time.
+pub fn held_in(snap: &Snap, labels: &Labels, time: u64) -> Option<Value>
+    ensures { result ≡ held_of snap.now labels.now time }
+{
+    let id = snap.find(labels)?;
+    snap.held(id, time)
+}
+
+/// The verdict on a row by the floor, the snapshot and the rows taken before it; it is added to these if it is taken.
+fn judge(
+    snap: &Snap,
+    floor: Option<u64>,
+    taken: &mut TakenRows,
+    row: &Row,
+) -> Result<Verdict, OutOfMemory>
+    requires { Finds taken.old.values taken.old.rows.items }
+    ensures verdict { IfOk result (λ v. (xs : List Row) → StandsFor snap.now xs → verdict_of v ≡ verdict_on floor (xs ++ taken.old.rows.items) row.now) }
+    ensures rows { IfOk result (λ v. taken.new.rows.items ≡ taken.old.rows.items ++ cond (is_taken (verdict_of v)) (row.now ∷ []) []) }
+    ensures fresh { IfOk result (λ v. is_taken (verdict_of v) ≡ true → IsFresh snap.now taken.old.rows.items row.now) }
+    ensures found { OnOk result (Finds taken.new.values taken.new.rows.items) }
+{
+    if let Some(floor) = floor {
+        if row.time < floor {
+            return Ok(Verdict::TooOld { floor });
+        }
+    }
+    if let Some(held) = held_in(snap, &row.labels, row.time) {
+        return Ok(compared(held, row.value));
+    }
+    taken.add(row)
+}
+
+/// The verdicts on rows in order, with the floor before them.
+pub fn judge_rows(
+    alloc: Global,
+    snap: &Snap,
+    floor: Option<u64>,
+    rows: &[Row],
+) -> Result<Judged, OutOfMemory>
+    requires alike { IsAlike snap.now }
+    requires timed { are_timed rows.now ≡ true }
+    ensures list { IfOk result (λ j. (xs : List Row) → StandsFor snap.now xs → map verdict_of j.list.items ≡ verdicts_on floor xs rows.now) }
+    ensures taken { IfOk result (λ j. (xs : List Row) → StandsFor snap.now xs → j.taken.items ≡ taken_rows rows.now (verdicts_on floor xs rows.now)) }
+    ensures fresh { IfOk result (λ j. are_new snap.now j.taken.items ≡ true) }
+    ensures timed { IfOk result (λ j. are_timed j.taken.items ≡ true) }
+{
+    let mut list = Vec::new(alloc);
+    let mut taken = TakenRows::new(alloc);
+    for row in rows {
+        list.push(judge(snap, floor, &mut taken, row)?)?;
+    }
+    Ok(Judged {
+        list,
+        taken: taken.rows,
+    })
+}
