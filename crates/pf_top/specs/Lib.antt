@@ -1,0 +1,12 @@
+pub mod Correct
+pub mod Cuts
+pub mod FirstJournal
+pub mod FirstReport
+pub mod Outputs
+pub mod Points
+pub mod Readings
+pub mod Refusals
+pub mod RowLists
+pub mod ScriptCuts
+pub mod SeriesCuts
+pub mod Words

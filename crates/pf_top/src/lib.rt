@@ -1,0 +1,21 @@
+//! The one call that does all that the program does.
+//!
+//! What `prom_front` uses: `run` takes the words, files, output, hops, gate and doors that are handed in, and answers the
+//! status. Its contract is the program's whole promise, the record `Correct` of `specs/Correct.antt`: for example, with
+//! status 0 the bytes written are the report of a legal journal that is woven from the scripts which the words name.
+#![tactic(auto)]
+
+mod cuts;
+mod driver;
+mod evaluate;
+mod exposition;
+mod first_script;
+mod json_text;
+mod matrix;
+mod report;
+mod script;
+mod series;
+mod session;
+mod words;
+
+pub use driver::run;
