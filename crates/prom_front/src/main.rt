@@ -1,0 +1,61 @@
+//! The program: the real files and the standard output, handed to the one call that does all.
+#![tactic(auto)]
+
+ghost use Rattle.std.specs.Prelude.{◌≡◌, IfOk, vec_len};
+
+use pf_base::Text;
+use pf_io::{DiskFiles, MemDoors, OpenGate, StdSink, SteadyHop};
+use std::alloc::{AllocError, Global};
+use std::process::ExitCode;
+use std::{env, io};
+
+/// One hop for each actor: sixteen clients, and sixteen queriers or step workers.
+const ACTORS: usize = 32;
+
+/// The status of want of memory.
+const OUT_OF_MEMORY: u8 = 6;
+
+/// The program's words, without its name. A word that is not UTF-8 makes the list empty, which is no form of words.
+fn words(rt: HostRuntime) -> io::Result<Vec<Text>> {
+    let mut words = Vec::new(rt.alloc());
+    let args = match env::args(&rt) {
+        Ok(args) => args,
+        Err(error) if error.kind() == io::ErrorKind::InvalidData => return Ok(words),
+        Err(error) => return Err(error),
+    };
+    for word in args.skip(1) {
+        words.push(Text::take(word))?;
+    }
+    Ok(words)
+}
+
+fn hops(alloc: Global) -> Result<Vec<SteadyHop>, AllocError>
+    ensures { IfOk result (λ v. vec_len v ≡ 32) }
+{
+    let mut hops = Vec::with_capacity(alloc, ACTORS)?;
+    for _actor in 0..ACTORS {
+        hops.push(SteadyHop)?;
+    }
+    Ok(hops)
+}
+
+fn main(rt: HostRuntime) -> ExitCode {
+    let alloc = rt.alloc();
+    let (Ok(words), Ok(hops)) = (words(rt), hops(alloc)) else {
+        return ExitCode::from(OUT_OF_MEMORY);
+    };
+    let mut files = DiskFiles::new(rt);
+    let mut out = StdSink::new(rt);
+    let mut doors = MemDoors::new(Vec::<()>::new(alloc));
+    let status = pf_top::run(
+        &rt,
+        alloc,
+        words.as_slice(),
+        &mut files,
+        &mut out,
+        hops,
+        &OpenGate,
+        &mut doors,
+    );
+    ExitCode::from(status)
+}
