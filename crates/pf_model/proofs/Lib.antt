@@ -1,2 +1,25 @@
+mod Fitting
+mod Folds
+mod GridPieces
+mod KeySets
+pub mod LegParts
+pub mod MergeLaw
+pub mod MergeQuery
+mod MergedParts
+pub mod OneAnswer
+pub mod OnePlace
+mod SelectorLabels
+mod ShardSteps
+mod ShardedCells
+mod ShardedSelectors
+mod TimesRead
 mod Worked
 mod WorkedLogs
+mod WorkedNames
+mod WorkedQueries
+mod WorkedRefusals
+mod WorkedTables
+mod WorkedTexts
+mod WorkedTokens
+mod WorkedTyping
+pub mod TreeOf

@@ -1,89 +1,117 @@
--- Worked examples, computed.
-use Rattle.std.proofs.Common.{◌≡◌, ℕ, ℤ, pos, List, [], ◌∷◌, ◌++◌, refl, Some, None, Option, codes}
+-- Worked examples of scripts, journals and reports, computed.
+use Rattle.std.proofs.Common.{◌≡◌, ℕ, pos, List, [], ◌∷◌, ◌++◌, refl, Some, None, Ok, Err, codes, true, false, Bool, cond, not, ◌&&◌}
 use Rattle.pf_base.specs.declared.plain.Limits.{Limits}
 use Rattle.std.specs.Str.{is_utf8}
 use Rattle.std.proofs.lemmas.Str.{is_utf8-from_IsUtf8}
 use Rattle.json.proofs.Printed.Utf8.{IsUtf8-are_ascii}
 use Rattle.std.specs.Fmt.{digits}
 use Rattle.pf_base.specs.Batches.{BatchData}
-use Rattle.pf_model.specs.Direct.{Asked, direct, gathered}
-use Rattle.pf_model.specs.FirstForms.{behind_word, number_of, series_at, row_of, rows_from, batch_of, query_of, asked_of, ingest_of, ask_words, ask_of, answer_of, script_of}
-use Rattle.pf_model.specs.Machine.{Entry, What, append, ask, answer}
-use Rattle.pf_model.specs.Log.{taken}
-use Rattle.pf_model.specs.Report.{report, line_text}
-use Rattle.std.specs.Fmt.{decimal}
-use Rattle.std.proofs.Common.{true}
+use Rattle.pf_model.specs.declared.expr.Matcher.{Matcher}
+use Rattle.pf_model.specs.Direct.{Asked, direct}
+use Rattle.pf_model.specs.Exposition.{bad_line}
 use Rattle.pf_model.specs.Json.{answer_text}
-use Rattle.json.specs.Print.{quoted, escape_byte}
+use Rattle.pf_model.specs.Log.{taken, repeated, differs, too_old}
+use Rattle.pf_model.specs.Machine.{Entry, append, delete, ask, full, answer}
+use Rattle.pf_model.specs.PlainSelectors.{equal, selector_of, labelled, asked_of}
+use Rattle.pf_model.specs.Report.{report}
+use Rattle.json.specs.Print.{escape_byte}
 use Rattle.pf_model.specs.Scripts as script
-use Rattle.pf_model.specs.Scripts.{Numbered}
-use Rattle.pf_model.specs.Weave.{Rest}
-use Rattle.pf_model.specs.Trees.{select}
-use Rattle.pf_model.specs.FirstForms.{matchers_of}
+use Rattle.pf_model.specs.Scripts.{Numbered, behind_word, number_of, file_at, ingest_at, ingest_of, delete_of, ask_of, answer_of, line_of, lines_from, script_of}
+use Rattle.pf_model.specs.Trees.{instant}
+use Rattle.pf_model.specs.Weave.{Rest, Refused, at_line}
 
-the_limits : Limits
-the_limits = record { outstanding = 100; window = 600000; interval = 86400000; shards = 4; extents = 256; journal = 4000000 }
+limits_of : ℕ → ℕ → Limits
+limits_of outstanding journal =
+    record { outstanding = outstanding; window = 600000; interval = 86400000; shards = 4; extents = 256; journal = journal }
 
-the_rest : Rest
-the_rest = record { stops = record { ran = 3 } ∷ [] }
+whole : ℕ → Rest
+whole n = record { stops = record { ran = n; full = false; refused = [] } ∷ [] }
 
 feed : List ℕ
 feed = 10 ∷ []
 
--- one sample, asked over three steps
-abbrev first_file : List ℕ
-first_file = codes "up{job=\"a\"} 1 60000" ++ (10 ∷ [])
+up_job : List Matcher
+up_job = equal (codes "__name__") (codes "up") ∷ (equal (codes "job") (codes "a") ∷ [])
 
-abbrev first_script : List ℕ
-first_script = codes "ingest acme up.prom" ++ (10 ∷ codes "ask q acme 60000 180500 60000 up{job=\"a\"}" ++ (10 ∷ codes "answer q" ++ (10 ∷ [])))
+-- ---- queries
+
+a_name_is_a_query : selector_of (codes "up") ≡ Some (equal (codes "__name__") (codes "up") ∷ [])
+unfolding selector_of labelled
+a_name_is_a_query = refl
+
+a_label_is_a_query : selector_of (codes "up{job=\"a\"}") ≡ Some up_job
+unfolding selector_of labelled up_job
+a_label_is_a_query = refl
+
+a_keyword_is_none : selector_of (codes "Sum{job=\"a\"}") ≡ None
+unfolding selector_of labelled
+a_keyword_is_none = refl
+
+a_range_is_none : selector_of (codes "up[5m]") ≡ None
+unfolding selector_of labelled
+a_range_is_none = refl
+
+-- ---- scripts
+
+abbrev first_text : List ℕ
+first_text = codes "ingest acme up.prom\n# then\n\nask q \tacme 60000 180500 60000  up{job=\"a\"} \nanswer q"
+
+abbrev first_lines : List Numbered
+first_lines =
+    record { number = 1; line = script.ingest (codes "acme") (codes "up.prom") 0 }
+    ∷ record { number = 4; line = script.ask (codes "q") (codes "acme") 60000 180500 60000 (codes "up{job=\"a\"}") }
+    ∷ record { number = 5; line = script.answer (codes "q") 4 } ∷ []
+
+ingest_is_text : is_utf8 (codes "ingest acme up.prom") ≡ true
+ingest_is_text = is_utf8-from_IsUtf8 _ (IsUtf8-are_ascii _ refl)
+
+file_is_text : is_utf8 (codes "up.prom") ≡ true
+file_is_text = is_utf8-from_IsUtf8 _ (IsUtf8-are_ascii _ refl)
+
+comment_is_text : is_utf8 (codes "# then") ≡ true
+comment_is_text = is_utf8-from_IsUtf8 _ (IsUtf8-are_ascii _ refl)
+
+ask_is_text : is_utf8 (codes "ask q \tacme 60000 180500 60000  up{job=\"a\"} ") ≡ true
+ask_is_text = is_utf8-from_IsUtf8 _ (IsUtf8-are_ascii _ refl)
+
+answer_is_text : is_utf8 (codes "answer q") ≡ true
+answer_is_text = is_utf8-from_IsUtf8 _ (IsUtf8-are_ascii _ refl)
+
+first_script_is_read : script_of first_text ≡ Some first_lines
+unfolding script_of lines_from line_of ingest_of ask_of answer_of behind_word number_of selector_of labelled
+first_script_is_read = rw ingest_is_text (rw file_is_text (rw comment_is_text (rw ask_is_text (rw answer_is_text refl))))
+
+empty_script_is_read : script_of [] ≡ Some []
+unfolding script_of lines_from
+empty_script_is_read = refl
+
+-- ---- reports
+
+empty_report : report (limits_of 100 4000000) [] [] ([] ∷ []) (whole 0) ≡ codes "client 0\njournal 0\n"
+unfolding limits_of whole digits
+empty_report = refl
 
 abbrev first_asked : Asked
-first_asked = record { tree = select (matchers_of (record { name = codes "up"; label = codes "job"; value = codes "a" })); grid = record { start = 60000; step = 60000; len = 3 } }
+first_asked = record { tree = instant up_job; grid = record { start = 60000; step = 60000; len = 3 } }
+
+first_query_is_read : asked_of 60000 180500 60000 (codes "up{job=\"a\"}") ≡ Ok first_asked
+unfolding selector_of labelled up_job
+first_query_is_read = refl
+
+no_step_is_refused : asked_of 0 0 0 (codes "up") ≡ Err (codes "zero step")
+unfolding selector_of
+no_step_is_refused = refl
 
 abbrev first_batch : BatchData
 first_batch = record { rows = record { labels = (codes "__name__", codes "up") ∷ (codes "job", codes "a") ∷ []; time = 60000; value = pos 1000000 } ∷ []; skipped = 0 }
 
-abbrev first_lines : List Numbered
-first_lines =
-    record { number = 1; line = script.ingest (codes "acme") (codes "up.prom") }
-    ∷ record { number = 2; line = script.ask (codes "q") (codes "acme") 60000 180500 60000 (codes "up{job=\"a\"}") }
-    ∷ record { number = 3; line = script.answer (codes "q") 2 } ∷ []
-
-first_file_is_read : batch_of first_file ≡ Some first_batch
-unfolding batch_of rows_from row_of series_at number_of
-first_file_is_read = refl
-
-file_name_is_text : is_utf8 (codes "up.prom") ≡ true
-file_name_is_text = is_utf8-from_IsUtf8 _ (IsUtf8-are_ascii _ refl)
-
-first_script_is_read : script_of first_script ≡ Some first_lines
-unfolding script_of ingest_of ask_words ask_of answer_of behind_word asked_of query_of series_at number_of
-first_script_is_read = rw file_name_is_text refl
-
-first_query_is_read : asked_of 60000 180500 60000 (codes "up{job=\"a\"}") ≡ Some first_asked
-unfolding asked_of query_of series_at
-first_query_is_read = refl
-
 abbrev first_journal : List Entry
 first_journal =
     record { client = 0; line = 1; what = append 0 first_batch (taken ∷ []) 1 }
-    ∷ record { client = 0; line = 2; what = ask 0 first_asked 1 0 (Some 0) }
-    ∷ record { client = 0; line = 3; what = answer 1 200 0 3 } ∷ []
+    ∷ record { client = 0; line = 4; what = ask 0 first_asked 1 0 (Some 0) }
+    ∷ record { client = 0; line = 5; what = answer 1 200 0 3 } ∷ []
 
-first_report : report the_limits (codes "acme" ∷ []) first_journal (first_lines ∷ []) the_rest ≡
-    codes "client 0\n1 ingest acme taken 1 repeated 0 refused 0 skipped 0 entry 1\n2 ask q pin 1 place 1\n3 answer q 200 cached 0 evaluated 3\n{\"status\":\"success\",\"data\":{\"resultType\":\"matrix\",\"result\":[{\"metric\":{\"__name__\":\"up\",\"job\":\"a\"},\"values\":[[60,\"1\"],[120,\"1\"],[180,\"1\"]]}]}}\njournal 3\n0 client 0 line 1 append acme entry 1\n1 client 0 line 2 ask acme pin 1 generation 0 floor 0\n2 client 0 line 3 answer 1 200\n"
-unfolding the_limits the_rest digits escape_byte
+first_report : report (limits_of 100 4000000) (codes "acme" ∷ []) first_journal (first_lines ∷ []) (whole 3) ≡
+    codes "client 0\n1 ingest acme taken 1 repeated 0 refused 0 skipped 0 entry 1\n4 ask q pin 1 place 1\n5 answer q 200 cached 0 evaluated 3\n{\"status\":\"success\",\"data\":{\"resultType\":\"matrix\",\"result\":[{\"metric\":{\"__name__\":\"up\",\"job\":\"a\"},\"values\":[[60,\"1\"],[120,\"1\"],[180,\"1\"]]}]}}\njournal 3\n0 client 0 line 1 append acme entry 1\n1 client 0 line 4 ask acme pin 1 generation 0 floor 0\n2 client 0 line 5 answer 1 200\n"
+unfolding limits_of whole up_job digits escape_byte
 first_report = refl
-
--- the look-back is open at its left end
-abbrev second_asked : Asked
-second_asked = record { tree = select (matchers_of (record { name = codes "up"; label = codes "job"; value = codes "a" })); grid = record { start = 359999; step = 1; len = 2 } }
-
-second_query_is_read : asked_of 359999 360000 1 (codes "up{job=\"a\"}") ≡ Some second_asked
-unfolding asked_of query_of series_at
-second_query_is_read = refl
-
-second_answer : answer_text (direct first_batch.rows second_asked) ≡
-    codes "{\"status\":\"success\",\"data\":{\"resultType\":\"matrix\",\"result\":[{\"metric\":{\"__name__\":\"up\",\"job\":\"a\"},\"values\":[[359.999,\"1\"]]}]}}"
-unfolding digits escape_byte
-second_answer = refl

@@ -1,5 +1,5 @@
 -- Direct evaluation of a query over its grid, and the matrix that is gathered. Prometheus, HTTP API: Range queries.
-use Rattle.std.specs.Prelude.{ℕ, ℤ, pos, Option, Some, None, List, [], ◌∷◌, ◌++◌, map, filter}
+use Rattle.std.specs.Prelude.{ℕ, pos, Option, Some, None, List, [], ◌∷◌, map, filter}
 use Rattle.pf_base.specs.declared.plain.Row.{Row}
 use Rattle.pf_base.specs.declared.plain.Sample.{Sample}
 use Rattle.pf_base.specs.GridLists.{GridData}
@@ -11,6 +11,7 @@ use Rattle.pf_model.specs.declared.cell.StepCell.{StepCell}
 use Rattle.pf_model.specs.declared.cell.StepCell.TheVariants.{Good, Bad}
 use Rattle.pf_model.specs.Evaluation.{eval, put}
 use Rattle.pf_model.specs.Lists.{joined}
+use Rattle.pf_model.specs.Resolving.{resolved_over}
 use Rattle.pf_model.specs.Selection.{same_labels}
 use Rattle.pf_model.specs.Trees.{Tree}
 
@@ -85,7 +86,8 @@ abbrev pub answer_unless : Option Failure → List Step → Answer
 answer_unless None steps = gathered (gather steps)
 answer_unless (Some f) steps = failed f.time f.kind
 
--- the direct evaluation of a query over samples
+-- the direct evaluation of a query over samples: its value at each time of its grid, the grid's ends put in
 abbrev pub direct : List Row → Asked → Answer
 direct samples asked =
-    let cells = evaluated samples asked.tree (points asked.grid) in answer_unless (first_failure cells) (steps_of cells)
+    let cells = evaluated samples (resolved_over asked.grid asked.tree) (points asked.grid) in
+    answer_unless (first_failure cells) (steps_of cells)

@@ -1,6 +1,6 @@
 -- The bodies of answers. Prometheus, HTTP API: Format overview and Range vectors. That there are no blanks outside
 -- strings, and the order of members, is this project's own.
-use Rattle.std.specs.Prelude.{ℕ, ◌+◌, ◌/◌, ◌%◌, ℤ, unsigned_abs, List, [], ◌∷◌, ◌++◌, codes, cond, nat_eq}
+use Rattle.std.specs.Prelude.{ℕ, ◌+◌, ◌/◌, ◌%◌, unsigned_abs, List, [], ◌∷◌, ◌++◌, codes, cond, nat_eq}
 use Rattle.std.specs.Fmt.{decimal}
 use Rattle.json.specs.Print.{quoted}
 use Rattle.pf_base.specs.declared.plain.Sample.{Sample}

@@ -1,4 +1,4 @@
--- Words on lists that the other definitions share.
+-- Words on lists that the other definitions share: this project's own.
 use Rattle.std.specs.Prelude.{ℕ, zero, suc, Bool, Option, Some, None, cond, List, [], ◌∷◌, ◌++◌}
 
 -- a fact of each element; it computes to the facts one by one

@@ -1,6 +1,6 @@
 -- What selectors accept and read. Prometheus, Querying basics: Time series selectors; that the look-back of five
 -- minutes is open at its left end is that of Prometheus 3.
-use Rattle.std.specs.Prelude.{ℕ, ℤ, pos, ◌-ℤ◌, int_lt, int_le, Bool, ◌&&◌, Option, Some, None, cond, List, [], ◌∷◌, nat_lt}
+use Rattle.std.specs.Prelude.{ℕ, ℤ, pos, ◌-ℤ◌, int_lt, int_le, Bool, true, ◌&&◌, not, Option, Some, None, cond, List, [], ◌∷◌, nat_lt}
 use Rattle.std.specs.Ordering.{is_eq}
 use Rattle.std.specs.Str.{bytes_eq}
 use Rattle.std.specs.List.{list_all}
@@ -9,14 +9,27 @@ use Rattle.pf_base.specs.LabelSets.{Pairs, value_of}
 use Rattle.pf_base.specs.LabelOrder.{labels_cmp}
 use Rattle.pf_model.specs.declared.expr.Matcher.{Matcher}
 use Rattle.pf_model.specs.declared.expr.MatchSign.{MatchSign}
-use Rattle.pf_model.specs.declared.expr.MatchSign.TheVariants.{Equal}
+use Rattle.pf_model.specs.declared.expr.MatchSign.TheVariants.{Equal, NotEqual, Like, NotLike}
+use Rattle.pf_model.specs.Patterns.{is_plain, is_like}
 
 abbrev pub same_labels : Pairs → Pairs → Bool
 same_labels l m = is_eq (labels_cmp l m)
 
--- what a sign says of a label's value and the matcher's text
+-- what a sign says of a label's value and the matcher's text; a pattern is a plain one
 abbrev pub holds : MatchSign → List ℕ → List ℕ → Bool
 holds Equal value text = bytes_eq value text
+holds NotEqual value text = not (bytes_eq value text)
+holds Like value pattern = is_like pattern value
+holds NotLike value pattern = not (is_like pattern value)
+
+-- a matcher's text has a meaning: a pattern is plain, and a text that is compared may be any
+abbrev pub has_meaning : MatchSign → List ℕ → Bool
+has_meaning Like pattern = is_plain pattern
+has_meaning NotLike pattern = is_plain pattern
+has_meaning sign text = true
+
+abbrev pub all_plain : List Matcher → Bool
+all_plain ms = list_all (λ m. has_meaning m.sign m.text) ms
 
 -- every matcher holds of its label's value
 abbrev pub accepts : List Matcher → Pairs → Bool
@@ -30,9 +43,12 @@ accepts_empty ms = list_all (λ m. holds m.sign [] m.text) ms
 abbrev pub lookback : ℤ
 lookback = pos 300000
 
--- a row's time lies in (t - look-back, t]
+-- a row's time lies in (from, to], and in (t - look-back, t]
+abbrev pub is_within : ℤ → ℤ → Row → Bool
+is_within from to r = int_lt from (pos r.time) && int_le (pos r.time) to
+
 abbrev pub is_read : ℤ → Row → Bool
-is_read t r = int_lt (t -ℤ lookback) (pos r.time) && int_le (pos r.time) t
+is_read t = is_within (t -ℤ lookback) t
 
 -- the row of greatest time
 abbrev pub later : Option Row → Row → Option Row

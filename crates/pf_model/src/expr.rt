@@ -2,7 +2,8 @@
 
 ghost use Rattle.std.specs.Prelude.{◌≡◌, IfOk};
 
-use pf_base::Text;
+use crate::functions::{AggOp, InstantFn, RangeFn, Sign};
+use pf_base::{Text, Value};
 use std::alloc::AllocError;
 use std::marker::Model;
 
@@ -11,6 +12,12 @@ use std::marker::Model;
 pub enum MatchSign {
     /// `=`
     Equal,
+    /// `!=`
+    NotEqual,
+    /// `=~`
+    Like,
+    /// `!~`
+    NotLike,
 }
 
 /// A matcher, as `job="api"`. A label that a series lacks has the empty value.
@@ -50,9 +57,136 @@ impl Model for Selector {
     ghost view = { λ s. s.matchers.items };
 }
 
-/// A query as a tree. Contracts see it through `tree_of`.
+/// The time that an `@` fixes.
+#[derive(Clone, Copy, Debug, PartialEq, Eq)]
+pub enum At {
+    /// Milliseconds since 1970.
+    Time { millis: u64 },
+    /// `start()`, the first time of the query's range.
+    Start,
+    /// `end()`, the last time of the query's range.
+    End,
+}
+
+/// The time that a selector or a subquery reads at: that of `@`, or else the evaluation's, less the offset in
+/// milliseconds.
+#[derive(Clone, Copy, Debug, PartialEq, Eq)]
+pub struct Mods {
+    pub at: Option<At>,
+    pub offset: i64,
+}
+
+/// A called function.
+#[derive(Clone, Copy, Debug, PartialEq, Eq)]
+pub enum Function {
+    Range(RangeFn),
+    Instant(InstantFn),
+}
+
+/// The labels of an aggregation's clause. No clause is `by ()`.
+#[derive(Debug, Drop)]
+pub struct Grouping {
+    /// `without`, in place of `by`.
+    pub without: bool,
+    pub labels: Vec<Text>,
+}
+
+impl Model for Grouping {
+    ghost use Rattle.pf_model.specs.Clauses.{Grouped};
+
+    ghost Value = { Grouped };
+
+    ghost view = { λ g. record { without = g.without; labels = g.labels.items } };
+}
+
+/// The side of a binary operator that may have many elements to one of the other.
+#[derive(Clone, Copy, Debug, PartialEq, Eq)]
+pub enum Side {
+    /// Neither.
+    One,
+    /// `group_left`
+    Left,
+    /// `group_right`
+    Right,
+}
+
+/// Which elements of two vectors match. No clause is `ignoring ()`.
+#[derive(Debug, Drop)]
+pub struct Matching {
+    /// `on`, in place of `ignoring`.
+    pub on: bool,
+    pub labels: Vec<Text>,
+    pub side: Side,
+    /// The labels taken from the one side.
+    pub include: Vec<Text>,
+}
+
+impl Model for Matching {
+    ghost use Rattle.pf_model.specs.Clauses.{Matched};
+
+    ghost Value = { Matched };
+
+    ghost view = { λ m. record { on = m.on; labels = m.labels.items; side = m.side; include = m.include.items } };
+}
+
+/// A binary operator.
+#[derive(Clone, Copy, Debug, PartialEq, Eq)]
+pub struct BinaryOp {
+    pub sign: Sign,
+    /// `bool`: a comparison gives 0 or 1.
+    pub with_bool: bool,
+}
+
+/// A query as a tree. Contracts see it through `tree_of`. Times are in milliseconds.
 #[derive(Debug, Drop)]
 pub enum Expr {
-    /// An instant selector.
-    Select { selector: Selector },
+    Number {
+        value: Value,
+    },
+    Text {
+        text: Text,
+    },
+    Unary {
+        minus: bool,
+        arg: Box<Expr>,
+    },
+    Binary {
+        op: BinaryOp,
+        matching: Matching,
+        left: Box<Expr>,
+        right: Box<Expr>,
+    },
+    Call {
+        function: Function,
+        args: Vec<Expr>,
+    },
+    Aggregate {
+        op: AggOp,
+        grouping: Grouping,
+        args: Vec<Expr>,
+    },
+    /// An instant selector, or with a range a range selector.
+    Select {
+        selector: Selector,
+        range: Option<u64>,
+        mods: Mods,
+    },
+    /// An absent resolution is one minute.
+    Subquery {
+        arg: Box<Expr>,
+        range: u64,
+        resolution: Option<u64>,
+        mods: Mods,
+    },
+}
+
+/// What a query's value is. Prometheus, Querying basics: Expression language data types.
+#[derive(Clone, Copy, Debug, PartialEq, Eq)]
+pub enum Kind {
+    Scalar,
+    /// An instant vector.
+    Instant,
+    /// A range vector.
+    Range,
+    Text,
 }

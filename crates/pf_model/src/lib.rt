@@ -3,8 +3,13 @@
 
 mod cell;
 mod expr;
+mod functions;
 mod matchers;
 
 pub use cell::{Cell, Element, ErrorKind, StepCell};
-pub use expr::{Expr, MatchSign, Matcher, Selector};
+pub use expr::{
+    At, BinaryOp, Expr, Function, Grouping, Kind, MatchSign, Matcher, Matching, Mods, Selector,
+    Side,
+};
+pub use functions::{AggOp, InstantFn, RangeFn, Sign};
 pub use matchers::{MatchError, Matchers};

@@ -1,9 +1,8 @@
 //! Matchers that series are selected by.
 
-ghost use Rattle.std.specs.Prelude.{◌≡◌, ◌↔◌, IfOk, IsTrue};
-ghost use Rattle.std.specs.List.{list_all};
-ghost use Rattle.pf_base.specs.LabelSets.{value_of};
-ghost use Rattle.pf_model.specs.Selection.{accepts, accepts_empty, holds};
+ghost use Rattle.std.specs.Prelude.{◌≡◌, ◌↔◌, IfOk, true, false};
+ghost use Rattle.pf_model.specs.Patterns.{is_like, is_plain, is_plain_byte};
+ghost use Rattle.pf_model.specs.Selection.{accepts, accepts_empty, all_plain, has_meaning, holds};
 
 #[cfg(test)]
 mod tests;
@@ -16,6 +15,8 @@ use std::marker::Model;
 /// Why a selector gives no matchers.
 #[derive(Clone, Copy, Debug, PartialEq, Eq)]
 pub enum MatchError {
+    /// A pattern of `=~` or `!~` that is not plain.
+    BadPattern,
     /// Every matcher accepts the empty text.
     EmptySelector,
     OutOfMemory,
@@ -31,19 +32,23 @@ impl From<AllocError> for MatchError {
     }
 }
 
-/// A selector's matchers, ready to be asked about label sets. At least one of them refuses the empty text.
+/// A selector's matchers, ready to be asked about label sets. Their patterns are plain, and at least one of them refuses
+/// the empty text.
 #[derive(Debug, Drop)]
 pub struct Matchers {
     items: Vec<Matcher>,
 }
 
 impl Model for Matchers {
-    ghost use Rattle.std.specs.Prelude.{List};
+    ghost use Rattle.std.specs.Prelude.{List, ◌≡◌, true, false};
     ghost use Rattle.pf_model.specs.declared.expr.Matcher.{Matcher};
+    ghost use Rattle.pf_model.specs.Selection.{all_plain, accepts_empty};
 
     ghost Value = { List Matcher };
 
     ghost view = { λ m. m.items.items };
+
+    ghost invariant = { λ m. (all_plain m.items.items ≡ true) × (accepts_empty m.items.items ≡ false) };
 }
 
 impl MatchSign {
@@ -53,8 +58,50 @@ impl MatchSign {
     {
         match self {
             MatchSign::Equal => value == text,
+            MatchSign::NotEqual => value != text,
+            MatchSign::Like => is_like(text, value),
+            MatchSign::NotLike => !is_like(text, value),
         }
     }
+
+    /// Whether a matcher's text has a meaning: a pattern is plain.
+    fn has_meaning(self, text: &str) -> bool
+        ensures { result ≡ has_meaning self text.now }
+    {
+        match self {
+            MatchSign::Equal | MatchSign::NotEqual => true,
+            MatchSign::Like | MatchSign::NotLike => is_plain(text),
+        }
+    }
+}
+
+/// Whether a pattern is alternatives of ASCII letters, digits, `_`, `-`, `:` and `/` with `|` between them.
+fn is_plain(pattern: &str) -> bool
+    ensures { result ≡ is_plain pattern.now }
+{
+    pattern
+        .as_bytes()
+        .iter()
+        .all(|b| is_plain_byte(*b) || *b == b'|')
+}
+
+fn is_plain_byte(byte: u8) -> bool
+    ensures { result ≡ is_plain_byte byte }
+{
+    byte.is_ascii_alphanumeric() || matches!(byte, b'_' | b'-' | b':' | b'/')
+}
+
+/// Whether a value is one of a plain pattern's alternatives.
+fn is_like(pattern: &str, value: &str) -> bool
+    ensures { result ≡ is_like pattern.now value.now }
+{
+    pattern.split('|').any(|alternative| value == alternative)
+}
+
+fn all_plain(matchers: &[Matcher]) -> bool
+    ensures { result ≡ all_plain matchers.now }
+{
+    matchers.iter().all(|m| m.sign.has_meaning(m.text.as_str()))
 }
 
 fn all_accept_empty(matchers: &[Matcher]) -> bool
@@ -67,9 +114,13 @@ impl Matchers {
     /// The matchers of a selector.
     pub fn build(selector: &Selector) -> Result<Matchers, MatchError>
         ensures built { IfOk result (λ m. m ≡ selector.now) }
-        ensures empty { IsTrue (accepts_empty selector.now) ↔ (result ≡ Err MatchError.EmptySelector) }
+        ensures refused { (all_plain selector.now ≡ false) ↔ (result ≡ Err MatchError.BadPattern) }
+        ensures empty { ((all_plain selector.now ≡ true) × (accepts_empty selector.now ≡ true)) ↔ (result ≡ Err MatchError.EmptySelector) }
     {
         let matchers = &selector.matchers;
+        if !all_plain(matchers) {
+            return Err(MatchError::BadPattern);
+        }
         if all_accept_empty(matchers) {
             return Err(MatchError::EmptySelector);
         }
