@@ -11,10 +11,10 @@ pub mod ShardSteps
 pub mod Sorting
 mod WorkedLabels
 pub mod StableSorting
-mod Digits
+pub mod Digits
 mod Sizes
-mod Readings
+pub mod Readings
 mod ReadsExactly
-mod ReadBack
-mod Letters
-mod Durations
+pub mod ReadBack
+pub mod Letters
+pub mod Durations

@@ -16,7 +16,7 @@ use Rattle.pf_base.specs.declared.number.Read.TheVariants.{Number}
 use Rattle.pf_base.proofs.Digits.{both, number_append}
 use Rattle.pf_base.proofs.Readings.{bool_cases}
 
-own : IsNumeralModel (λ ds. all_ascii_digits ds ≡ true) (number_after 0)
+pub own : IsNumeralModel (λ ds. all_ascii_digits ds ≡ true) (number_after 0)
 own = numerals_by_fold _ (search rules) number_after (search rules)
 
 abbrev zeros : ℕ → List ℕ
@@ -100,12 +100,12 @@ fraction_value k m h =
     ap (λ x. v * x / 10 ^ length w) p ∙ ap (λ x. x / 10 ^ length w) q ∙ mul-div_cancel (v * 10 ^ f.tail) (omega arith) ∙ scaled
 
 -- the parts of so many micros
-record IsMicros (n : ℕ) : Type 0 where
-  parts : Decimal
-  lawful : IsDecimal parts
-  spelled : micros_text n ≡ decimal_text parts
-  short : length (micros_text n) ≤ 20
-  value : decimal_micros parts ≡ n
+pub record IsMicros (n : ℕ) : Type 0 where
+  pub parts : Decimal
+  pub lawful : IsDecimal parts
+  pub spelled : micros_text n ≡ decimal_text parts
+  pub short : length (micros_text n) ≤ 20
+  pub value : decimal_micros parts ≡ n
 
 units_small : (n : ℕ) → n ≤ 1000000000000000000 → length (decimal (n / 1000000)) ≤ 13
 units_small n h = length-decimal-le 13 (n / 1000000) (omega arith) (omega arith) (omega arith)
@@ -149,10 +149,10 @@ micros_part n h e =
       value = ap (λ x. number_after 0 (w ++ f) * 10 ^ 6 / 10 ^ x) (add-zero (length f)) ∙ ap (λ x. x * 10 ^ 6 / 10 ^ length f) (number_append 0 w f ∙ ap (λ x. number_after x f) value) ∙ fraction_value k m (omega arith) ∙ omega arith;
     }
 
-micros_are : (n : ℕ) → n ≤ 1000000000000000000 → IsMicros n
+pub micros_are : (n : ℕ) → n ≤ 1000000000000000000 → IsMicros n
 micros_are n h = elim (bool_cases (nat_eq (n % 1000000) 0)) [ inl e ↦ micros_whole n h e | inr e ↦ micros_part n h e ]
 
-clamp_value : (z : ℤ) → IsValue z → z ≡ clamp z
+pub clamp_value : (z : ℤ) → IsValue z → z ≡ clamp z
 unfolding clamp
 clamp_value z h = grind (arith, nat_tests, ints)
 
