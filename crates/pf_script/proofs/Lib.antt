@@ -1,0 +1,12 @@
+pub mod Alike
+pub mod AsciiTexts
+pub mod Blanks
+pub mod ByteCuts
+pub mod Digits
+pub mod FileLines
+pub mod Follows
+pub mod Going
+pub mod IdLists
+pub mod LineTexts
+pub mod Places
+pub mod Selectors

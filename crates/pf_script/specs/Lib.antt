@@ -1,0 +1,4 @@
+pub mod Cuts
+pub mod IdLists
+pub mod LineCuts
+pub mod Lines

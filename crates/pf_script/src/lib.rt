@@ -1,0 +1,17 @@
+//! Scripts: the lines that a client runs.
+//!
+//! What the layers above use: `read_script` reads a whole script into its numbered lines, exactly where all its lines are of
+//! the forms that are built. An answer names an ask above it, and no other answer does.
+#![tactic(auto)]
+
+mod fault;
+mod ids;
+mod lines;
+mod read;
+mod script;
+mod selector;
+mod words;
+
+pub use fault::ScriptError;
+pub use read::read_script;
+pub use script::{Line, NumberedLine, Script};

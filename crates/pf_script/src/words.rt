@@ -1,0 +1,136 @@
+//! Cuts at a byte, words of a line, and numbers.
+
+ghost use Rattle.std.specs.Prelude.{◌≡◌, ◌<◌, IfSome, length, nat_eq, not, position};
+ghost use Rattle.std.specs.List.{list_all};
+ghost use Rattle.pf_model.specs.Exposition.{is_blank, is_no_blank, is_word};
+ghost use Rattle.pf_model.specs.PlainSelectors.{behind_byte, cut_at};
+ghost use Rattle.pf_model.specs.Scripts.{behind_word, next_word, number_of, past_blanks, without_blanks};
+ghost use Rattle.pf_script.specs.Cuts.{Finds};
+
+/// The first number that is too large.
+const TOO_LARGE: u64 = 1 << 63;
+
+fn place_of(byte: u8, bytes: &[u8]) -> Option<usize>
+    ensures { result ≡ position (λ b. nat_eq b byte) bytes.now }
+{
+    bytes.iter().position(|b| *b == byte)
+}
+
+/// What stands before the first such byte, and what behind it.
+#[tactic(auto, using(crate::proofs::ByteCuts::cut_rules))]
+pub fn cut_at(byte: u8, bytes: &[u8]) -> Option<(&[u8], &[u8])>
+    ensures { Finds (λ c. record { front = c.0.now; behind = c.1.now }) result (cut_at byte bytes.now) }
+{
+    let place = place_of(byte, bytes)?;
+    Some((&bytes[..place], &bytes[place + 1..]))
+}
+
+/// What stands behind a byte that begins the bytes.
+pub fn behind_byte(byte: u8, bytes: &[u8]) -> Option<&[u8]>
+    ensures { Finds (λ b. b.now) result (behind_byte byte bytes.now) }
+{
+    let (first, behind) = bytes.split_first()?;
+    if *first == byte { Some(behind) } else { None }
+}
+
+fn is_blank(byte: u8) -> bool
+    ensures { result ≡ is_blank byte }
+{
+    byte == b' ' || byte == b'\t'
+}
+
+fn first_blank(bytes: &[u8]) -> Option<usize>
+    ensures place { result ≡ position is_blank bytes.now }
+    ensures within { IfSome result (λ n. n < length bytes.now) }
+{
+    bytes.iter().position(|byte| is_blank(*byte))
+}
+
+fn first_no_blank(bytes: &[u8]) -> Option<usize>
+    ensures place { result ≡ position (λ b. not (is_blank b)) bytes.now }
+    ensures within { IfSome result (λ n. n < length bytes.now) }
+{
+    bytes.iter().position(|byte| !is_blank(*byte))
+}
+
+/// What stands behind the blanks in front.
+#[tactic(auto, using(crate::proofs::Blanks::past_rules))]
+pub fn past_blanks(bytes: &[u8]) -> &[u8]
+    ensures { result.now ≡ past_blanks bytes.now }
+{
+    match first_no_blank(bytes) {
+        Some(place) => &bytes[place..],
+        None => &[],
+    }
+}
+
+/// A word with a blank or more behind it, and what stands behind the blanks.
+#[tactic(auto, using(crate::proofs::Blanks::word_rules))]
+pub fn next_word(bytes: &[u8]) -> Option<(&[u8], &[u8])>
+    ensures { Finds (λ c. record { front = c.0.now; behind = c.1.now }) result (next_word bytes.now) }
+{
+    let end = first_blank(bytes)?;
+    if end == 0 {
+        return None;
+    }
+    Some((&bytes[..end], past_blanks(&bytes[end..])))
+}
+
+/// What stands behind a word of its own.
+#[tactic(auto, unfolding(pf_model::specs::Scripts::behind_word))]
+pub fn behind_word<'a>(word: &[u8], bytes: &'a [u8]) -> Option<&'a [u8]>
+    ensures { Finds (λ b. b.now) result (behind_word word.now bytes.now) }
+{
+    let (front, behind) = next_word(bytes)?;
+    if front == word { Some(behind) } else { None }
+}
+
+fn has_no_blank(bytes: &[u8]) -> bool
+    ensures { result ≡ list_all is_no_blank bytes.now }
+{
+    bytes.iter().all(|byte| !is_blank(*byte))
+}
+
+/// Whether bytes are one word and nothing else.
+pub fn is_word(bytes: &[u8]) -> bool
+    ensures { result ≡ is_word bytes.now }
+{
+    !bytes.is_empty() && has_no_blank(bytes)
+}
+
+/// The bytes without the blanks at their end.
+#[tactic(auto, using(crate::proofs::Blanks::end_rules))]
+pub fn without_blanks(bytes: &[u8]) -> &[u8]
+    ensures { result.now ≡ without_blanks bytes.now }
+{
+    let mut front = bytes;
+    while let Some((last, before)) = front.split_last() {
+        if !is_blank(*last) {
+            return front;
+        }
+        front = before;
+    }
+    front
+}
+
+/// The number of one decimal digit or more, below 2^63.
+#[tactic(auto, unfolding(pf_model::specs::Scripts::number_of))]
+pub fn number_of(digits: &[u8]) -> Option<u64>
+    ensures { result ≡ number_of digits.now }
+{
+    if digits.is_empty() {
+        return None;
+    }
+    let mut number: u64 = 0;
+    for digit in digits {
+        if !digit.is_ascii_digit() {
+            return None;
+        }
+        number = number.checked_mul(10)?.checked_add((*digit - b'0') as u64)?;
+    }
+    if number < TOO_LARGE {
+        Some(number)
+    } else {
+        None
+    }
+}
