@@ -1,0 +1,5 @@
+pub mod Answers
+pub mod ErrorTokens
+pub mod Joined
+pub mod LabelTokens
+pub mod Lines

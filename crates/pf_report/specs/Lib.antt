@@ -1,0 +1,3 @@
+pub mod ErrorTokens
+pub mod Replies
+pub mod Words

@@ -1,0 +1,137 @@
+//! The replies to the lines of a script.
+
+ghost use Rattle.std.specs.Prelude.{◌≡◌, ◌++◌, codes, decimal, map, OnOk};
+ghost use Rattle.pf_model.specs.Json.{error_text, matrix_text};
+ghost use Rattle.pf_model.specs.Report.{answered, ingested, reply_line};
+ghost use Rattle.pf_report.specs.Replies.{answer_line, ingest_line};
+ghost use Rattle.pf_report.specs.Words.{word_text};
+
+use crate::counts::Counts;
+use crate::error_json::push_error;
+use crate::json_text::push_matrix;
+use crate::refused_rows::push_refused_rows;
+use crate::word::{Word, push_line_of};
+use pf_base::OutOfMemory;
+use pf_matrix::Matrix;
+use pf_store::Verdicts;
+use std::alloc::Global;
+
+/// Appends the reply to the line of this number: its verb, whom or what it names, and further words.
+pub fn push_reply<'a>(
+    out: &mut Vec<u8>,
+    number: u32,
+    verb: &'a str,
+    name: &'a str,
+    words: &[Word<'_>],
+) -> Result<(), OutOfMemory>
+    ensures { OnOk result (out.new.items ≡ out.old.items ++ reply_line number verb.now name.now (map word_text words.now)) }
+{
+    let first = [
+        Word::Number(u64::from(number)),
+        Word::Text(verb),
+        Word::Text(name),
+    ];
+    push_line_of(out, &first, words)
+}
+
+/// Appends the reply to an `ingest` whose batch was taken in, without the lines of rows that were refused.
+fn push_counts(
+    out: &mut Vec<u8>,
+    number: u32,
+    tenant: &str,
+    skipped: u64,
+    verdicts: &Verdicts,
+) -> Result<(), OutOfMemory>
+    ensures { OnOk result (out.new.items ≡ out.old.items ++ ingest_line number tenant.now skipped verdicts.now.list verdicts.now.entry) }
+{
+    let counts = Counts::of(&verdicts.list);
+    let words = [
+        Word::Text("taken"),
+        Word::Number(counts.taken),
+        Word::Text("repeated"),
+        Word::Number(counts.repeated),
+        Word::Text("refused"),
+        Word::Number(counts.refused),
+        Word::Text("skipped"),
+        Word::Number(skipped),
+        Word::Text("entry"),
+        Word::Number(verdicts.entry),
+    ];
+    push_reply(out, number, "ingest", tenant, &words)
+}
+
+/// Appends the reply to an `ingest` whose batch was taken in, and a line for each row that was refused, with its number in
+/// the batch from 0. `skipped` counts the sample lines of its file whose value is no number.
+pub fn push_ingested(
+    out: &mut Vec<u8>,
+    number: u32,
+    tenant: &str,
+    skipped: u64,
+    verdicts: &Verdicts,
+) -> Result<(), OutOfMemory>
+    ensures { OnOk result (out.new.items ≡ out.old.items ++ ingested number tenant.now skipped verdicts.now.list verdicts.now.entry) }
+{
+    push_counts(out, number, tenant, skipped, verdicts)?;
+    push_refused_rows(out, &verdicts.list)
+}
+
+/// Appends the reply to an `answer`, without its body.
+fn push_answer(
+    out: &mut Vec<u8>,
+    number: u32,
+    id: &str,
+    code: Word<'_>,
+    cached: u32,
+    evaluated: u32,
+) -> Result<(), OutOfMemory>
+    ensures { OnOk result (out.new.items ≡ out.old.items ++ answer_line number id.now (word_text code.entry) cached evaluated) }
+{
+    let words = [
+        code,
+        Word::Text("cached"),
+        Word::Number(u64::from(cached)),
+        Word::Text("evaluated"),
+        Word::Number(u64::from(evaluated)),
+    ];
+    push_reply(out, number, "answer", id, &words)
+}
+
+/// Appends the reply to an `answer` with code 200, and its body. The numbers are those of the steps that were cached and
+/// evaluated.
+pub fn push_matrix_answer(
+    alloc: Global,
+    out: &mut Vec<u8>,
+    number: u32,
+    id: &str,
+    cached: u32,
+    evaluated: u32,
+    matrix: &Matrix,
+) -> Result<(), OutOfMemory>
+    ensures { OnOk result (out.new.items ≡ out.old.items ++ answered number id.now (decimal 200) cached evaluated (matrix_text matrix.now)) }
+{
+    push_answer(out, number, id, Word::Number(200), cached, evaluated)?;
+    push_matrix(alloc, out, &matrix.rows)?;
+    out.push(b'\n')?;
+    Ok(())
+}
+
+/// Appends the reply to an `answer` with another code, and the body of the error. No step was cached or evaluated.
+pub fn push_error_answer(
+    alloc: Global,
+    out: &mut Vec<u8>,
+    number: u32,
+    id: &str,
+    code: &str,
+    kind: &str,
+    message: &str,
+) -> Result<(), OutOfMemory>
+    ensures { OnOk result (out.new.items ≡ out.old.items ++ answered number id.now code.now 0 0 (error_text kind.now message.now)) }
+{
+    push_answer(out, number, id, Word::Text(code), 0, 0)?;
+    push_error(alloc, out, kind, message)?;
+    out.push(b'\n')?;
+    Ok(())
+}
+
+#[cfg(test)]
+mod tests;
