@@ -1,0 +1,117 @@
+//! Instant selectors.
+
+ghost use Rattle.std.specs.Prelude.{◌≡◌, ◌<◌, ◌≤◌, List, IfOk, map, length};
+ghost use Rattle.std.specs.List.{list_all, All};
+ghost use Rattle.std.specs.List.Sorted.{IsPermutation, IsSorted};
+ghost use Rattle.pf_base.specs.declared.plain.Row.{Row};
+ghost use Rattle.pf_base.specs.Grids.{points};
+ghost use Rattle.pf_block.specs.Snaps.{IsSnap, samples_of};
+ghost use Rattle.pf_eval.specs.SeriesRows.{accepted_of, points_at, read_at, rows_at, series_cmp};
+ghost use Rattle.pf_model.specs.Direct.{direct, gathered};
+ghost use Rattle.pf_model.specs.Trees.{instant};
+ghost use Rattle.pf_store.specs.Standing.{StandsFor};
+
+#[cfg(test)]
+mod tests;
+
+use pf_base::{Grid, Labels, OutOfMemory, Sample};
+use pf_block::Snap;
+use pf_matrix::{Matrix, MatrixRow};
+use pf_model::Matchers;
+use std::alloc::Global;
+
+/// How far back a sample is read, in milliseconds.
+const LOOKBACK: i64 = 300_000;
+
+/// The direct evaluation of an instant selector without `offset` and `@` at each step of a grid: for each series that the
+/// matchers accept its last sample in the look-back of five minutes.
+pub fn selector_matrix(
+    alloc: Global,
+    matchers: &Matchers,
+    snap: &Snap,
+    grid: &Grid,
+) -> Result<Matrix, OutOfMemory>
+    ensures { IfOk result (λ m. (samples : List Row) → StandsFor snap.now samples → direct samples (record { tree = instant matchers.now; grid = grid.now }) ≡ gathered m) }
+{
+    let series = in_label_order(accepted(alloc, matchers, snap)?);
+    let rows = rows_of(alloc, snap, &series, grid)?;
+    Ok(Matrix { rows })
+}
+
+/// The series that the matchers accept, by rising id.
+fn accepted<'a>(
+    alloc: Global,
+    matchers: &Matchers,
+    snap: &'a Snap,
+) -> Result<Vec<(&'a Labels, u32)>, OutOfMemory>
+    ensures accepted { IfOk result (λ v. map (λ e. (e.0.now, e.1)) v.items ≡ accepted_of matchers.now snap.now.labels) }
+    ensures snap { IsSnap snap.now }
+{
+    let mut series = Vec::new(alloc);
+    for id in 0..snap.series_count() {
+        let labels = snap.labels(id);
+        if matchers.accepts(labels)? {
+            series.push((labels, id))?;
+        }
+    }
+    Ok(series)
+}
+
+fn in_label_order(mut series: Vec<(&Labels, u32)>) -> Vec<(&Labels, u32)>
+    ensures permutation { IsPermutation series.entry.items result.items }
+    ensures sorted { IsSorted (λ a b. series_cmp (a.0.now, a.1) (b.0.now, b.1)) result.items }
+{
+    series.sort_unstable();
+    series
+}
+
+/// A row for each series that has a point.
+fn rows_of(
+    alloc: Global,
+    snap: &Snap,
+    series: &[(&Labels, u32)],
+    grid: &Grid,
+) -> Result<Vec<MatrixRow>, OutOfMemory>
+    requires { All (λ e. e.1 < length snap.now.labels) series.now }
+    ensures { IfOk result (λ v. v.items ≡ rows_at snap.now (points grid.now) (map (λ e. (e.0.now, e.1)) series.now)) }
+{
+    let mut rows = Vec::new(alloc);
+    for &(labels, id) in series {
+        let points = points_of(alloc, snap, id, grid)?;
+        if !points.is_empty() {
+            rows.push(MatrixRow {
+                labels: labels.clone()?,
+                points,
+            })?;
+        }
+    }
+    Ok(rows)
+}
+
+/// The points of a series: at each step the value of its last sample in the look-back.
+fn points_of(alloc: Global, snap: &Snap, id: u32, grid: &Grid) -> Result<Vec<Sample>, OutOfMemory>
+    requires { id < length snap.now.labels }
+    ensures { IfOk result (λ v. v.items ≡ points_at (samples_of snap.now id) (points grid.now)) }
+{
+    let mut points = Vec::new(alloc);
+    for i in 0..grid.len() {
+        let time = grid.at(i);
+        if let Some(sample) = read_at(snap, id, time) {
+            points.push(Sample {
+                time: time as i64,
+                value: sample.value,
+            })?;
+        }
+    }
+    Ok(points)
+}
+
+/// The last sample of a series in the look-back of a time.
+fn read_at(snap: &Snap, id: u32, time: u64) -> Option<Sample>
+    requires inside { id < length snap.now.labels }
+    requires timed { time ≤ 4398046511103 }
+    ensures { result ≡ read_at (samples_of snap.now id) time }
+{
+    let time = time as i64;
+    snap.last(id, time - LOOKBACK, time)
+}
