@@ -1,0 +1,7 @@
+pub mod CanonicalTokens
+pub mod CanonicalWritten
+pub mod FirstBytes
+pub mod Quotes
+pub mod Scans
+pub mod Seen
+pub mod Stages
