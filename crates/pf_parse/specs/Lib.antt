@@ -1,0 +1,8 @@
+pub mod Held
+pub mod Lexemes
+pub mod Printed
+pub mod Reading
+pub mod Refusals
+pub mod Scans
+pub mod Shown
+pub mod Stacks
