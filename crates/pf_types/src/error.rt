@@ -1,0 +1,99 @@
+//! Errors of kinds, and their texts.
+
+ghost use Rattle.std.specs.Prelude.{◌≡◌, ◌++◌, codes, take, vec_len, OnErr, OnOk};
+ghost use Rattle.pf_model.specs.ErrorTexts.{fault_text, kind_name, node_text};
+ghost use Rattle.pf_types.specs.Faults.{fault_of};
+
+use itoa::Buffer;
+use pf_base::OutOfMemory;
+use pf_model::Kind;
+
+/// What is wrong with a query. `at` is a node's number in preorder, from 0 on; past the greatest `u32` it is that one.
+#[derive(Clone, Copy, Debug, PartialEq, Eq)]
+pub enum TypeError {
+    /// Too few or too many arguments.
+    ArgCount { at: u32 },
+    /// An operand's kind is not the one that is wanted. Where a scalar is as welcome as an instant vector, the latter is
+    /// named.
+    Wrong { at: u32, wanted: Kind, found: Kind },
+    /// A text that is to name a label is no label's name.
+    BadName { at: u32 },
+    /// A comparison of two scalars without `bool`.
+    BoolNeeded { at: u32 },
+    /// A clause on labels that this operator can't have between these operands.
+    BadMatching { at: u32 },
+    /// A subquery's range is over 11,000 resolutions.
+    SubqueryTooFine { at: u32 },
+}
+
+fn kind_name(kind: Kind) -> &'static [u8]
+    ensures { result.now ≡ kind_name kind }
+{
+    match kind {
+        Kind::Scalar => b"scalar",
+        Kind::Instant => b"instant vector",
+        Kind::Range => b"range vector",
+        Kind::Text => b"string",
+    }
+}
+
+/// Appends a node's number and what is wrong with it.
+fn push_node(out: &mut Vec<u8>, at: u32, what: &[u8]) -> Result<(), OutOfMemory>
+    ensures ok { OnOk result (out.new.items ≡ out.old.items ++ node_text at what.now) }
+    ensures kept { take (vec_len out.old) out.new.items ≡ out.old.items }
+{
+    let mut buffer = Buffer::new();
+    out.extend_from_slice(b"node ")?;
+    out.extend_from_slice(buffer.format(at).as_bytes())?;
+    out.extend_from_slice(what)?;
+    Ok(())
+}
+
+fn push_kinds(out: &mut Vec<u8>, wanted: Kind, found: Kind) -> Result<(), OutOfMemory>
+    ensures ok { OnOk result (out.new.items ≡ out.old.items ++ (kind_name wanted ++ (codes ", found " ++ kind_name found))) }
+    ensures kept { take (vec_len out.old) out.new.items ≡ out.old.items }
+{
+    out.extend_from_slice(kind_name(wanted))?;
+    out.extend_from_slice(b", found ")?;
+    out.extend_from_slice(kind_name(found))?;
+    Ok(())
+}
+
+fn push_wrong(out: &mut Vec<u8>, at: u32, wanted: Kind, found: Kind) -> Result<(), OutOfMemory>
+    ensures ok { OnOk result (out.new.items ≡ out.old.items ++ node_text at (codes ": wanted " ++ (kind_name wanted ++ (codes ", found " ++ kind_name found)))) }
+    ensures kept { take (vec_len out.old) out.new.items ≡ out.old.items }
+{
+    push_node(out, at, b": wanted ")?;
+    push_kinds(out, wanted, found)
+}
+
+fn push_error(out: &mut Vec<u8>, error: TypeError) -> Result<(), OutOfMemory>
+    ensures ok { OnOk result (out.new.items ≡ out.old.items ++ fault_text (fault_of error)) }
+    ensures kept { take (vec_len out.old) out.new.items ≡ out.old.items }
+{
+    match error {
+        TypeError::ArgCount { at } => push_node(out, at, b": wrong number of arguments"),
+        TypeError::Wrong { at, wanted, found } => push_wrong(out, at, wanted, found),
+        TypeError::BadName { at } => push_node(out, at, b": bad label name"),
+        TypeError::BoolNeeded { at } => push_node(out, at, b": bool needed"),
+        TypeError::BadMatching { at } => push_node(out, at, b": bad matching"),
+        TypeError::SubqueryTooFine { at } => push_node(out, at, b": subquery too fine"),
+    }
+}
+
+impl TypeError {
+    /// Appends the text, as `node 3: wanted scalar, found instant vector`.
+    pub fn push_text(&self, out: &mut Vec<u8>) -> Result<(), OutOfMemory>
+        ensures ok { OnOk result (out.new.items ≡ out.old.items ++ fault_text (fault_of self.now)) }
+        ensures err { OnErr result (out.new.items ≡ out.old.items) }
+    {
+        let before = out.len();
+        match push_error(out, *self) {
+            Ok(()) => Ok(()),
+            Err(error) => {
+                out.truncate(before);
+                Err(error)
+            }
+        }
+    }
+}
