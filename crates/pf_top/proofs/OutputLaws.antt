@@ -1,16 +1,25 @@
 -- What the steps of a replay give is what a run may print.
-use Rattle.std.proofs.Common.{◌≡◌, ℕ, ◌<◌, ◌≤◌, ◌⊎◌, inl, inr, Option, Some, None, List, [], ◌∷◌, refl, arith, sym, ap, ◌∙◌, append-nil, length, take, subst, Result, Ok, Err, IfOk}
-use Rattle.pf_base.specs.Batches.{BatchData}
-use Rattle.pf_io.specs.Outside.{Rose, Holds, Grows}
-use Rattle.pf_model.specs.FirstForms.{script_of, batch_of, script_word}
-use Rattle.pf_model.specs.Scripts.{Numbered}
-use Rattle.pf_model.specs.Weave.{Gives}
-use Rattle.pf_top.specs.Correct.{ReadsAs, ReadsAsNone, AreScripts, NamesFile, IsNeeded, IsUnbuilt, Reported, Unread, Unbuilt, Outside, Correct, IsOutput}
-use Rattle.pf_top.specs.FirstJournal.{IsSession, default_limits, is_own, names_at, journal_at, one_stop}
-use Rattle.pf_top.specs.Outputs.{IsFileOutput, IsWordsOutput}
-use Rattle.pf_top.specs.Readings.{Reads, lines_read}
+use Rattle.std.proofs.Common.{◌≡◌, ℕ, ◌<◌, ◌≤◌, inl, inr, Bool, true, false, nat_le, Option, Some, None, List, [], ◌∷◌, refl, arith, sym, ap, ◌∙◌, append-nil, length, take, subst, true≢false}
+use Rattle.std.specs.Prelude.{option_and_then}
+use Rattle.std.proofs.lemmas.Bool.Decides.{nat_tests}
+use Rattle.pf_base.specs.declared.plain.Limits.{Limits}
+use Rattle.pf_io.specs.Outside.{Rose, Holds, Grows, LongerThan}
+use Rattle.pf_model.specs.Lists.{Each}
+use Rattle.pf_model.specs.PlainSelectors.{kept}
+use Rattle.pf_model.specs.Scripts.{Numbered, script_of, script_word, most_bytes}
+use Rattle.pf_model.specs.Weave.{Files}
+use Rattle.pf_script.specs.Lines.{AllFollow, IsRead, lines_of}
+use Rattle.pf_script.specs.declared.script.Script.{Script}
+use Rattle.pf_top.specs.Correct.{ReadsAs, ReadsAsNone, AreScripts, IsUnbuilt, Reported, Outside, Correct, IsOutput}
+use Rattle.pf_top.specs.Drives.{CanRun, IsReport}
+use Rattle.pf_top.specs.Files.{AreLoaded, Contents, HoldsContent}
+use Rattle.pf_top.specs.Outputs.{IsScriptOutput, IsWordsOutput, default_limits}
 use Rattle.pf_top.specs.Refusals.{refused_read, refused_not_built}
-use Rattle.pf_top.specs.declared.first_script.FirstScript.{FirstScript}
+use Rattle.std.specs.declared.vec.Vec.{Vec}
+use Rattle.std.specs.declared.alloc.Global.{Global}
+use Rattle.pf_top.specs.declared.loaded.Content.{Content}
+use Rattle.pf_top.specs.declared.loaded.Content.TheVariants.{Bytes}
+use Rattle.pf_top.proofs.Texts.{held_short}
 
 -- a rise from a later count is one from an earlier count
 pub rose_since : (before mid after : ℕ) → before ≤ mid → Rose mid after → Rose before after
@@ -28,53 +37,89 @@ unbuilt_is : (files : List ℕ → Option (List ℕ)) (words : List (List ℕ)) 
     → word ≡ Some name → IsUnbuilt files words (Some name) → IsUnbuilt files words word
 unbuilt_is files words word name p h = subst (IsUnbuilt files words) (sym p) h
 
+-- the report of the script is that of the words
+reported_by : (limits : Limits) (files : Files) (words : List (List ℕ)) (name : List ℕ) (lines : List Numbered) (full : Bool) (text : List ℕ)
+    → script_word words ≡ Some name → ReadsAs script_of (files name) lines → IsReport limits files lines full text → Reported limits files words full text
+reported_by limits files words name lines full text word read r = record {
+  scripts = lines ∷ [];
+  journal = r.journal;
+  names = r.names;
+  rest = r.rest;
+  read = scripts_are files (script_word words) name lines word read;
+  legal = r.legal;
+  known = r.known;
+  woven = r.woven;
+  met = r.met;
+  whole = r.whole;
+}
+
 -- what comes once the script is read is what comes by the words
-pub words_output : (files : List ℕ → Option (List ℕ)) (words : List (List ℕ)) (name : List ℕ) (s : FirstScript)
-    (told : Option (List ℕ)) (before mid after status : ℕ) (text : List ℕ)
-    → script_word words ≡ Some name → ReadsAs script_of (files name) (lines_read s) → told ≡ files s.file → before ≤ mid
-    → IsFileOutput s told mid after status text
-    → IsWordsOutput default_limits files before after words status text
-words_output files words name s told before mid after status text word read same h (inl (zero, (batch, (gives, session)))) =
-    inl (
-      zero,
-      record {
-        scripts = lines_read s ∷ [];
-        journal = journal_at (is_own s) s batch;
-        names = names_at (is_own s) s;
-        rest = one_stop;
-        read = scripts_are files (script_word words) name (lines_read s) word read;
-        legal = session.legal;
-        known = session.known;
-        woven = session.woven files (subst (λ (t : Option (List ℕ)). Gives t batch) same gives);
-        whole = session.whole;
-      },
-    )
-words_output files words name s told before mid after status text word read same h (inr (inl (four, (rose, whole)))) =
-    inr (inl (
+words_by : (limits : Limits) (files : Files) (words : List (List ℕ)) (name : List ℕ) (lines : List Numbered) (before mid after status : ℕ) (text : List ℕ)
+    → script_word words ≡ Some name → ReadsAs script_of (files name) lines → before ≤ mid
+    → IsScriptOutput limits files mid after lines status text
+    → IsWordsOutput limits files before after words status text
+words_by limits files words name lines before mid after status text word read h (inl (zero, r)) =
+    inl (zero, reported_by limits files words name lines false text word read r)
+words_by limits files words name lines before mid after status text word read h (inr (inl (eight, r))) =
+    inr (inl (eight, reported_by limits files words name lines true text word read r))
+words_by limits files words name lines before mid after status text word read h (inr (inr (four, (file, (named, (rose, whole)))))) =
+    inr (inr (inl (
       four,
       record {
-        name = s.file;
-        needed = inr (lines_read s, (scripts_are files (script_word words) name (lines_read s) word read, inl refl));
+        name = file;
+        needed = inr (lines, (scripts_are files (script_word words) name lines word read, named));
         rose = rose_since before mid after h rose;
         whole = whole;
       },
-    ))
-words_output files words name s told before mid after status text word read same h (inr (inr (nine, (none, whole)))) =
-    inr (inr (
-      nine,
-      record {
-        unbuilt = unbuilt_is files words (script_word words) name word
-            (inr (lines_read s, (s.file, (read, inl refl, subst (λ (t : Option (List ℕ)). ReadsAsNone batch_of t) same none))));
-        whole = whole;
-      },
-    ))
+    )))
+
+-- what is told is the same afterwards
+pub words_output : (limits : Limits) (files again : Files) (words : List (List ℕ)) (name : List ℕ) (lines : List Numbered) (before mid after status : ℕ) (text : List ℕ)
+    → script_word words ≡ Some name → ReadsAs script_of (files name) lines → ((other : List ℕ) → again other ≡ files other) → before ≤ mid
+    → IsScriptOutput limits again mid after lines status text
+    → IsWordsOutput limits files before after words status text
+words_output limits files again words name lines before mid after status text word read same h o =
+    let all : again ≡ files = λ i other. same other i in
+    words_by limits files words name lines before mid after status text word read h
+    (subst (λ (f : Files). IsScriptOutput limits f mid after lines status text) all o)
+
+pub can_run : (told : Files) (script : Script) (kept : Contents) → AreLoaded told (lines_of script) kept → Each IsRead script.lines.items → AllFollow [] (lines_of script)
+    → CanRun script kept
+can_run told script kept l read following = record {
+  short = λ name content g. held_short told kept name content l.held g;
+  files = l.there;
+  read = read;
+  following = following;
+}
+
+past : (n most : ℕ) → most < n → nat_le n most ≡ false
+past n most h = grind (arith, nat_tests)
+
+none_kept : {A B : Type 0} (b : Bool) (x : A) (f : A → Option B) → b ≡ false → option_and_then f (kept b x) ≡ None
+none_kept true x f p = absurd (true≢false p)
+none_kept false x f p = refl
+
+long_script : (bytes : List ℕ) → most_bytes < length bytes → script_of bytes ≡ None
+unfolding script_of
+long_script bytes h = none_kept (nat_le (length bytes) most_bytes) _ _ (past (length bytes) most_bytes h)
+
+script_too_long : (told : Option (List ℕ)) → LongerThan told most_bytes → ReadsAsNone script_of told
+script_too_long None h = tt
+script_too_long (Some bytes) h = long_script bytes h
+
+-- a script that is too long
+pub long_output : (limits : Limits) (files : Files) (words : List (List ℕ)) (name : List ℕ) (before after status : ℕ) (text : List ℕ)
+    → script_word words ≡ Some name → LongerThan (files name) most_bytes → (status ≡ 9) × (text ≡ refused_not_built)
+    → IsWordsOutput limits files before after words status text
+long_output limits files words name before after status text word long p =
+    inr (inr (inr (p.0, record { unbuilt = unbuilt_is files words (script_word words) name word (script_too_long (files name) long); whole = p.1 })))
 
 -- a script that was not read
-pub unread_output : (files : List ℕ → Option (List ℕ)) (words : List (List ℕ)) (name : List ℕ) (before after status : ℕ) (text : List ℕ)
+pub unread_output : (limits : Limits) (files : Files) (words : List (List ℕ)) (name : List ℕ) (before after status : ℕ) (text : List ℕ)
     → script_word words ≡ Some name → Rose before after → (status ≡ 4) × (text ≡ refused_read name)
-    → IsWordsOutput default_limits files before after words status text
-unread_output files words name before after status text word rose p =
-    inr (inl (p.0, record { name = name; needed = inl word; rose = rose; whole = p.1 }))
+    → IsWordsOutput limits files before after words status text
+unread_output limits files words name before after status text word rose p =
+    inr (inr (inl (p.0, record { name = name; needed = inl word; rose = rose; whole = p.1 })))
 
 -- what was read of the bytes is read of what is told
 pub reads_as : (told : Option (List ℕ)) (bytes given : List ℕ) (lines : List Numbered)
@@ -94,6 +139,7 @@ starved_run o words same = record {
   unread = λ e. absurd (omega (arith, e));
   unwritten = λ e. absurd (omega (arith, e));
   starved = λ _. subst (λ (t : Option (List ℕ)). Grows o.old t []) (sym same) (grows_none o.old);
+  filled = λ e. absurd (omega (arith, e));
   unbuilt = λ e. absurd (omega (arith, e));
   known = inr (inr (inr (inl refl)));
 }
@@ -102,38 +148,51 @@ starved_run o words same = record {
 pub written_run : (o : Outside) (words : List (List ℕ)) (status : ℕ) (text : List ℕ)
     → IsWordsOutput default_limits o.files o.files_before o.files_after words status text → Grows o.old o.new text
     → Correct default_limits o words status
-written_run o words status text (inl (zero, reported)) grows = record {
-  ended = λ _. (text, (reported, grows));
-  unread = λ e. absurd (omega (arith, zero, e));
-  unwritten = λ e. absurd (omega (arith, zero, e));
-  starved = λ e. absurd (omega (arith, zero, e));
-  unbuilt = λ e. absurd (omega (arith, zero, e));
-  known = inl zero;
+written_run o words status text (inl (is, done)) grows = record {
+  ended = λ _. (text, (done, grows));
+  unread = λ e. absurd (omega (arith, is, e));
+  unwritten = λ e. absurd (omega (arith, is, e));
+  starved = λ e. absurd (omega (arith, is, e));
+  filled = λ e. absurd (omega (arith, is, e));
+  unbuilt = λ e. absurd (omega (arith, is, e));
+  known = inl is;
 }
-written_run o words status text (inr (inl (four, unread))) grows = record {
-  ended = λ e. absurd (omega (arith, four, e));
-  unread = λ _. (text, (unread, grows));
-  unwritten = λ e. absurd (omega (arith, four, e));
-  starved = λ e. absurd (omega (arith, four, e));
-  unbuilt = λ e. absurd (omega (arith, four, e));
-  known = inr (inl four);
+written_run o words status text (inr (inl (is, done))) grows = record {
+  ended = λ e. absurd (omega (arith, is, e));
+  unread = λ e. absurd (omega (arith, is, e));
+  unwritten = λ e. absurd (omega (arith, is, e));
+  starved = λ e. absurd (omega (arith, is, e));
+  filled = λ _. (text, (done, grows));
+  unbuilt = λ e. absurd (omega (arith, is, e));
+  known = inr (inr (inr (inr (inl is))));
 }
-written_run o words status text (inr (inr (nine, unbuilt))) grows = record {
-  ended = λ e. absurd (omega (arith, nine, e));
-  unread = λ e. absurd (omega (arith, nine, e));
-  unwritten = λ e. absurd (omega (arith, nine, e));
-  starved = λ e. absurd (omega (arith, nine, e));
-  unbuilt = λ _. (text, (unbuilt, grows));
-  known = inr (inr (inr (inr nine)));
+written_run o words status text (inr (inr (inl (is, done)))) grows = record {
+  ended = λ e. absurd (omega (arith, is, e));
+  unread = λ _. (text, (done, grows));
+  unwritten = λ e. absurd (omega (arith, is, e));
+  starved = λ e. absurd (omega (arith, is, e));
+  filled = λ e. absurd (omega (arith, is, e));
+  unbuilt = λ e. absurd (omega (arith, is, e));
+  known = inr (inl is);
+}
+written_run o words status text (inr (inr (inr (is, done)))) grows = record {
+  ended = λ e. absurd (omega (arith, is, e));
+  unread = λ e. absurd (omega (arith, is, e));
+  unwritten = λ e. absurd (omega (arith, is, e));
+  starved = λ e. absurd (omega (arith, is, e));
+  filled = λ e. absurd (omega (arith, is, e));
+  unbuilt = λ _. (text, (done, grows));
+  known = inr (inr (inr (inr (inr is))));
 }
 
 -- what was to be written is what a run may print
 may_print : (o : Outside) (words : List (List ℕ)) (status : ℕ) (text : List ℕ)
     → IsWordsOutput default_limits o.files o.files_before o.files_after words status text
     → IsOutput default_limits o words text
-may_print o words status text (inl p) = inl p.1
-may_print o words status text (inr (inl p)) = inr (inl p.1)
-may_print o words status text (inr (inr p)) = inr (inr p.1)
+may_print o words status text (inl p) = inl (false, p.1)
+may_print o words status text (inr (inl p)) = inl (true, p.1)
+may_print o words status text (inr (inr (inl p))) = inr (inl p.1)
+may_print o words status text (inr (inr (inr p))) = inr (inr p.1)
 
 -- a front was written
 pub unwritten_run : (o : Outside) (words : List (List ℕ)) (status : ℕ) (text given : List ℕ)
@@ -154,6 +213,11 @@ unwritten_run o words status text given output same rose n part = record {
     ),
   );
   starved = λ e. absurd (omega (arith, e));
+  filled = λ e. absurd (omega (arith, e));
   unbuilt = λ e. absurd (omega (arith, e));
   known = inr (inr (inl refl));
 }
+
+-- bytes that were read are those that are told
+pub bytes_told : (told : Option (List ℕ)) (content : Content) (bytes : Vec ℕ Global) → content ≡ Bytes bytes → HoldsContent told content → Holds told bytes.items
+bytes_told told content bytes is h = (subst (HoldsContent told) is h).0

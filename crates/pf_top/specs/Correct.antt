@@ -1,14 +1,13 @@
 -- What the program promises of a replay: this project's own.
-use Rattle.std.specs.Prelude.{◌≡◌, ℕ, ◌⊎◌, Option, Some, None, List, [], ◌∷◌, take}
-use Rattle.pf_base.specs.Batches.{BatchData}
+use Rattle.std.specs.Prelude.{◌≡◌, ℕ, ◌⊎◌, Bool, true, false, Option, Some, None, List, [], ◌∷◌, take}
 use Rattle.pf_base.specs.declared.plain.Limits.{Limits}
 use Rattle.pf_io.specs.Outside.{Rose, Grows}
-use Rattle.pf_model.specs.FirstForms.{script_of, batch_of, script_word}
 use Rattle.pf_model.specs.Legal.{Legal, AreNames}
+use Rattle.pf_model.specs.Lists.{Each}
 use Rattle.pf_model.specs.Machine.{Entry}
 use Rattle.pf_model.specs.Report.{report}
-use Rattle.pf_model.specs.Scripts.{Line, Numbered, ingest, ask, answer}
-use Rattle.pf_model.specs.Weave.{Rest, Weave}
+use Rattle.pf_model.specs.Scripts.{Line, Numbered, ingest, delete, ask, answer, script_of, script_word}
+use Rattle.pf_model.specs.Weave.{Rest, Stop, Weave}
 use Rattle.pf_top.specs.Refusals.{refused_read, refused_not_built}
 
 -- where bytes are told, reading gives this of them
@@ -28,7 +27,8 @@ AreScripts files (Some name) scripts = (lines : List Numbered) × ((scripts ≡ 
 
 -- a line names a file
 abbrev pub LineNames : Line → List ℕ → Type 0
-LineNames (ingest tenant file) name = file ≡ name
+LineNames (ingest tenant file time) name = file ≡ name
+LineNames (delete tenant from to selector) name = ⊥
 LineNames (ask id tenant start end step query) name = ⊥
 LineNames (answer id asked) name = ⊥
 
@@ -36,16 +36,22 @@ abbrev pub NamesFile : List Numbered → List ℕ → Type 0
 NamesFile [] name = ⊥
 NamesFile (l ∷ ls) name = LineNames l.line name ⊎ NamesFile ls name
 
+-- a client met the full journal, or none did
+abbrev pub HaveMetFull : Bool → List Stop → Type 0
+HaveMetFull false stops = Each (λ s. s.full ≡ false) stops
+HaveMetFull true stops = (Each (λ s. s.full ≡ false) stops) → ⊥
+
 -- text is the report of a legal journal that is woven from the scripts
-pub record Reported (limits : Limits) (files : List ℕ → Option (List ℕ)) (words : List (List ℕ)) (text : List ℕ) : Type 0 where
+pub record Reported (limits : Limits) (files : List ℕ → Option (List ℕ)) (words : List (List ℕ)) (full : Bool) (text : List ℕ) : Type 0 where
   pub scripts : List (List Numbered)
   pub journal : List Entry
   pub names : List (List ℕ)
   pub rest : Rest
   pub read : AreScripts files (script_word words) scripts
-  pub legal : Legal limits journal
+  pub legal : Legal limits names journal
   pub known : AreNames names journal
-  pub woven : Weave files names journal scripts rest
+  pub woven : Weave files limits names journal scripts rest
+  pub met : HaveMetFull full rest.stops
   pub whole : text ≡ report limits names journal scripts rest
 
 -- a name that is a script, or that a script names
@@ -61,13 +67,10 @@ pub record Unread (files : List ℕ → Option (List ℕ)) (before after : ℕ) 
   pub rose : Rose before after
   pub whole : text ≡ refused_read name
 
--- the words, the script that they name, or a file that the script names, are of no form that is built
+-- the words, or the script that they name, are of no form that is built
 abbrev pub IsUnbuilt : (List ℕ → Option (List ℕ)) → List (List ℕ) → Option (List ℕ) → Type 0
 IsUnbuilt files words None = Unit {0}
-IsUnbuilt files words (Some name) =
-    ReadsAsNone script_of (files name)
-    ⊎ ((lines : List Numbered) × ((file : List ℕ)
-    × (ReadsAs script_of (files name) lines × NamesFile lines file × ReadsAsNone batch_of (files file))))
+IsUnbuilt files words (Some name) = ReadsAsNone script_of (files name)
 
 pub record Unbuilt (files : List ℕ → Option (List ℕ)) (words : List (List ℕ)) (text : List ℕ) : Type 0 where
   pub unbuilt : IsUnbuilt files words (script_word words)
@@ -96,20 +99,22 @@ pub record Outside : Type 0 where
 -- what a run may print
 abbrev pub IsOutput : Limits → Outside → List (List ℕ) → List ℕ → Type 0
 IsOutput limits o words text =
-    Reported limits o.files words text
+    ((full : Bool) × Reported limits o.files words full text)
     ⊎ (Unread o.files o.files_before o.files_after words text ⊎ Unbuilt o.files words text)
 
 -- the claim, status by status
 pub record Correct (limits : Limits) (o : Outside) (words : List (List ℕ)) (status : ℕ) : Type 0 where
-  -- 0: the report was written
-  pub ended : status ≡ 0 → Writes (Reported limits o.files words) o.old o.new
+  -- 0: the report was written, and no client met the full journal
+  pub ended : status ≡ 0 → Writes (Reported limits o.files words false) o.old o.new
   -- 4: a file that was needed was not read
   pub unread : status ≡ 4 → Writes (Unread o.files o.files_before o.files_after words) o.old o.new
   -- 5: the output's count of faults rose, behind a front of what was to be written
   pub unwritten : status ≡ 5 → Rose o.out_before o.out_after × WritesPart (IsOutput limits o words) o.old o.new
   -- 6: memory ran out, and nothing was written
   pub starved : status ≡ 6 → Grows o.old o.new []
+  -- 8: the report was written, and a client met the full journal
+  pub filled : status ≡ 8 → Writes (Reported limits o.files words true) o.old o.new
   -- 9: a form that is not built
   pub unbuilt : status ≡ 9 → Writes (Unbuilt o.files words) o.old o.new
   -- there is no other status
-  pub known : (status ≡ 0) ⊎ ((status ≡ 4) ⊎ ((status ≡ 5) ⊎ ((status ≡ 6) ⊎ (status ≡ 9))))
+  pub known : (status ≡ 0) ⊎ ((status ≡ 4) ⊎ ((status ≡ 5) ⊎ ((status ≡ 6) ⊎ ((status ≡ 8) ⊎ (status ≡ 9)))))

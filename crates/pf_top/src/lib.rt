@@ -5,17 +5,16 @@
 //! status 0 the bytes written are the report of a legal journal that is woven from the scripts which the words name.
 #![tactic(auto)]
 
-mod cuts;
+mod client;
+mod drive;
 mod driver;
-mod evaluate;
-mod exposition;
-mod first_script;
-mod json_text;
-mod matrix;
-mod report;
-mod script;
-mod series;
+mod entry;
+mod journal;
+mod loaded;
 mod session;
+mod slots;
+mod stop;
+mod tenants;
 mod words;
 
 pub use driver::run;

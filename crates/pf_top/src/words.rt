@@ -1,7 +1,7 @@
 //! The words that the program is called with.
 
 ghost use Rattle.std.specs.Prelude.{◌≡◌, MatchOption, None, Some};
-ghost use Rattle.pf_model.specs.FirstForms.{is_script_word, script_word};
+ghost use Rattle.pf_model.specs.Scripts.{is_script_word, script_word};
 
 use pf_base::Text;
 

@@ -1,6 +1,11 @@
 -- The claim, by what was to be written and what was written of it.
-use Rattle.pf_top.proofs.OutputLaws.{unwritten_run}
+use Rattle.std.proofs.Common.{rules}
+use Rattle.pf_top.proofs.OutputLaws.{unwritten_run, written_run}
 use Rattle.pf_top.proofs.driver.run.Goals as goal
+
+pub returns-in-Ok-put_all : goal.returns-in-Ok-put_all
+returns-in-Ok-put_all g c =
+    written_run _ c.args.words.now c.in-Ok.output.status c.in-Ok.output.text.items c.in-Ok.ensures.output (search rules)
 
 pub returns-in-Err : goal.returns-in-Err
 returns-in-Err g c =

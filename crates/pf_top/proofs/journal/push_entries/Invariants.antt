@@ -1,0 +1,11 @@
+use Rattle.std.proofs.Common.{◌≡◌, ◌++◌, drop, map}
+use Rattle.pf_model.specs.Report.{entries_from}
+use Rattle.pf_top.specs.Entries.{entry_of}
+use Rattle.pf_top.proofs.journal.push_entries.Given as goal
+
+abbrev pub invariant-loop-entry : goal.invariant-loop-entry
+invariant-loop-entry l = record {
+  counted : l.place ≡ l.entry-index;
+  told : l.out.items ++ entries_from l.names l.place (map entry_of (drop l.entry-index l.entries))
+      ≡ l.initial.out.items ++ entries_from l.names 0 (map entry_of l.entries);
+}

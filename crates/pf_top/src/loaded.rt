@@ -1,0 +1,179 @@
+//! The files that a script names.
+
+ghost use Rattle.std.specs.Prelude.{◌≡◌, ◌≢◌, ◌≤◌, ℕ, Err, IfErr, IfOk, List, MatchOption, OnOk, Some, None, [], length, map};
+ghost use Rattle.std.specs.BTreeMap.{get_by_text};
+ghost use Rattle.pf_io.specs.Outside.{Holds, LongerThan, Rose};
+ghost use Rattle.pf_model.specs.Scripts.{most_bytes};
+ghost use Rattle.pf_script.specs.Lines.{lines_of, numbered_of};
+ghost use Rattle.pf_top.specs.Correct.{LineNames, NamesFile};
+ghost use Rattle.pf_top.specs.Files.{AreHeld, AreLoaded, HoldsContent, IsLoaded, IsLoadedFor, IsUnread};
+ghost use Rattle.pf_top.specs.declared.loaded.LoadError.{LoadError};
+
+use pf_base::Text;
+use pf_io::{Files, ReadError};
+use pf_script::{Line, NumberedLine, Script};
+use std::alloc::{AllocError, AllocFailed, Global};
+use std::collections::BTreeMap;
+
+/// The greatest length of a script or a file, in bytes.
+pub const MOST_BYTES: usize = 67_108_864;
+
+/// What a file holds.
+#[derive(Drop)]
+pub enum Content {
+    Bytes(Vec<u8>),
+    /// More bytes than a file may have.
+    TooLong,
+}
+
+/// What files hold, by name.
+pub type Contents = BTreeMap<String, Content>;
+
+/// A file was not read, or memory ran out.
+#[derive(Drop)]
+pub enum LoadError {
+    Unread { name: Text },
+    OutOfMemory,
+}
+
+impl From<pf_base::OutOfMemory> for LoadError {
+    ghost use Rattle.std.specs.Prelude.{◌≡◌};
+    ghost use Rattle.pf_top.specs.declared.loaded.LoadError.TheVariants.{OutOfMemory};
+
+    ghost from_gives = { λ _ e. e ≡ OutOfMemory };
+
+    fn from(_error: pf_base::OutOfMemory) -> LoadError {
+        LoadError::OutOfMemory
+    }
+}
+
+impl From<AllocError> for LoadError {
+    ghost use Rattle.std.specs.Prelude.{◌≡◌};
+    ghost use Rattle.pf_top.specs.declared.loaded.LoadError.TheVariants.{OutOfMemory};
+
+    ghost from_gives = { λ _ e. e ≡ OutOfMemory };
+
+    fn from(_error: AllocError) -> LoadError {
+        LoadError::OutOfMemory
+    }
+}
+
+impl<T: Drop> From<AllocFailed<T>> for LoadError {
+    ghost use Rattle.std.specs.Prelude.{◌≡◌};
+    ghost use Rattle.pf_top.specs.declared.loaded.LoadError.TheVariants.{OutOfMemory};
+
+    ghost from_gives = { λ _ e. e ≡ OutOfMemory };
+
+    fn from(_error: AllocFailed<T>) -> LoadError {
+        LoadError::OutOfMemory
+    }
+}
+
+/// What a file holds, of at most 64 MiB.
+pub fn read_file<F: Files>(alloc: Global, files: &mut F, name: &str) -> Result<Content, ReadError>
+    ensures contents { IfOk result (HoldsContent (F.told files.old name.now)) }
+    ensures failed { result ≡ Err ReadError.Failed → Rose (F.faults files.old) (F.faults files.new) }
+    ensures short { result ≡ Err ReadError.TooLong → ⊥ }
+    ensures counted { F.faults files.old ≤ F.faults files.new }
+    ensures kept { (other : List ℕ) → F.told files.new other ≡ F.told files.old other }
+{
+    let mut bytes = Vec::new(alloc);
+    match files.read(name, &mut bytes, MOST_BYTES) {
+        Ok(()) => Ok(Content::Bytes(bytes)),
+        Err(ReadError::TooLong) => Ok(Content::TooLong),
+        Err(ReadError::Failed) => Err(ReadError::Failed),
+        Err(ReadError::OutOfMemory) => Err(ReadError::OutOfMemory),
+    }
+}
+
+/// What is kept of a file.
+pub fn content_of<'a>(loaded: &'a Contents, name: &str) -> Option<&'a Content>
+    ensures { MatchOption result (get_by_text loaded.now name.now ≡ None) (λ c. get_by_text loaded.now name.now ≡ Some c.now) }
+{
+    loaded.get(name)
+}
+
+/// Adds what a file holds under its name.
+fn insert(
+    alloc: Global,
+    loaded: &mut Contents,
+    name: &str,
+    content: Content,
+) -> Result<(), LoadError>
+    ensures added { OnOk result (get_by_text loaded.new name.now ≡ Some content) }
+    ensures others { OnOk result ((other : List ℕ) → other ≢ name.now → get_by_text loaded.new other ≡ get_by_text loaded.old other) }
+    ensures memory { IfErr result (λ e. e ≡ LoadError.OutOfMemory) }
+{
+    loaded.insert(String::from_str(alloc, name)?, content)?;
+    Ok(())
+}
+
+/// Reads a file, where it was not read before.
+#[tactic(auto, using(crate::proofs::Texts::held_short))]
+fn load_one<F: Files>(
+    alloc: Global,
+    files: &mut F,
+    loaded: &mut Contents,
+    name: &Text,
+) -> Result<(), LoadError>
+    requires { AreHeld (F.told files.old) loaded.old }
+    ensures ok { OnOk result (IsLoaded (F.told files.old) loaded.old name.now loaded.new) }
+    ensures err { IfErr result (IsUnread (λ n. n ≡ name.now) (F.faults files.old) (F.faults files.new)) }
+    ensures counted { F.faults files.old ≤ F.faults files.new }
+    ensures kept { (other : List ℕ) → F.told files.new other ≡ F.told files.old other }
+{
+    if let Some(_known) = content_of(loaded, name.as_str()) {
+        return Ok(());
+    }
+    match read_file(alloc, files, name.as_str()) {
+        Ok(content) => {
+            insert(alloc, loaded, name.as_str(), content)?;
+            Ok(())
+        }
+        Err(ReadError::OutOfMemory) => Err(LoadError::OutOfMemory),
+        Err(_) => Err(LoadError::Unread {
+            name: name.clone()?,
+        }),
+    }
+}
+
+/// Reads the file that a line names.
+fn load_for<F: Files>(
+    alloc: Global,
+    files: &mut F,
+    loaded: &mut Contents,
+    line: &NumberedLine,
+) -> Result<(), LoadError>
+    requires { AreHeld (F.told files.old) loaded.old }
+    ensures ok { OnOk result (IsLoadedFor (F.told files.old) loaded.old (numbered_of line.now) loaded.new) }
+    ensures err { IfErr result (IsUnread (LineNames (numbered_of line.now).line) (F.faults files.old) (F.faults files.new)) }
+    ensures counted { F.faults files.old ≤ F.faults files.new }
+    ensures kept { (other : List ℕ) → F.told files.new other ≡ F.told files.old other }
+{
+    match &line.line {
+        Line::Ingest { file, .. } => {
+            load_one(alloc, files, loaded, file)?;
+            Ok(())
+        }
+        _ => Ok(()),
+    }
+}
+
+/// Reads each file that a script names, once and in the order of first mention.
+pub fn load_all<F: Files>(
+    alloc: Global,
+    files: &mut F,
+    script: &Script,
+) -> Result<Contents, LoadError>
+    ensures ok { IfOk result (AreLoaded (F.told files.old) (lines_of script.now)) }
+    ensures err { IfErr result (IsUnread (NamesFile (lines_of script.now)) (F.faults files.old) (F.faults files.new)) }
+    ensures counted { F.faults files.old ≤ F.faults files.new }
+{
+    let mut loaded = BTreeMap::new(alloc);
+    for line in &script.lines {
+        if let Err(error) = load_for(alloc, files, &mut loaded, line) {
+            return Err(error);
+        }
+    }
+    Ok(loaded)
+}
