@@ -1,4 +1,4 @@
--- A tree that a text is read as can be printed.
+-- A tree that a text derives can be printed.
 use Rattle.std.proofs.Common.{inl, inr, ◌≡◌, ◌∙◌, ℕ, ℤ, pos, negsuc, zero, suc, ◌/◌, ◌≤◌, Bool, true, false, not, ◌&&◌, Option, Some, None, List, [], ◌∷◌, ◌++◌, cond, refl, sym, ap, subst, arith, codes}
 use Rattle.std.specs.Prelude.{map, nat_abs, nat_lt, neg_ℤ, int_div, option_map, IfSome}
 use Rattle.std.specs.List.{list_all}
@@ -368,9 +368,9 @@ mutual
       let r = rest_good (g.sign (codes ",")) (text_of w ++ more_texts ws) h in
       subst ArePrintable p.is (good_tree w p.left (front_good (text_of w) (more_texts ws) r) p.left_is, good_more ws p.right (behind_good (text_of w) (more_texts ws) r) p.right_is)
 
--- a tree that a text is read as, of any height, can be printed
+-- a tree that a text derives, of any height, can be printed
 pub can_be_printed : CanBePrinted
 can_be_printed text t h =
     let ts = h.tokens in
-    let lawful = tokens_lawful text false 0 ts h.known.written.shallow.cut.are_tokens.begins in
+    let lawful = tokens_lawful text false 0 ts h.are_tokens.begins in
     good_tree h.derives.written t (record { flag = false; kinds = sorts ts; fits = h.derives.derived.fits; sound = all_sound false ts lawful h.times }) h.derives.means

@@ -11,8 +11,8 @@ use Rattle.pf_model.specs.declared.expr.Side.TheVariants as side
 use Rattle.pf_model.specs.declared.functions.Sign.{Sign}
 use Rattle.pf_model.specs.Canonical.{is_one}
 use Rattle.pf_model.specs.Clauses.{Grouped, Matched}
-use Rattle.pf_model.specs.Grammar.{has_colon, is_nil}
-use Rattle.pf_model.specs.Parsing.{IsTree}
+use Rattle.pf_model.specs.Grammar.{Derives, has_colon, is_nil}
+use Rattle.pf_model.specs.Parsing.{sorts, too_large_at}
 use Rattle.pf_model.specs.Tokens.{Sort, Token, AreTokens, duration, is_word, number, sign, string, word}
 use Rattle.pf_model.specs.Trees as tree
 use Rattle.pf_model.specs.Trees.{Tree, Trees, none, more}
@@ -174,6 +174,13 @@ IsLawfulSort (duration millis) = Unit {0}
 IsLawfulSort (string bytes) = Unit {0}
 IsLawfulSort (sign bytes) = Unit {0}
 
--- the law: a tree that a text is read as, of any height, can be printed
+-- a text of any length derives the tree, and its times are within the limit
+pub record HasTree (text : List ℕ) (tree : Tree) : Type 0 where
+  pub tokens : List Token
+  pub are_tokens : AreTokens text tokens
+  pub times : too_large_at false tokens ≡ None
+  pub derives : Derives (sorts tokens) tree
+
+-- the law: a tree that a text derives, of any height, can be printed
 abbrev pub CanBePrinted : Type 0
-CanBePrinted = (text : List ℕ) (t : Tree) → IsTree text t → IsPrintable t
+CanBePrinted = (text : List ℕ) (t : Tree) → HasTree text t → IsPrintable t

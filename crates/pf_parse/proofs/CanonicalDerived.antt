@@ -17,7 +17,7 @@ use Rattle.pf_model.specs.declared.functions.InstantFn.TheVariants as instant
 use Rattle.pf_model.specs.declared.functions.RangeFn.TheVariants as ranged
 use Rattle.pf_model.specs.Grammar.{Written, Arguments, IsLawful, AreLawful, AreKeys, AreModifiers, IsPositive, Derives, IsDerived, Keys, Group, meaning, meanings, both, matched_of, grouped_of, mods_of, side_of, include_of, ends_with_group, text_of, begins_with_bracket, is_nil}
 use Rattle.pf_model.specs.Grammar as grammar
-use Rattle.pf_model.specs.Parsing.{IsTree}
+use Rattle.pf_lex.specs.CanonicalTokens.{HasTree}
 use Rattle.pf_model.specs.Trees.{Tree, Trees}
 use Rattle.pf_model.specs.Trees as tree
 use Rattle.pf_model.specs.Words.{function_name, function_of, is_comparison}
@@ -263,7 +263,7 @@ mutual
       let p = both_parts tree.more (meaning e) (meanings es) ts h in
       subst AreWell p.made (well e p.first l.0 p.is_first, all_well es p.second l.1 p.is_second)
 
-pub canonical_derives : (text : List ℕ) (t : Tree) → IsTree text t → IsDerivedBy (canonical t) t
+pub canonical_derives : (text : List ℕ) (t : Tree) → HasTree text t → IsDerivedBy (canonical t) t
 canonical_derives text t h =
     let p = can_be_printed text t h in
     let w = well h.derives.written t h.derives.derived.lawful h.derives.means in
@@ -275,7 +275,7 @@ canonical_derives text t h =
           (record { written = written_of t; derived = record { fits = canonical_fits t p; lawful = lawful t w }; means = back t w });
     }
 
-pub printed_derives : {E : Type 0} (t : Tree) (r : Result (List ℕ) E) → IfOk r (λ x. x ≡ canonical t) → (text : List ℕ) → IsTree text t
+pub printed_derives : {E : Type 0} (t : Tree) (r : Result (List ℕ) E) → IfOk r (λ x. x ≡ canonical t) → (text : List ℕ) → HasTree text t
     → IfOk r (λ x. IsDerivedBy x t)
 printed_derives t (Ok x) e text h = subst (λ y. IsDerivedBy y t) (sym e) (canonical_derives text t h)
 printed_derives t (Err x) e text h = tt

@@ -7,7 +7,7 @@ use Rattle.std.specs.Option.{is_none}
 use Rattle.pf_base.specs.Grids.{maxt}
 use Rattle.pf_lex.proofs.CanonicalTexts.{canonical_is_cut}
 use Rattle.pf_lex.proofs.Printable.{can_be_printed}
-use Rattle.pf_lex.specs.CanonicalTokens.{IsPrintable, ArePrintable, IsTime, AreMods, IsOffset, in_brackets, behind_commas, separated, matcher_sorts, selector_sorts, range_sorts, at_sorts, offset_sorts, mods_sorts, label_sort, labels_sorts, bool_sorts, operator_sort, keys_sorts, group_sorts, grouping_sorts, resolution_sorts, sorts_of, all_sorts}
+use Rattle.pf_lex.specs.CanonicalTokens.{HasTree, IsPrintable, ArePrintable, IsTime, AreMods, IsOffset, in_brackets, behind_commas, separated, matcher_sorts, selector_sorts, range_sorts, at_sorts, offset_sorts, mods_sorts, label_sort, labels_sorts, bool_sorts, operator_sort, keys_sorts, group_sorts, grouping_sorts, resolution_sorts, sorts_of, all_sorts}
 use Rattle.pf_lex.specs.CanonicalTokens as shown
 use Rattle.pf_model.specs.Canonical.{canonical, is_one}
 use Rattle.pf_model.specs.Clauses.{Matched}
@@ -29,7 +29,7 @@ use Rattle.pf_model.specs.declared.functions.Sign.{Sign}
 use Rattle.pf_model.specs.declared.functions.Sign.TheVariants as operator
 use Rattle.pf_model.proofs.OneAnswer.{tokens_are_one}
 use Rattle.pf_model.specs.Grammar.{Derives, is_nil, text_of}
-use Rattle.pf_model.specs.Parsing.{sorts, opens, closes, open_behind, is_the_sign, is_too_large, is_behind_at, is_unknown, too_deep_at, unknown_at, too_large_at, IsTree, Parses}
+use Rattle.pf_model.specs.Parsing.{sorts, opens, closes, open_behind, is_the_sign, is_too_large, is_behind_at, is_unknown, too_deep_at, unknown_at, too_large_at, Parses}
 use Rattle.pf_model.specs.Parsing as parsing
 use Rattle.pf_model.specs.Tokens.{Sort, Token, word, number, duration, string, sign}
 use Rattle.pf_model.specs.Trees.{Tree, Trees, height, heights}
@@ -358,12 +358,12 @@ not_late c a b (t ∷ ts) f =
     ∙ not_late (open_behind c t.sort) (is_the_sign (codes "@") t.sort) (is_behind_at b t.sort) ts f.3
 
 -- a tree's canonical text within the limit is read as this tree
-pub read_back : (text : List ℕ) (t : Tree) → Parses text t → length (canonical t) ≤ 65536 → Parses (canonical t) t
-read_back text t h l =
-    let p = can_be_printed text t h.is_tree in
+pub read_back : (text : List ℕ) (t : Tree) → HasTree text t → height t ≤ 64 → length (canonical t) ≤ 65536 → Parses (canonical t) t
+read_back text t h low l =
+    let p = can_be_printed text t h in
     let c = canonical_is_cut t p in
-    let d = canonical_derives text t h.is_tree in
-    let q = subst (Quiet 0) (append-nil (sorts_of t)) (fine t 0 [] p (omega (arith, h.low)) (record { is = tt })) in
+    let d = canonical_derives text t h in
+    let q = subst (Quiet 0) (append-nil (sorts_of t)) (fine t 0 [] p (omega (arith, low)) (record { is = tt })) in
     let e : Quiet 0 (sorts c.tokens) = subst (Quiet 0) (sym c.same) q in
     let s = tokens_are_one (canonical t) d.tokens c.tokens d.are_tokens c.are in
     let derives = subst (λ ts. Derives (sorts ts) t) s d.derives in
@@ -381,13 +381,13 @@ read_back text t h l =
         times = not_late 0 false false c.tokens e.is;
         derives = derives;
       };
-      low = h.low;
+      low = low;
     }
 
-pub printed_back : {E : Type 0} (t : Tree) (r : Result (List ℕ) E) → IfOk r (λ x. x ≡ canonical t) → (text : List ℕ) → Parses text t
-    → IfOk r (λ x. length x ≤ 65536 → Parses x t)
-printed_back t (Ok x) e text h = λ l. subst (λ y. Parses y t) (sym e) (read_back text t h (subst (λ y. length y ≤ 65536) e l))
-printed_back t (Err x) e text h = tt
+pub printed_back : {E : Type 0} (t : Tree) (r : Result (List ℕ) E) → IfOk r (λ x. x ≡ canonical t) → (text : List ℕ) → HasTree text t
+    → height t ≤ 64 → IfOk r (λ x. length x ≤ 65536 → Parses x t)
+printed_back t (Ok x) e text h low = λ l. subst (λ y. Parses y t) (sym e) (read_back text t h low (subst (λ y. length y ≤ 65536) e l))
+printed_back t (Err x) e text h low = tt
 
 -- ---- no other tree
 
@@ -420,12 +420,12 @@ some_held : (a b : Held) → ◌≡◌ {A = Option Held} (Some a) (Some b) → a
 some_held a b h = cc
 
 -- the canonical text of a tree of at most 64 levels derives no other tree, however long it is
-only_one : (text : List ℕ) (t u : Tree) → Parses text t → IsDerivedBy (canonical t) u → u ≡ t
-only_one text t u h d =
-    let p = can_be_printed text t h.is_tree in
+only_one : (text : List ℕ) (t u : Tree) → HasTree text t → height t ≤ 64 → IsDerivedBy (canonical t) u → u ≡ t
+only_one text t u h low_one d =
+    let p = can_be_printed text t h in
     let c = canonical_is_cut t p in
-    let g = canonical_derives text t h.is_tree in
-    let q = subst (Quiet 0) (append-nil (sorts_of t)) (fine t 0 [] p (omega (arith, h.low)) (record { is = tt })) in
+    let g = canonical_derives text t h in
+    let q = subst (Quiet 0) (append-nil (sorts_of t)) (fine t 0 [] p (omega (arith, low_one)) (record { is = tt })) in
     let e : Quiet 0 (sorts c.tokens) = subst (Quiet 0) (sym c.same) q in
     let k = not_unknown 0 false false c.tokens e.is in
     let l = not_late 0 false false c.tokens e.is in
@@ -433,9 +433,9 @@ only_one text t u h d =
     let b = subst (λ ts. Derives (sorts ts) u) (tokens_are_one (canonical t) d.tokens c.tokens d.are_tokens c.are) d.derives in
     low_same u t
     (some_held (low u) (low t) (sym (held_by c.tokens u b k l) ∙ held_by c.tokens t a k l)
-    ∙ ap (λ x. cond x (Some t) None) (le-leb (height t) 64 h.low))
+    ∙ ap (λ x. cond x (Some t) None) (le-leb (height t) 64 low_one))
 
-pub printed_only : {E : Type 0} (t : Tree) (r : Result (List ℕ) E) → IfOk r (λ x. x ≡ canonical t) → (text : List ℕ) → Parses text t
-    → IfOk r (λ x. (u : Tree) → IsDerivedBy x u → u ≡ t)
-printed_only t (Ok x) e text h = λ u d. only_one text t u h (subst (λ y. IsDerivedBy y u) e d)
-printed_only t (Err x) e text h = tt
+pub printed_only : {E : Type 0} (t : Tree) (r : Result (List ℕ) E) → IfOk r (λ x. x ≡ canonical t) → (text : List ℕ) → HasTree text t
+    → height t ≤ 64 → IfOk r (λ x. (u : Tree) → IsDerivedBy x u → u ≡ t)
+printed_only t (Ok x) e text h l = λ u d. only_one text t u h l (subst (λ y. IsDerivedBy y u) e d)
+printed_only t (Err x) e text h l = tt

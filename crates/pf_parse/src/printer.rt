@@ -2,8 +2,9 @@
 
 ghost use Rattle.std.specs.Prelude.{◌≡◌, ◌++◌, ◌∷◌, codes, cond, map, not, IfOk, OnOk, List, ℕ, ◌≤◌, length};
 ghost use Rattle.pf_model.specs.Canonical.{all_behind, at_text, bool_text, canonical, canonicals, group_text, grouping_text, in_brackets, keys_text, labels_text, matcher_text, mods_text, offset_text, range_text, resolution_text, selector_text, separated};
-ghost use Rattle.pf_model.specs.Parsing.{IsTree, Parses};
-ghost use Rattle.pf_model.specs.Trees.{Tree, tree_of, trees_of};
+ghost use Rattle.pf_lex.specs.CanonicalTokens.{HasTree};
+ghost use Rattle.pf_model.specs.Parsing.{Parses};
+ghost use Rattle.pf_model.specs.Trees.{Tree, height, tree_of, trees_of};
 ghost use Rattle.pf_parse.specs.Printed.{IsDerivedBy, comma_before, expr_text, has_keys, operator_between, over_text};
 
 use crate::output::{Output, push_millis, push_quoted, push_seconds, push_value};
@@ -292,13 +293,14 @@ fn printed(alloc: Global, expr: &Expr) -> Result<Text, OutOfMemory>
 }
 
 /// The canonical text of a query: numbers without exponents, durations in milliseconds, brackets round every operand,
-/// names and keywords in small letters. Where some text derives the query's tree, this text does. Where `parse` gives the
-/// tree, this text derives no other, and `parse` reads it as this tree if it has at most 65,536 bytes.
+/// names and keywords in small letters. Where some text of any length derives the query's tree, its times within the limit,
+/// this text derives it too, and no other tree if it has at most 64 levels: `parse` then reads this text as this tree if
+/// it has at most 65,536 bytes.
 pub fn print(alloc: Global, expr: &Expr) -> Result<Text, OutOfMemory>
     ensures canonical { IfOk result (λ t. t ≡ canonical (tree_of expr.now)) }
-    ensures derives { (text : List ℕ) → IsTree text (tree_of expr.now) → IfOk result (λ t. IsDerivedBy t (tree_of expr.now)) }
-    ensures only { (text : List ℕ) → Parses text (tree_of expr.now) → IfOk result (λ t. (u : Tree) → IsDerivedBy t u → u ≡ tree_of expr.now) }
-    ensures read_back { (text : List ℕ) → Parses text (tree_of expr.now) → IfOk result (λ t. length t ≤ 65536 → Parses t (tree_of expr.now)) }
+    ensures derives { (text : List ℕ) → HasTree text (tree_of expr.now) → IfOk result (λ t. IsDerivedBy t (tree_of expr.now)) }
+    ensures only { (text : List ℕ) → HasTree text (tree_of expr.now) → height (tree_of expr.now) ≤ 64 → IfOk result (λ t. (u : Tree) → IsDerivedBy t u → u ≡ tree_of expr.now) }
+    ensures read_back { (text : List ℕ) → HasTree text (tree_of expr.now) → height (tree_of expr.now) ≤ 64 → IfOk result (λ t. length t ≤ 65536 → Parses t (tree_of expr.now)) }
 {
     printed(alloc, expr)
 }
