@@ -30,6 +30,7 @@ pub mod Selections
 pub mod Separated
 pub mod Settles
 pub mod Settling
+pub mod Sizes
 pub mod Spelled
 pub mod Toks
 pub mod Tops

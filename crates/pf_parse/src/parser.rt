@@ -1,8 +1,8 @@
 //! Queries read from texts.
 
-ghost use Rattle.std.specs.Prelude.{IfErr, IfOk};
+ghost use Rattle.std.specs.Prelude.{IfErr, IfOk, ◌≤◌};
 ghost use Rattle.pf_model.specs.Parsing.{Parses};
-ghost use Rattle.pf_model.specs.Trees.{Tree, tree_of};
+ghost use Rattle.pf_model.specs.Trees.{Tree, size, tree_of};
 ghost use Rattle.pf_parse.specs.Refusals.{IsAnswered, IsRefused};
 
 #[cfg(test)]
@@ -15,9 +15,10 @@ use pf_lex::tokens;
 use pf_model::Expr;
 use std::alloc::Global;
 
-#[tactic(auto, using(crate::proofs::Parsed::parsed, crate::proofs::Parsed::refused_deep, crate::proofs::Parsed::refused_unexpected, crate::proofs::Parsed::refused_unknown, crate::proofs::Parsed::refused_late, crate::proofs::Parsed::refused_tall))]
+#[tactic(auto, using(crate::proofs::Parsed::parsed, crate::proofs::Sizes::read_small, crate::proofs::Parsed::refused_deep, crate::proofs::Parsed::refused_unexpected, crate::proofs::Parsed::refused_unknown, crate::proofs::Parsed::refused_late, crate::proofs::Parsed::refused_tall))]
 fn parse_text(alloc: Global, text: &str) -> Result<Expr, ParseError>
     ensures parses { IfOk result (λ e. Parses text.now (tree_of e)) }
+    ensures small { IfOk result (λ e. size (tree_of e) ≤ 65536) }
     ensures refuses { IfErr result (IsRefused text.now) }
 {
     let tokens = match tokens(alloc, text) {
@@ -46,9 +47,10 @@ fn parse_text(alloc: Global, text: &str) -> Result<Expr, ParseError>
     }
 }
 
-/// The tree of a query's text, or the first refusal in the order of `ParseError`.
+/// The tree of a query's text, of at most 65,536 nodes, or the first refusal in the order of `ParseError`.
 pub fn parse(alloc: Global, text: &str) -> Result<Expr, ParseError>
     ensures parses { IfOk result (λ e. Parses text.now (tree_of e)) }
+    ensures small { IfOk result (λ e. size (tree_of e) ≤ 65536) }
     ensures refuses { IfErr result (IsRefused text.now) }
     ensures exact { (t : Tree) → Parses text.now t → IsAnswered t result }
 {
