@@ -1,5 +1,5 @@
 -- The legs of one node are that node over each shard, in order.
-use Rattle.std.proofs.Common.{◌≡◌, ℕ, zero, suc, ◌+◌, ◌*◌, ◌/◌, ◌%◌, ◌<◌, ℤ, List, ◌∷◌, ◌++◌, [], Option, Some, refl, ap, ◌∙◌, arith}
+use Rattle.std.proofs.Common.{◌≡◌, ℕ, zero, suc, ◌+◌, ◌*◌, ◌%◌, ◌<◌, ℤ, List, ◌∷◌, ◌++◌, [], Some, refl, ap, ◌∙◌, arith}
 use Rattle.std.proofs.lemmas.Nat.{div-mul-add, mod-mul-add}
 use Rattle.pf_base.specs.declared.plain.Row.{Row}
 use Rattle.pf_model.specs.declared.functions.AggOp.{AggOp}

@@ -1,55 +1,114 @@
 -- Worked examples of scripts, journals and reports, computed.
-use Rattle.std.proofs.Common.{◌≡◌, ℕ, pos, List, [], ◌∷◌, ◌++◌, refl, Some, None, Ok, Err, codes, true, false, Bool, cond, not, ◌&&◌}
+use Rattle.std.proofs.Common.{◌≡◌, ℕ, pos, List, [], ◌∷◌, refl, Some, None, Ok, Err, codes, true, false, cond}
 use Rattle.pf_base.specs.declared.plain.Limits.{Limits}
 use Rattle.std.specs.Str.{is_utf8}
 use Rattle.std.proofs.lemmas.Str.{is_utf8-from_IsUtf8}
 use Rattle.json.proofs.Printed.Utf8.{IsUtf8-are_ascii}
 use Rattle.std.specs.Fmt.{digits}
 use Rattle.pf_base.specs.Batches.{BatchData}
+use Rattle.std.specs.Str.{bytes_eq}
+use Rattle.pf_model.specs.declared.expr.Function.TheVariants as called
 use Rattle.pf_model.specs.declared.expr.Matcher.{Matcher}
-use Rattle.pf_model.specs.Direct.{Asked, direct}
-use Rattle.pf_model.specs.Exposition.{bad_line}
-use Rattle.pf_model.specs.Json.{answer_text}
-use Rattle.pf_model.specs.Log.{taken, repeated, differs, too_old}
-use Rattle.pf_model.specs.Machine.{Entry, append, delete, ask, full, answer}
-use Rattle.pf_model.specs.PlainSelectors.{equal, selector_of, labelled, asked_of}
+use Rattle.pf_model.specs.declared.expr.MatchSign.{MatchSign}
+use Rattle.pf_model.specs.declared.expr.MatchSign.TheVariants as match
+use Rattle.pf_model.specs.declared.functions.InstantFn.TheVariants as function
+use Rattle.pf_model.specs.declared.functions.RangeFn.TheVariants as ranged
+use Rattle.pf_model.specs.declared.functions.Sign.TheVariants as operator
+use Rattle.pf_model.specs.declared.expr.Side.TheVariants as side
+use Rattle.pf_model.specs.Direct.{Asked}
+use Rattle.pf_model.specs.ErrorTexts.{of_grammar, of_kinds, empty_selector, query_text}
+use Rattle.pf_model.specs.Log.{taken}
+use Rattle.pf_model.specs.Machine.{Entry, append, ask, answer}
+use Rattle.pf_model.specs.Queries.{Readings, asked_of, is_built, is_unbuilt, empty, lawful, no_selector, obstacle_of, pattern, refused, selecting, selector, with_pattern}
 use Rattle.pf_model.specs.Report.{report}
 use Rattle.json.specs.Print.{escape_byte}
 use Rattle.pf_model.specs.Scripts as script
-use Rattle.pf_model.specs.Scripts.{Numbered, behind_word, number_of, file_at, ingest_at, ingest_of, delete_of, ask_of, answer_of, line_of, lines_from, script_of}
-use Rattle.pf_model.specs.Trees.{instant}
-use Rattle.pf_model.specs.Weave.{Rest, Refused, at_line}
+use Rattle.pf_model.specs.Parsing.{bad_token, unexpected}
+use Rattle.pf_model.specs.Scripts.{Numbered, behind_word, number_of, file_at, ingest_at, ingest_of, delete_of, ask_of, answer_of, line_of, lines_from, script_of, text_of}
+use Rattle.pf_model.specs.Trees.{Tree, instant, no_mods}
+use Rattle.pf_model.specs.Trees as tree
+use Rattle.pf_model.specs.Typing.{bool_needed}
+use Rattle.pf_model.specs.Weave.{Rest}
 
 limits_of : ℕ → ℕ → Limits
 limits_of outstanding journal =
     record { outstanding = outstanding; window = 600000; interval = 86400000; shards = 4; extents = 256; journal = journal }
 
-whole : ℕ → Rest
-whole n = record { stops = record { ran = n; full = false; refused = [] } ∷ [] }
-
-feed : List ℕ
-feed = 10 ∷ []
+equal : List ℕ → List ℕ → Matcher
+equal label value = record { label = label; sign = match.Equal; text = value }
 
 up_job : List Matcher
 up_job = equal (codes "__name__") (codes "up") ∷ (equal (codes "job") (codes "a") ∷ [])
 
+-- the one query of the examples
+reads_up_job : Readings
+reads_up_job text = cond (bytes_eq text (codes "up{job=\"a\"}")) (Some (lawful (instant up_job))) None
+
+whole : ℕ → Rest
+whole n = record { stops = record { ran = n; full = false; refused = [] } ∷ []; readings = reads_up_job }
+
+feed : List ℕ
+feed = 10 ∷ []
+
 -- ---- queries
 
-a_name_is_a_query : selector_of (codes "up") ≡ Some (equal (codes "__name__") (codes "up") ∷ [])
-unfolding selector_of labelled
-a_name_is_a_query = refl
+one : MatchSign → List ℕ → List Matcher
+one sign value = record { label = codes "a"; sign = sign; text = value } ∷ []
 
-a_label_is_a_query : selector_of (codes "up{job=\"a\"}") ≡ Some up_job
-unfolding selector_of labelled up_job
-a_label_is_a_query = refl
+-- `{a!="b"}`
+refuses_nothing : obstacle_of (instant (one match.NotEqual (codes "b"))) ≡ Some (empty 0)
+unfolding one
+refuses_nothing = refl
 
-a_keyword_is_none : selector_of (codes "Sum{job=\"a\"}") ≡ None
-unfolding selector_of labelled
-a_keyword_is_none = refl
+-- `up{job="a"} + rate({a=""}[1m])`
+second_selector_is_empty : obstacle_of (tree.binary (record { sign = operator.Add; with_bool = false }) (record { on = false; labels = []; side = side.One; include = [] }) (instant up_job) (tree.call (called.Range ranged.Rate) (tree.more (tree.select (one match.Equal []) (Some 60000) no_mods) tree.none))) ≡ Some (empty 1)
+unfolding one up_job equal
+second_selector_is_empty = refl
 
-a_range_is_none : selector_of (codes "up[5m]") ≡ None
-unfolding selector_of labelled
-a_range_is_none = refl
+-- `label_replace({a=""}, "b", "c", "d", "e")`
+calls_are_counted : obstacle_of (tree.call (called.Instant function.LabelReplace) (tree.more (instant (one match.Equal [])) (tree.more (tree.text (codes "b")) tree.none))) ≡ Some pattern
+unfolding one
+calls_are_counted = refl
+
+-- `{a=~""}`
+pattern_is_not_built : is_unbuilt (obstacle_of (instant (one match.Like []))) (instant (one match.Like [])) ≡ true
+unfolding one
+pattern_is_not_built = refl
+
+-- `up{job="a"} offset 1s`, and `up{job="a"} offset 0s`
+offset_is_not_built : is_unbuilt (obstacle_of (tree.select up_job None (record { at = None; offset = pos 1000 }))) (tree.select up_job None (record { at = None; offset = pos 1000 })) ≡ true
+unfolding up_job equal
+offset_is_not_built = refl
+
+no_offset_is_built : is_built (lawful (tree.select up_job None (record { at = None; offset = pos 0 }))) ≡ true
+no_offset_is_built = refl
+
+instant_selector_is_one : selecting (instant up_job) ≡ selector up_job
+unfolding up_job equal
+instant_selector_is_one = refl
+
+range_selector_is_none : selecting (tree.select up_job (Some 60000) no_mods) ≡ no_selector
+range_selector_is_none = refl
+
+empty_selector_is_none : selecting (instant (one match.NotEqual (codes "b"))) ≡ no_selector
+unfolding one
+empty_selector_is_none = refl
+
+pattern_is_neither : selecting (instant (one match.NotLike (codes "b"))) ≡ with_pattern
+unfolding one
+pattern_is_neither = refl
+
+texts_of_refusals : query_text (of_grammar (bad_token 3)) ≡ codes "bad token at 3"
+unfolding digits
+texts_of_refusals = refl
+
+text_of_an_empty_selector : query_text (empty_selector 0) ≡ codes "selector 0 is empty"
+unfolding digits
+text_of_an_empty_selector = refl
+
+text_of_kinds : query_text (of_kinds (bool_needed 12)) ≡ codes "node 12: bool needed"
+unfolding digits
+text_of_kinds = refl
 
 -- ---- scripts
 
@@ -78,7 +137,7 @@ answer_is_text : is_utf8 (codes "answer q") ≡ true
 answer_is_text = is_utf8-from_IsUtf8 _ (IsUtf8-are_ascii _ refl)
 
 first_script_is_read : script_of first_text ≡ Some first_lines
-unfolding script_of lines_from line_of ingest_of ask_of answer_of behind_word number_of selector_of labelled
+unfolding script_of lines_from line_of ingest_of ask_of answer_of behind_word number_of text_of
 first_script_is_read = rw ingest_is_text (rw file_is_text (rw comment_is_text (rw ask_is_text (rw answer_is_text refl))))
 
 empty_script_is_read : script_of [] ≡ Some []
@@ -94,13 +153,17 @@ empty_report = refl
 abbrev first_asked : Asked
 first_asked = record { tree = instant up_job; grid = record { start = 60000; step = 60000; len = 3 } }
 
-first_query_is_read : asked_of 60000 180500 60000 (codes "up{job=\"a\"}") ≡ Ok first_asked
-unfolding selector_of labelled up_job
+first_query_is_read : asked_of reads_up_job 60000 180500 60000 (codes "up{job=\"a\"}") ≡ Some (Ok first_asked)
+unfolding reads_up_job
 first_query_is_read = refl
 
-no_step_is_refused : asked_of 0 0 0 (codes "up") ≡ Err (codes "zero step")
-unfolding selector_of
+-- the grid's refusal comes before the query's
+no_step_is_refused : asked_of (λ text. Some (refused (of_grammar (unexpected 2)))) 0 0 0 (codes "up") ≡ Some (Err (codes "zero step"))
 no_step_is_refused = refl
+
+query_is_refused : asked_of (λ text. Some (refused (of_grammar (unexpected 2)))) 0 0 1 (codes "up") ≡ Some (Err (codes "unexpected at 2"))
+unfolding digits
+query_is_refused = refl
 
 abbrev first_batch : BatchData
 first_batch = record { rows = record { labels = (codes "__name__", codes "up") ∷ (codes "job", codes "a") ∷ []; time = 60000; value = pos 1000000 } ∷ []; skipped = 0 }
@@ -113,5 +176,5 @@ first_journal =
 
 first_report : report (limits_of 100 4000000) (codes "acme" ∷ []) first_journal (first_lines ∷ []) (whole 3) ≡
     codes "client 0\n1 ingest acme taken 1 repeated 0 refused 0 skipped 0 entry 1\n4 ask q pin 1 place 1\n5 answer q 200 cached 0 evaluated 3\n{\"status\":\"success\",\"data\":{\"resultType\":\"matrix\",\"result\":[{\"metric\":{\"__name__\":\"up\",\"job\":\"a\"},\"values\":[[60,\"1\"],[120,\"1\"],[180,\"1\"]]}]}}\njournal 3\n0 client 0 line 1 append acme entry 1\n1 client 0 line 4 ask acme pin 1 generation 0 floor 0\n2 client 0 line 5 answer 1 200\n"
-unfolding limits_of whole up_job digits escape_byte
+unfolding limits_of whole up_job equal digits escape_byte
 first_report = refl

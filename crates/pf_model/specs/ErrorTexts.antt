@@ -8,6 +8,7 @@ use Rattle.pf_model.specs.declared.cell.ErrorKind.{ErrorKind}
 use Rattle.pf_model.specs.declared.cell.ErrorKind.TheVariants.{DoubleLabels, DoubleOnOneSide, ManyToMany, GroupingNotUnique}
 use Rattle.pf_model.specs.declared.expr.Kind.{Kind}
 use Rattle.pf_model.specs.declared.expr.Kind.TheVariants.{Scalar, Instant, Range, Text}
+use Rattle.pf_model.specs.Parsing.{Refusal, too_long, bad_token, too_deep, unexpected, unknown_name, time_too_large, too_tall}
 use Rattle.pf_model.specs.Typing.{Fault, arg_count, wrong, bad_name, bool_needed, bad_matching, subquery_too_fine}
 
 abbrev pub kind_text : ErrorKind → List ℕ
@@ -47,3 +48,31 @@ fault_text (bad_name n) = node_text n (codes ": bad label name")
 fault_text (bool_needed n) = node_text n (codes ": bool needed")
 fault_text (bad_matching n) = node_text n (codes ": bad matching")
 fault_text (subquery_too_fine n) = node_text n (codes ": subquery too fine")
+
+-- ---- queries
+
+abbrev pub refusal_text : Refusal → List ℕ
+refusal_text too_long = codes "query too long"
+refusal_text (bad_token at) = codes "bad token at " ++ decimal at
+refusal_text (too_deep at) = codes "nested too deep at " ++ decimal at
+refusal_text (unexpected at) = codes "unexpected at " ++ decimal at
+refusal_text (unknown_name at) = codes "unknown function at " ++ decimal at
+refusal_text (time_too_large at) = codes "time too large at " ++ decimal at
+refusal_text too_tall = codes "expression too tall"
+
+-- why a query is refused: by the grammar, for its kinds, for a pattern, or for a selector that accepts the empty text;
+-- selectors and calls of `label_replace` are counted together from 0, in preorder
+pub data QueryFault : Type 0 where
+  of_grammar : Refusal → QueryFault
+  of_kinds : Fault → QueryFault
+  refused_pattern : (which : ℕ) → QueryFault
+  empty_selector : (which : ℕ) → QueryFault
+
+abbrev pub query_text : QueryFault → List ℕ
+query_text (of_grammar refusal) = refusal_text refusal
+query_text (of_kinds fault) = fault_text fault
+query_text (refused_pattern which) = codes "pattern " ++ (decimal which ++ codes " refused")
+query_text (empty_selector which) = codes "selector " ++ (decimal which ++ codes " is empty")
+
+abbrev pub memory_text : List ℕ
+memory_text = codes "out of memory"

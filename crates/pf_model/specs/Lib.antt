@@ -2,11 +2,11 @@ pub mod Aggregation
 pub mod Canonical
 pub mod Cells
 pub mod Clauses
+pub mod Cuts
 pub mod Direct
 pub mod ErrorTexts
 pub mod Evaluation
 pub mod Exposition
-pub mod PlainSelectors
 pub mod Grammar
 pub mod InstantFunctions
 pub mod Json
@@ -21,6 +21,7 @@ pub mod Micros
 pub mod Outcomes
 pub mod Parsing
 pub mod Patterns
+pub mod Queries
 pub mod RangeFunctions
 pub mod Reach
 pub mod Report

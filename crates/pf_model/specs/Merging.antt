@@ -13,7 +13,7 @@ use Rattle.pf_model.specs.declared.functions.AggOp.TheVariants.{Sum, Avg, Min, M
 use Rattle.pf_model.specs.Cells.{distinct}
 use Rattle.pf_model.specs.Clauses.{Grouped}
 use Rattle.pf_model.specs.Evaluation.{called, eval, no_meaning}
-use Rattle.pf_model.specs.Legs.{LegsData, leg_part, GroupPart, PartData, whole, grouped, bad, node_part, of_shard}
+use Rattle.pf_model.specs.Legs.{LegsData, leg_part, GroupPart, PartData, grouped, bad, node_part, of_shard}
 use Rattle.pf_model.specs.Lists.{at}
 use Rattle.pf_model.specs.Outcomes.{Outcome, scalar, elements, text, signed, operation, aggregation, of_cell, step_cell}
 use Rattle.pf_model.specs.Micros.{units, least, greatest, total}

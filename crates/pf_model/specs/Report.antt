@@ -1,18 +1,18 @@
 -- The printed report: the replies to each client's lines, and the journal. This project's own.
-use Rattle.std.specs.Prelude.{ℕ, ◌+◌, ◌<◌, Bool, true, false, ◌||◌, Option, Some, None, Result, Ok, Err, List, [], ◌∷◌, ◌++◌, codes, cond, length, nat_lt, slice_get, unwrap_or, take}
+use Rattle.std.specs.Prelude.{ℕ, ◌+◌, Bool, true, false, ◌||◌, Option, Some, None, Result, Err, List, [], ◌∷◌, ◌++◌, codes, cond, length, nat_lt, slice_get, unwrap_or, take}
 use Rattle.std.specs.Fmt.{decimal}
 use Rattle.pf_base.specs.Grids.{maxt}
 use Rattle.pf_base.specs.NumberTexts.{value_text}
 use Rattle.pf_base.specs.declared.plain.Limits.{Limits}
 use Rattle.pf_model.specs.Direct.{Asked}
 use Rattle.pf_model.specs.ErrorTexts.{full_text, tenants_text}
-use Rattle.pf_model.specs.Exposition.{Fault, bad_line, late_line, too_many}
+use Rattle.pf_model.specs.Exposition.{bad_line, late_line, too_many}
 use Rattle.pf_model.specs.Json.{answer_text, error_text}
 use Rattle.pf_model.specs.Legal.{Moment, moments}
 use Rattle.pf_model.specs.Lists.{joined}
 use Rattle.pf_model.specs.Log.{Verdict, taken, too_old, repeated, differs}
 use Rattle.pf_model.specs.Machine.{What, append, delete, ask, full, no_tenant, cancel, answer, Entry, Open, open_at, answer_of}
-use Rattle.pf_model.specs.PlainSelectors.{asked_of}
+use Rattle.pf_model.specs.Queries.{Readings, asked_of}
 use Rattle.pf_model.specs.Scripts.{Line, Numbered}
 use Rattle.pf_model.specs.Scripts as script
 use Rattle.pf_model.specs.Weave.{Refusal, at_line, too_long, Rest, Stop, Turn, turn_of, what_of}
@@ -133,22 +133,23 @@ refused_code (full u outstanding) = codes "429"
 refused_code _ = codes "503"
 
 -- what the refusal of what was asked for says
-abbrev pub refusal_text_of : Result Asked (List ℕ) → List ℕ
-refusal_text_of (Ok asked) = []
-refusal_text_of (Err text) = text
+abbrev pub refusal_text_of : Option (Result Asked (List ℕ)) → List ℕ
+refusal_text_of (Some (Err text)) = text
+refusal_text_of _ = []
 
-abbrev pub asking_text : Option Line → List ℕ
-asking_text (Some (script.ask id tenant start end step query)) = refusal_text_of (asked_of start end step query)
-asking_text _ = []
+abbrev pub asking_text : Readings → Option Line → List ℕ
+asking_text readings (Some (script.ask id tenant start end step query)) = refusal_text_of (asked_of readings start end step query)
+asking_text readings _ = []
 
 -- the answer to a refused ask has no entry
-abbrev pub unanswered : ℕ → List ℕ → Option Line → Option What → List ℕ
-unanswered n id asking None = answered n id (codes "400") 0 0 (error_text (codes "bad_data") (asking_text asking))
-unanswered n id asking (Some what) = answered n id (refused_code what) 0 0 (refused_body what)
+abbrev pub unanswered : Readings → ℕ → List ℕ → Option Line → Option What → List ℕ
+unanswered readings n id asking None =
+    answered n id (codes "400") 0 0 (error_text (codes "bad_data") (asking_text readings asking))
+unanswered readings n id asking (Some what) = answered n id (refused_code what) 0 0 (refused_body what)
 
-abbrev pub answer_reply : Limits → ℕ → List ℕ → Turn → Option Moment → List ℕ
-answer_reply l n id t None = unanswered n id t.asking (what_of t.asked)
-answer_reply l n id t (Some x) = answered_by x.entry.what where
+abbrev pub answer_reply : Limits → Readings → ℕ → List ℕ → Turn → Option Moment → List ℕ
+answer_reply l readings n id t None = unanswered readings n id t.asking (what_of t.asked)
+answer_reply l readings n id t (Some x) = answered_by x.entry.what where
   answered_by : What → List ℕ
   answered_by (answer query code cached evaluated) =
       answered n id (decimal code) cached evaluated (body_of l (open_at query x.before.queries))
@@ -158,14 +159,14 @@ abbrev pub place_of : Option Moment → ℕ
 place_of None = 0
 place_of (Some x) = x.before.count
 
-abbrev pub reply_to : Limits → Turn → Line → List ℕ
-reply_to l t (script.ingest tenant file time) = ingest_reply t.line.number tenant t.refused (what_of t.mine)
-reply_to l t (script.delete tenant from to selector) = delete_reply t.line.number tenant from to (what_of t.mine)
-reply_to l t (script.ask id tenant start end step query) = ask_reply t.line.number id (place_of t.mine) (what_of t.mine)
-reply_to l t (script.answer id line) = answer_reply l t.line.number id t t.mine
+abbrev pub reply_to : Limits → Readings → Turn → Line → List ℕ
+reply_to l readings t (script.ingest tenant file time) = ingest_reply t.line.number tenant t.refused (what_of t.mine)
+reply_to l readings t (script.delete tenant from to selector) = delete_reply t.line.number tenant from to (what_of t.mine)
+reply_to l readings t (script.ask id tenant start end step query) = ask_reply t.line.number id (place_of t.mine) (what_of t.mine)
+reply_to l readings t (script.answer id line) = answer_reply l readings t.line.number id t t.mine
 
-abbrev pub reply_of : Limits → Turn → List ℕ
-reply_of l t = reply_to l t t.line.line
+abbrev pub reply_of : Limits → Readings → Turn → List ℕ
+reply_of l readings t = reply_to l readings t t.line.line
 
 -- the reply to the line that met the full journal
 abbrev pub journal_words : List (List ℕ)
@@ -183,17 +184,17 @@ stop_reply true None = []
 stop_reply true (Some l) = full_reply l.number l.line
 
 -- the part of each client
-abbrev pub client_text : Limits → List Moment → ℕ → List Numbered → Stop → List ℕ
-client_text l xs client lines stop =
+abbrev pub client_text : Limits → Readings → List Moment → ℕ → List Numbered → Stop → List ℕ
+client_text l readings xs client lines stop =
     line_text (codes "client" ∷ decimal client ∷ [])
-    ++ (joined (λ n. reply_of l (turn_of client xs stop.refused lines n)) (take stop.ran lines)
+    ++ (joined (λ n. reply_of l readings (turn_of client xs stop.refused lines n)) (take stop.ran lines)
     ++ stop_reply stop.full (slice_get lines stop.ran))
 
-abbrev pub clients_from : Limits → List Moment → ℕ → List (List Numbered) → List Stop → List ℕ
-clients_from l xs client [] stops = []
-clients_from l xs client (lines ∷ scripts) [] = []
-clients_from l xs client (lines ∷ scripts) (stop ∷ stops) =
-    client_text l xs client lines stop ++ clients_from l xs (client + 1) scripts stops
+abbrev pub clients_from : Limits → Readings → List Moment → ℕ → List (List Numbered) → List Stop → List ℕ
+clients_from l readings xs client [] stops = []
+clients_from l readings xs client (lines ∷ scripts) [] = []
+clients_from l readings xs client (lines ∷ scripts) (stop ∷ stops) =
+    client_text l readings xs client lines stop ++ clients_from l readings xs (client + 1) scripts stops
 
 -- ---- the journal
 
@@ -231,4 +232,4 @@ journal_text names journal = line_text (codes "journal" ∷ decimal (length jour
 -- the whole report
 abbrev pub report : Limits → List (List ℕ) → List Entry → List (List Numbered) → Rest → List ℕ
 report l names journal scripts rest =
-    clients_from l (moments journal) 0 scripts rest.stops ++ journal_text names journal
+    clients_from l rest.readings (moments journal) 0 scripts rest.stops ++ journal_text names journal

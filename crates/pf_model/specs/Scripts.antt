@@ -1,14 +1,14 @@
--- The lines of a script, and the texts of the forms that are built. This project's own; a query is one of PromQL's instant
--- selectors, a metric name or one with a label's value.
-use Rattle.std.specs.Prelude.{◌≡◌, ℕ, ◌+◌, ◌-◌, ◌*◌, Bool, true, false, ◌&&◌, ◌||◌, not, Option, Some, None, option_and_then, Result, Ok, Err, cond, List, [], ◌∷◌, length, codes, nat_eq, nat_le, nat_lt}
-use Rattle.std.specs.List.{list_all, list_any}
+-- The lines of a script, and the texts of the forms that are built. This project's own; a query and a selector may be any
+-- text that is not empty.
+use Rattle.std.specs.Prelude.{ℕ, ◌+◌, ◌-◌, ◌*◌, Bool, true, false, ◌&&◌, not, Option, Some, None, option_and_then, cond, List, [], ◌∷◌, length, codes, nat_eq, nat_le, nat_lt}
+use Rattle.std.specs.List.{list_all}
 use Rattle.std.specs.Char.{is_ascii_digit}
 use Rattle.std.specs.Str.{bytes_eq, is_utf8}
 use Rattle.pf_base.specs.Grids.{maxt}
 use Rattle.pf_base.specs.LabelSets.{is_empty, goes_on}
 use Rattle.pf_base.specs.Tenants.{is_tenant}
 use Rattle.pf_model.specs.Exposition.{file_lines, is_blank, are_blanks, is_word}
-use Rattle.pf_model.specs.PlainSelectors.{◌>>=◌, kept, Cut, with_front, selector_of}
+use Rattle.pf_model.specs.Cuts.{◌>>=◌, kept, Cut}
 
 -- ---- lines
 
@@ -60,6 +60,10 @@ only_word bytes = kept (is_word bytes) bytes
 abbrev pub without_blanks : List ℕ → List ℕ
 without_blanks [] = []
 without_blanks (b ∷ bs) = cond (are_blanks (b ∷ bs)) [] (b ∷ without_blanks bs)
+
+-- what stands there without the blanks at its end, and not empty
+unfoldable pub text_of : List ℕ → Option (List ℕ)
+text_of bytes = kept (not (is_empty (without_blanks bytes))) (without_blanks bytes)
 
 -- ---- numbers and names
 
@@ -133,8 +137,8 @@ delete_of words = do
   to ← next_word from.behind
   first ← number_of from.front
   last ← number_of to.front
-  matchers ← selector_of (without_blanks to.behind)
-  kept (is_tenant tenant.front) (delete tenant.front first last (without_blanks to.behind))
+  selector ← text_of to.behind
+  kept (is_tenant tenant.front) (delete tenant.front first last selector)
 
 -- `ask ID TENANT START END STEP QUERY`, with an ID that is new
 abbrev pub is_new : List ℕ → List Issued → Bool
@@ -151,9 +155,9 @@ ask_of is words = do
   start ← number_of first.front
   end ← number_of last.front
   step ← number_of by.front
-  matchers ← selector_of (without_blanks by.behind)
+  query ← text_of by.behind
   kept (is_id id.front && is_new id.front is && is_tenant tenant.front)
-      (ask id.front tenant.front start end step (without_blanks by.behind))
+      (ask id.front tenant.front start end step query)
 
 -- `answer ID`, with an ID that was asked and not answered
 abbrev pub answer_with : Option Issued → Option Line

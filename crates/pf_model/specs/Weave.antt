@@ -9,8 +9,8 @@ use Rattle.pf_model.specs.Exposition.{Fault, bad_line, late_line, file_lines, St
 use Rattle.pf_model.specs.Exposition as exposition
 use Rattle.pf_model.specs.Legal.{Moment, moments, machine_after}
 use Rattle.pf_model.specs.Lists.{Each}
-use Rattle.pf_model.specs.Machine.{Machine, What, append, delete, ask, full, no_tenant, cancel, answer, Entry, started, reserved}
-use Rattle.pf_model.specs.PlainSelectors.{asked_of, selector_of}
+use Rattle.pf_model.specs.Machine.{What, append, delete, ask, full, no_tenant, cancel, answer, Entry, started, reserved}
+use Rattle.pf_model.specs.Queries.{IsNoSelector, IsReading, IsSelector, Reading, Readings, asked_of}
 use Rattle.pf_model.specs.Scripts.{Line, Numbered, most_bytes}
 use Rattle.pf_model.specs.Scripts as script
 
@@ -18,6 +18,11 @@ use Rattle.pf_model.specs.Scripts as script
 
 abbrev pub Files : Type 0
 Files = List ℕ → Option (List ℕ)
+
+-- what lines are judged by: what files hold, and how queries are read
+pub record Known : Type 0 where
+  pub files : Files
+  pub readings : Readings
 
 -- why a file is refused: a line of it is at fault, or it is longer than the greatest length
 pub data Refusal : Type 0 where
@@ -47,9 +52,10 @@ pub record Stop : Type 0 where
   pub full : Bool
   pub refused : List Refused
 
--- one stop for each client
+-- one stop for each client, and how the queries of their scripts are read
 pub record Rest : Type 0 where
   pub stops : List Stop
+  pub readings : Readings
 
 -- ---- turns
 
@@ -124,9 +130,9 @@ IsOfAsk None query = ⊥
 IsOfAsk (Some x) query = query ≡ x.before.count
 
 -- what is asked for is not refused
-abbrev pub IsAsked : Result Asked (List ℕ) → Type 0
-IsAsked (Ok asked) = Unit {0}
-IsAsked (Err text) = ⊥
+abbrev pub IsAsked : Option (Result Asked (List ℕ)) → Type 0
+IsAsked (Some (Ok asked)) = Unit {0}
+IsAsked _ = ⊥
 
 -- an entry is of its line's kind and carries the line's arguments
 abbrev pub FitsIngest : Option (List ℕ) → ℕ → What → Type 0
@@ -134,14 +140,14 @@ FitsIngest file time (append u batch vs entry) = Gives file time batch
 FitsIngest file time (no_tenant name) = (batch : BatchData) × Gives file time batch
 FitsIngest file time _ = ⊥
 
-abbrev pub FitsDelete : ℕ → ℕ → Option (List Matcher) → What → Type 0
-FitsDelete from to matchers (delete u ms from' to' generation entry) =
-    IsRange from to × (matchers ≡ Some ms) × (from' ≡ from) × (to' ≡ to)
-FitsDelete from to matchers (no_tenant name) = IsRange from to × ((ms : List Matcher) × (matchers ≡ Some ms))
-FitsDelete from to matchers _ = ⊥
+abbrev pub FitsDelete : ℕ → ℕ → (selector : List ℕ) → What → Type 0
+FitsDelete from to selector (delete u ms from' to' generation entry) =
+    IsRange from to × IsSelector selector ms × (from' ≡ from) × (to' ≡ to)
+FitsDelete from to selector (no_tenant name) = IsRange from to × ((ms : List Matcher) × IsSelector selector ms)
+FitsDelete from to selector _ = ⊥
 
-abbrev pub FitsAsk : Result Asked (List ℕ) → What → Type 0
-FitsAsk wanted (ask u asked pin generation floor) = wanted ≡ Ok asked
+abbrev pub FitsAsk : Option (Result Asked (List ℕ)) → What → Type 0
+FitsAsk wanted (ask u asked pin generation floor) = wanted ≡ Some (Ok asked)
 FitsAsk wanted (full u outstanding) = IsAsked wanted
 FitsAsk wanted (no_tenant name) = IsAsked wanted
 FitsAsk wanted _ = ⊥
@@ -150,13 +156,13 @@ abbrev pub FitsAnswer : Option Moment → What → Type 0
 FitsAnswer asked (answer query code cached evaluated) = IsOfAsk asked query
 FitsAnswer asked _ = ⊥
 
-abbrev pub Fits : Files → List (List ℕ) → Line → Option Moment → What → Type 0
-Fits files names (script.ingest tenant file time) asked what = IsNamed names tenant what × FitsIngest (files file) time what
-Fits files names (script.delete tenant from to selector) asked what =
-    IsNamed names tenant what × FitsDelete from to (selector_of selector) what
-Fits files names (script.ask id tenant start end step query) asked what =
-    IsNamed names tenant what × FitsAsk (asked_of start end step query) what
-Fits files names (script.answer id line) asked what = FitsAnswer asked what
+abbrev pub Fits : Known → List (List ℕ) → Line → Option Moment → What → Type 0
+Fits known names (script.ingest tenant file time) asked what = IsNamed names tenant what × FitsIngest (known.files file) time what
+Fits known names (script.delete tenant from to selector) asked what =
+    IsNamed names tenant what × FitsDelete from to selector what
+Fits known names (script.ask id tenant start end step query) asked what =
+    IsNamed names tenant what × FitsAsk (asked_of known.readings start end step query) what
+Fits known names (script.answer id line) asked what = FitsAnswer asked what
 
 -- ---- lines without an entry
 
@@ -165,12 +171,12 @@ abbrev pub HasRefusal : Option (List ℕ) → ℕ → Option Refusal → Type 0
 HasRefusal file time None = ⊥
 HasRefusal file time (Some refusal) = IsRefusedAs file time refusal
 
-abbrev pub IsNoDelete : ℕ → ℕ → Option (List Matcher) → Type 0
-IsNoDelete from to matchers = (to < from) ⊎ ((maxt < to) ⊎ (matchers ≡ None))
+abbrev pub IsNoDelete : ℕ → ℕ → (selector : List ℕ) → Type 0
+IsNoDelete from to selector = (to < from) ⊎ ((maxt < to) ⊎ IsNoSelector selector)
 
-abbrev pub IsNoAsk : Result Asked (List ℕ) → Type 0
-IsNoAsk (Ok asked) = ⊥
-IsNoAsk (Err text) = Unit {0}
+abbrev pub IsNoAsk : Option (Result Asked (List ℕ)) → Type 0
+IsNoAsk (Some (Err text)) = Unit {0}
+IsNoAsk _ = ⊥
 
 abbrev pub IsNoQuery : Option What → Type 0
 IsNoQuery None = Unit {0}
@@ -181,19 +187,19 @@ abbrev pub what_of : Option Moment → Option What
 what_of None = None
 what_of (Some x) = Some x.entry.what
 
-abbrev pub Excepted : Files → Turn → Line → Type 0
-Excepted files t (script.ingest tenant file time) = HasRefusal (files file) time t.refused
-Excepted files t (script.delete tenant from to selector) = IsNoDelete from to (selector_of selector)
-Excepted files t (script.ask id tenant start end step query) = IsNoAsk (asked_of start end step query)
-Excepted files t (script.answer id line) = IsNoQuery (what_of t.asked)
+abbrev pub Excepted : Known → Turn → Line → Type 0
+Excepted known t (script.ingest tenant file time) = HasRefusal (known.files file) time t.refused
+Excepted known t (script.delete tenant from to selector) = IsNoDelete from to selector
+Excepted known t (script.ask id tenant start end step query) = IsNoAsk (asked_of known.readings start end step query)
+Excepted known t (script.answer id line) = IsNoQuery (what_of t.asked)
 
 -- a line's entry fits the line, or the line is one that has none
-abbrev pub IsMatched : Files → List (List ℕ) → Turn → Option Moment → Type 0
-IsMatched files names t None = Excepted files t t.line.line
-IsMatched files names t (Some x) = Fits files names t.line.line t.asked x.entry.what
+abbrev pub IsMatched : Known → List (List ℕ) → Turn → Option Moment → Type 0
+IsMatched known names t None = Excepted known t t.line.line
+IsMatched known names t (Some x) = Fits known names t.line.line t.asked x.entry.what
 
-abbrev pub IsWoven : Files → List (List ℕ) → Turn → Type 0
-IsWoven files names t = IsMatched files names t t.mine
+abbrev pub IsWoven : Known → List (List ℕ) → Turn → Type 0
+IsWoven known names t = IsMatched known names t t.mine
 
 -- ---- the journal and the lines
 
@@ -209,34 +215,34 @@ IsLineOf (l ∷ ls) n = (l.number ≡ n) ⊎ IsLineOf ls n
 
 -- a line that would have had an entry, and the number of entries that it wants room for: an ask keeps room for its cancel
 -- and its answer
-abbrev pub WantsRoom : Files → Line → ℕ → Type 0
-WantsRoom files (script.ingest tenant file time) n = (n ≡ 1) × ((batch : BatchData) × Gives (files file) time batch)
-WantsRoom files (script.delete tenant from to selector) n = (n ≡ 1) × (IsRange from to × ((ms : List Matcher) × (selector_of selector ≡ Some ms)))
-WantsRoom files (script.ask id tenant start end step query) n = (n ≡ 3) × IsAsked (asked_of start end step query)
-WantsRoom files (script.answer id line) n = ⊥
+abbrev pub WantsRoom : Known → Line → ℕ → Type 0
+WantsRoom known (script.ingest tenant file time) n = (n ≡ 1) × ((batch : BatchData) × Gives (known.files file) time batch)
+WantsRoom known (script.delete tenant from to selector) n = (n ≡ 1) × (IsRange from to × ((ms : List Matcher) × IsSelector selector ms))
+WantsRoom known (script.ask id tenant start end step query) n = (n ≡ 3) × IsAsked (asked_of known.readings start end step query)
+WantsRoom known (script.answer id line) n = ⊥
 
 -- a front of the journal that has all of a client's entries leaves too little room for a line
-pub record MetFull (files : Files) (limits : Limits) (journal : List Entry) (client : ℕ) (line : Line) : Type 0 where
+pub record MetFull (known : Known) (limits : Limits) (journal : List Entry) (client : ℕ) (line : Line) : Type 0 where
   pub front : ℕ
   pub has_all : Each (λ e. e.client ≡ client → ⊥) (drop front journal)
   pub wanted : ℕ
-  pub wants : WantsRoom files line wanted
+  pub wants : WantsRoom known line wanted
   pub over : limits.journal
       < (machine_after started (take front journal)).count + reserved (machine_after started (take front journal)).queries + wanted
 
 -- a client stops at its script's end, or at the line that met the full journal
-abbrev pub StopsAt : Files → Limits → List Entry → ℕ → Option Numbered → Bool → Type 0
-StopsAt files limits journal client None false = Unit {0}
-StopsAt files limits journal client (Some l) true = MetFull files limits journal client l.line
-StopsAt files limits journal client _ _ = ⊥
+abbrev pub StopsAt : Known → Limits → List Entry → ℕ → Option Numbered → Bool → Type 0
+StopsAt known limits journal client None false = Unit {0}
+StopsAt known limits journal client (Some l) true = MetFull known limits journal client l.line
+StopsAt known limits journal client _ _ = ⊥
 
 -- one client's lines and the journal
-pub record Woven (files : Files) (limits : Limits) (names : List (List ℕ)) (journal : List Entry) (client : ℕ)
+pub record Woven (known : Known) (limits : Limits) (names : List (List ℕ)) (journal : List Entry) (client : ℕ)
     (lines : List Numbered) (stop : Stop) : Type 0 where
   pub rising : Rises client 0 journal
-  pub known : Each (λ e. e.client ≡ client → IsLineOf (take stop.ran lines) e.line) journal
-  pub each : Each (λ l. IsWoven files names (turn_of client (moments journal) stop.refused lines l)) (take stop.ran lines)
-  pub stops : StopsAt files limits journal client (slice_get lines stop.ran) stop.full
+  pub lined : Each (λ e. e.client ≡ client → IsLineOf (take stop.ran lines) e.line) journal
+  pub each : Each (λ l. IsWoven known names (turn_of client (moments journal) stop.refused lines l)) (take stop.ran lines)
+  pub stops : StopsAt known limits journal client (slice_get lines stop.ran) stop.full
 
 -- the journal holds the entries of the scripts' lines and no others; a script is known by its place
 pub record Weave (files : Files) (limits : Limits) (names : List (List ℕ)) (journal : List Entry)
@@ -244,5 +250,6 @@ pub record Weave (files : Files) (limits : Limits) (names : List (List ℕ)) (jo
   pub many : length rest.stops ≡ length scripts
   pub each : (client : ℕ) (lines : List Numbered) (stop : Stop)
       → slice_get scripts client ≡ Some lines → slice_get rest.stops client ≡ Some stop
-      → Woven files limits names journal client lines stop
+      → Woven (record { files = files; readings = rest.readings }) limits names journal client lines stop
+  pub read : (text : List ℕ) (r : Reading) → rest.readings text ≡ Some r → IsReading text r
   pub nobody_else : Each (λ e. e.client < length scripts) journal

@@ -4,7 +4,7 @@ use Rattle.std.specs.Prelude.{option_and_then}
 use Rattle.std.specs.Option.{is_some}
 use Rattle.std.specs.Str.{bytes_eq, is_utf8}
 use Rattle.pf_base.specs.Tenants.{is_tenant}
-use Rattle.pf_model.specs.PlainSelectors.{kept, selector_of}
+use Rattle.pf_model.specs.Cuts.{kept}
 use Rattle.pf_model.specs.Scripts.{Issued, Line, ingest, delete, ask, answer, answer_of, answer_with, ask_of, is_id, is_new, is_passed, issued_after, issued_as, line_of, line_with, lines_from, next_word, only_word, with_line}
 use Rattle.pf_script.specs.IdLists.{Alike}
 use Rattle.pf_script.specs.LineCuts.{AskWords, ask_with, ask_words}
@@ -30,7 +30,7 @@ new_alike is js a id = new_is id is ∙ ap (λ o. not (is_some o)) (a id) ∙ sy
 
 ask_with_alike : (is js : List Issued) → Alike is js → (w : AskWords) → ask_with is w ≡ ask_with js w
 ask_with_alike is js a w =
-    ap (λ b. option_and_then (λ matchers. kept (is_id w.id && b && is_tenant w.tenant) (ask w.id w.tenant w.start w.end w.step w.query)) (selector_of w.query)) (new_alike is js a w.id)
+    ap (λ b. kept (is_id w.id && b && is_tenant w.tenant) (ask w.id w.tenant w.start w.end w.step w.query)) (new_alike is js a w.id)
 
 ask_alike : (is js : List Issued) → Alike is js → (words : List ℕ) → ask_of is words ≡ ask_of js words
 ask_alike is js a words = sym (ask_is is words) ∙ then_alike (ask_words words) (ask_with is) (ask_with js) (ask_with_alike is js a) ∙ ask_is js words

@@ -1,7 +1,7 @@
 -- Cuts at a byte.
 use Rattle.std.proofs.Common.{◌≡◌, ◌∙◌, ℕ, suc, ◌+◌, ◌-◌, Bool, true, false, cond, Option, Some, None, option_map, List, [], ◌∷◌, length, take, drop, nat_eq, refl, sym, ap, add-one}
 use Rattle.std.specs.List.{position}
-use Rattle.pf_model.specs.PlainSelectors.{Cut, cut_at, with_front}
+use Rattle.pf_model.specs.Cuts.{Cut, cut_at, with_front}
 use Rattle.pf_script.proofs.Places.{place, position_is, rest_taken}
 
 abbrev parts_at : ℕ → List ℕ → Cut

@@ -4,7 +4,7 @@ use Rattle.std.specs.Char.{is_ascii_digit}
 use Rattle.std.specs.List.{list_all}
 use Rattle.std.proofs.lemmas.Bool.Decides.{nat_tests}
 use Rattle.pf_base.specs.LabelSets.{is_empty}
-use Rattle.pf_model.specs.PlainSelectors.{kept}
+use Rattle.pf_model.specs.Cuts.{kept}
 use Rattle.pf_model.specs.Scripts.{digits_onto, number_of}
 
 -- more digits only make a number greater

@@ -2,8 +2,8 @@
 use Rattle.std.proofs.Common.{◌≡◌, ◌∙◌, ℕ, ◌<◌, Bool, true, false, ◌&&◌, cond, Option, Some, None, List, [], ◌∷◌, ◌++◌, length, nat_eq, refl, sym, ap, subst, arith}
 use Rattle.std.proofs.lemmas.Bool.Decides.{nat_tests}
 use Rattle.pf_base.specs.LabelSets.{is_empty}
+use Rattle.pf_model.specs.Cuts.{Cut, cut_at, with_front}
 use Rattle.pf_model.specs.Exposition.{begins_with, file_lines, onto_first}
-use Rattle.pf_model.specs.PlainSelectors.{Cut, cut_at, with_front}
 use Rattle.pf_script.specs.Cuts.{without_return}
 
 -- ---- a carriage return at the end

@@ -8,16 +8,15 @@ use Rattle.std.proofs.lemmas.Slice.Eq.{bytes_eq-Decides}
 use Rattle.std.specs.Str.{bytes_eq, is_utf8}
 use Rattle.pf_base.specs.Grids.{maxt}
 use Rattle.pf_base.specs.Tenants.{is_tenant}
+use Rattle.pf_model.specs.Cuts.{kept}
 use Rattle.pf_model.specs.Exposition.{file_lines}
 use Rattle.pf_model.specs.Lists.{Each}
-use Rattle.pf_model.specs.PlainSelectors.{kept, selector_of}
-use Rattle.pf_model.specs.Scripts.{Issued, Line, Numbered, ingest, delete, ask, answer, answer_of, answer_with, answered_as, ask_of, behind_word, delete_of, file_at, ingest_at, ingest_of, ingest_with, is_id, is_new, is_passed, issued_after, issued_as, line_of, line_with, lines_from, most_bytes, next_word, number_of, only_word, script_of, with_line, without_blanks}
+use Rattle.pf_model.specs.Scripts.{Issued, Line, Numbered, ingest, delete, ask, answer, answer_of, answer_with, answered_as, ask_of, behind_word, delete_of, file_at, ingest_at, ingest_of, ingest_with, is_id, is_new, is_passed, issued_after, issued_as, line_of, line_with, lines_from, most_bytes, next_word, number_of, only_word, script_of, text_of, with_line}
 use Rattle.pf_model.specs.Weave.{asking_line, line_at}
 use Rattle.pf_script.specs.LineCuts.{AskWords, ask_with, ask_words}
 use Rattle.pf_script.specs.Lines.{AllFollow, Follows, IsAsk, NamesAsk}
-use Rattle.pf_script.proofs.AsciiTexts.{bind_some}
 use Rattle.pf_script.proofs.IdLists.{marked}
-use Rattle.pf_script.proofs.LineTexts.{ask_is}
+use Rattle.pf_script.proofs.LineTexts.{ask_is, bind_some}
 
 -- ---- facts of each element
 
@@ -77,13 +76,11 @@ unfolding delete_of
 delete_fair is words =
     then_all (Fair is) (next_word words) _ (λ tenant. then_all (Fair is) (next_word tenant.behind) _ (λ from. then_all (Fair is) (next_word from.behind) _ (λ to.
     then_all (Fair is) (number_of from.front) _ (λ first. then_all (Fair is) (number_of to.front) _ (λ last.
-    then_all (Fair is) (selector_of (without_blanks to.behind)) _ (λ matchers.
-    kept_all (Fair is) (is_tenant tenant.front) (delete tenant.front first last (without_blanks to.behind)) (λ h. tt)))))))
+    then_all (Fair is) (text_of to.behind) _ (λ selector.
+    kept_all (Fair is) (is_tenant tenant.front) (delete tenant.front first last selector) (λ h. tt)))))))
 
 ask_with_fair : (is : List Issued) (w : AskWords) → IfSome (ask_with is w) (Fair is)
-ask_with_fair is w =
-    then_all (Fair is) (selector_of w.query) _ (λ matchers.
-    kept_all (Fair is) (is_id w.id && is_new w.id is && is_tenant w.tenant) (ask w.id w.tenant w.start w.end w.step w.query) (λ h. tt))
+ask_with_fair is w = kept_all (Fair is) (is_id w.id && is_new w.id is && is_tenant w.tenant) (ask w.id w.tenant w.start w.end w.step w.query) (λ h. tt)
 
 ask_fair : (is : List Issued) (words : List ℕ) → IfSome (ask_of is words) (Fair is)
 ask_fair is words = subst (λ (o : Option Line). IfSome o (Fair is)) (ask_is is words) (then_all (Fair is) (ask_words words) (ask_with is) (ask_with_fair is))

@@ -5,7 +5,6 @@ use Rattle.std.proofs.lemmas.Bool.{le-leb, lt-leb}
 use Rattle.pf_model.specs.Exposition.{file_lines}
 use Rattle.pf_model.specs.Lists.{Each}
 use Rattle.pf_model.specs.Scripts.{Issued, Line, Numbered, is_passed, issued_after, line_of, lines_from, script_of, with_line}
-use Rattle.pf_script.specs.IdLists.{AreTexts}
 use Rattle.pf_script.specs.LineCuts.{Adds, issued_with, numbered, read_of}
 use Rattle.pf_script.specs.Lines.{IsRead, Reads, numbered_of}
 use Rattle.pf_script.specs.declared.fault.ScriptError.{ScriptError}
@@ -55,12 +54,11 @@ from_none n is = refl
 -- what was read of a script before its rest
 pub record Going (bytes rest : List ℕ) (number : ℕ) (is : List Issued) (lines : List NumberedLine) : Type 0 where
   pub exact : lines_from 1 [] (file_lines bytes) ≡ onto (map numbered_of lines) (lines_from (number + 1) is (file_lines rest))
-  pub texts : AreTexts is
   pub read : Each IsRead lines
 
 pub going_first : (bytes : List ℕ) (is : List Issued) (lines : List NumberedLine) → is ≡ [] → lines ≡ [] → Going bytes bytes 0 is lines
 going_first bytes is lines e h =
-    rw (e, h) (record { exact = onto_nothing (lines_from 1 [] (file_lines bytes)); texts = λ id f. absurd (f refl); read = tt })
+    rw (e, h) (record { exact = onto_nothing (lines_from 1 [] (file_lines bytes)); read = tt })
 
 pub going_more : (bytes rest text behind : List ℕ) (number next : ℕ) (is js : List Issued) (lines new : List NumberedLine) → Going bytes rest number is lines
     → file_lines rest ≡ text ∷ file_lines behind → next ≡ number + 1 → Adds next text is js lines new → Going bytes behind next js new
@@ -73,7 +71,6 @@ going_more bytes rest text behind number next is js lines new g e m a = record {
       ∙ onto_onto (map numbered_of lines) (numbered next a.given) (lines_from (next + 1) (issued_with next a.given is) (file_lines behind))
       ∙ ap (λ ls. onto ls (lines_from (next + 1) (issued_with next a.given is) (file_lines behind))) (sym a.lines)
       ∙ ap (onto (map numbered_of new)) (lines_alike (next + 1) (issued_with next a.given is) js (file_lines behind) a.alike);
-  texts = a.texts;
   read = a.read g.read;
 }
 

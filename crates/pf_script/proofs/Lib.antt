@@ -1,5 +1,4 @@
 pub mod Alike
-pub mod AsciiTexts
 pub mod Blanks
 pub mod ByteCuts
 pub mod Digits
@@ -9,4 +8,3 @@ pub mod Going
 pub mod IdLists
 pub mod LineTexts
 pub mod Places
-pub mod Selectors

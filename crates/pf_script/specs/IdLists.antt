@@ -1,6 +1,5 @@
 -- What the IDs so far mean: this project's own.
-use Rattle.std.specs.Prelude.{◌≡◌, ℕ, true, None, map, List}
-use Rattle.std.specs.Str.{is_utf8}
+use Rattle.std.specs.Prelude.{◌≡◌, ℕ, map, List}
 use Rattle.pf_model.specs.Scripts.{Issued, Line, issued_after, issued_as}
 use Rattle.pf_script.specs.declared.ids.Asked.{Asked}
 use Rattle.pf_script.specs.declared.ids.Ids.{Ids}
@@ -16,10 +15,6 @@ issued_in i = map issued_by i.asked.entries
 -- two lists say the same of each ID
 abbrev pub Alike : List Issued → List Issued → Type 0
 Alike is js = (id : List ℕ) → issued_as id is ≡ issued_as id js
-
--- each ID is a text
-abbrev pub AreTexts : List Issued → Type 0
-AreTexts is = (id : List ℕ) → (issued_as id is ≡ None → ⊥) → is_utf8 id ≡ true
 
 -- a line that issues no ID and answers none
 abbrev pub IsIdle : Line → Type 0

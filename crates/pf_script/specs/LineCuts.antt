@@ -1,10 +1,10 @@
 -- The words of lines: this project's own.
-use Rattle.std.specs.Prelude.{◌≡◌, ℕ, ◌&&◌, cond, Option, Some, None, option_and_then, option_map, map, List, [], ◌∷◌, ◌++◌}
+use Rattle.std.specs.Prelude.{◌≡◌, ℕ, ◌&&◌, cond, Option, Some, None, option_map, map, List, [], ◌∷◌, ◌++◌}
 use Rattle.pf_base.specs.Tenants.{is_tenant}
-use Rattle.pf_model.specs.PlainSelectors.{◌>>=◌, kept, selector_of}
+use Rattle.pf_model.specs.Cuts.{◌>>=◌, kept}
 use Rattle.pf_model.specs.Lists.{Each}
-use Rattle.pf_model.specs.Scripts.{Issued, Line, Numbered, ask, delete, is_id, is_new, is_passed, issued_after, line_of, next_word, number_of, without_blanks}
-use Rattle.pf_script.specs.IdLists.{Alike, AreTexts}
+use Rattle.pf_model.specs.Scripts.{Issued, Line, Numbered, ask, delete, is_id, is_new, is_passed, issued_after, line_of, next_word, number_of, text_of}
+use Rattle.pf_script.specs.IdLists.{Alike}
 use Rattle.pf_script.specs.Lines.{IsRead, numbered_of}
 use Rattle.pf_script.specs.declared.lines.AskCut.{AskCut}
 use Rattle.pf_script.specs.declared.lines.DeleteCut.{DeleteCut}
@@ -25,10 +25,11 @@ delete_words words = do
   to ← next_word from.behind
   first ← number_of from.front
   last ← number_of to.front
-  Some (record { tenant = tenant.front; from = first; to = last; selector = without_blanks to.behind })
+  selector ← text_of to.behind
+  Some (record { tenant = tenant.front; from = first; to = last; selector = selector })
 
 abbrev pub delete_with : DeleteWords → Option Line
-delete_with w = option_and_then (λ matchers. kept (is_tenant w.tenant) (delete w.tenant w.from w.to w.selector)) (selector_of w.selector)
+delete_with w = kept (is_tenant w.tenant) (delete w.tenant w.from w.to w.selector)
 
 abbrev pub delete_in : DeleteCut → DeleteWords
 delete_in c = record { tenant = c.tenant.now; from = c.from; to = c.to; selector = c.selector.now }
@@ -53,11 +54,11 @@ ask_words words = do
   start ← number_of first.front
   end ← number_of last.front
   step ← number_of by.front
-  Some (record { id = id.front; tenant = tenant.front; start = start; end = end; step = step; query = without_blanks by.behind })
+  query ← text_of by.behind
+  Some (record { id = id.front; tenant = tenant.front; start = start; end = end; step = step; query = query })
 
 abbrev pub ask_with : List Issued → AskWords → Option Line
-ask_with is w =
-    option_and_then (λ matchers. kept (is_id w.id && is_new w.id is && is_tenant w.tenant) (ask w.id w.tenant w.start w.end w.step w.query)) (selector_of w.query)
+ask_with is w = kept (is_id w.id && is_new w.id is && is_tenant w.tenant) (ask w.id w.tenant w.start w.end w.step w.query)
 
 abbrev pub ask_in : AskCut → AskWords
 ask_in c = record { id = c.id.now; tenant = c.tenant.now; start = c.start; end = c.end; step = c.step; query = c.query.now }
@@ -82,6 +83,5 @@ pub record Adds (n : ℕ) (text : List ℕ) (is js : List Issued) (old new : Lis
   pub given : Option Line
   pub is_read : read_of is text ≡ Some given
   pub alike : Alike (issued_with n given is) js
-  pub texts : AreTexts js
   pub lines : map numbered_of new ≡ map numbered_of old ++ numbered n given
   pub read : Each IsRead old → Each IsRead new

@@ -1,9 +1,7 @@
 -- What is read of a script: this project's own.
 use Rattle.std.specs.Prelude.{◌≡◌, ℕ, ◌<◌, ◌≤◌, Option, Some, None, Result, Ok, Err, map, List, [], ◌∷◌, ◌++◌}
-use Rattle.std.specs.Arc.{arc_value}
 use Rattle.pf_base.specs.Grids.{maxt}
 use Rattle.pf_model.specs.Lists.{Each}
-use Rattle.pf_model.specs.PlainSelectors.{selector_of}
 use Rattle.pf_model.specs.Scripts as script
 use Rattle.pf_model.specs.Scripts.{Numbered}
 use Rattle.pf_model.specs.Weave.{asking_line, line_at}
@@ -22,8 +20,8 @@ Reads view (Err OutOfMemory) read = Unit {0}
 
 abbrev pub line_of : Line → script.Line
 line_of (Ingest tenant file time) = script.ingest tenant file time
-line_of (Delete tenant from to selector matchers) = script.delete tenant from to selector
-line_of (Ask id tenant start end step query matchers) = script.ask id tenant start end step query
+line_of (Delete tenant from to selector) = script.delete tenant from to selector
+line_of (Ask id tenant start end step query) = script.ask id tenant start end step query
 line_of (Answer id asked) = script.answer id asked
 
 abbrev pub numbered_of : NumberedLine → Numbered
@@ -32,11 +30,11 @@ numbered_of l = record { number = l.number; line = line_of l.line }
 abbrev pub lines_of : Script → List Numbered
 lines_of s = map numbered_of s.lines.items
 
--- a line's matchers are those of its text
+-- the time of a file's samples is one that a sample may have
 abbrev pub IsReadLine : Line → Type 0
 IsReadLine (Ingest tenant file time) = time ≤ maxt
-IsReadLine (Delete tenant from to selector matchers) = selector_of selector ≡ Some (arc_value matchers)
-IsReadLine (Ask id tenant start end step query matchers) = selector_of query ≡ Some (arc_value matchers)
+IsReadLine (Delete tenant from to selector) = Unit {0}
+IsReadLine (Ask id tenant start end step query) = Unit {0}
 IsReadLine (Answer id asked) = Unit {0}
 
 abbrev pub IsRead : NumberedLine → Type 0

@@ -9,7 +9,6 @@ mod ids;
 mod lines;
 mod read;
 mod script;
-mod selector;
 mod words;
 
 pub use fault::ScriptError;

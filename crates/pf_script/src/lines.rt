@@ -1,15 +1,15 @@
 //! Lines of a script, one function for each verb.
 
-ghost use Rattle.std.specs.Prelude.{◌≡◌, ℕ, ◌≤◌, IfOk, IfSome, List, OnOk, option_map, true};
+ghost use Rattle.std.specs.Prelude.{◌≡◌, ℕ, ◌≤◌, IfOk, IfSome, List, option_map};
 ghost use Rattle.std.specs.List.{list_all};
 ghost use Rattle.std.specs.Str.{is_utf8};
 ghost use Rattle.pf_base.specs.Grids.{maxt};
 ghost use Rattle.pf_base.specs.LabelSets.{goes_on};
 ghost use Rattle.pf_base.specs.Tenants.{is_tenant};
-ghost use Rattle.pf_model.specs.PlainSelectors.{kept};
+ghost use Rattle.pf_model.specs.Cuts.{kept};
 ghost use Rattle.pf_model.specs.Scripts.{answer_of, ask_of, delete_of, ingest, ingest_of, ingest_with, is_id, is_passed, issued_after, line_of, line_with, only_word};
 ghost use Rattle.pf_script.specs.Cuts.{Finds};
-ghost use Rattle.pf_script.specs.IdLists.{Alike, AreTexts, IsIdle, issued_in};
+ghost use Rattle.pf_script.specs.IdLists.{Alike, IsIdle, issued_in};
 ghost use Rattle.pf_script.specs.LineCuts.{ask_in, ask_with, ask_words, delete_in, delete_with, delete_words, issued_with, read_of};
 ghost use Rattle.pf_script.specs.Lines.{IsReadLine, Reads};
 ghost use Rattle.pf_script.specs.Lines as read;
@@ -17,48 +17,33 @@ ghost use Rattle.pf_script.specs.Lines as read;
 use crate::fault::ScriptError;
 use crate::ids::Ids;
 use crate::script::Line;
-use crate::selector::selector_of;
-use crate::words::{behind_word, is_word, next_word, number_of, without_blanks};
+use crate::words::{behind_word, is_word, next_word, number_of, text_of};
 use pf_base::{MAXT, Tenant, TenantError, Text};
 use std::alloc::Global;
 
 /// The words of a `delete`.
 #[derive(Clone, Copy)]
 struct DeleteCut<'a> {
-    tenant: &'a [u8],
+    tenant: &'a str,
     from: u64,
     to: u64,
-    selector: &'a [u8],
+    selector: &'a str,
 }
 
 /// The words of an `ask`.
 #[derive(Clone, Copy)]
 struct AskCut<'a> {
-    id: &'a [u8],
-    tenant: &'a [u8],
+    id: &'a str,
+    tenant: &'a str,
     start: u64,
     end: u64,
     step: u64,
-    query: &'a [u8],
+    query: &'a str,
 }
 
-#[tactic(auto, using(crate::proofs::AsciiTexts::text_tests))]
-fn text_of(alloc: Global, bytes: &[u8]) -> Result<Text, ScriptError>
-    ensures { Reads (λ t. t) result (kept (is_utf8 bytes.now) bytes.now) }
+fn tenant_of(alloc: Global, name: &str) -> Result<Tenant, ScriptError>
+    ensures { Reads (λ t. t) result (kept (is_tenant name.now) name.now) }
 {
-    match std::str::from_utf8(bytes) {
-        Ok(text) => Ok(Text::of(alloc, text)?),
-        Err(_) => Err(ScriptError::NotBuilt),
-    }
-}
-
-#[tactic(auto, using(crate::proofs::AsciiTexts::tenant_unread))]
-fn tenant_of(alloc: Global, bytes: &[u8]) -> Result<Tenant, ScriptError>
-    ensures { Reads (λ t. t) result (kept (is_tenant bytes.now) bytes.now) }
-{
-    let Ok(name) = std::str::from_utf8(bytes) else {
-        return Err(ScriptError::NotBuilt)
-    };
     match Tenant::read(alloc, name) {
         Ok(tenant) => Ok(tenant),
         Err(TenantError::BadTenant) => Err(ScriptError::NotBuilt),
@@ -78,29 +63,23 @@ fn all_may_stand_in_id(bytes: &[u8]) -> bool
     bytes.iter().all(|byte| may_stand_in_id(*byte))
 }
 
-fn is_id(bytes: &[u8]) -> bool
-    ensures { result ≡ is_id bytes.now }
+fn is_id(text: &str) -> bool
+    ensures { result ≡ is_id text.now }
 {
-    !bytes.is_empty() && bytes.len() <= 32 && all_may_stand_in_id(bytes)
+    !text.is_empty() && text.len() <= 32 && all_may_stand_in_id(text.as_bytes())
 }
 
 /// The file and the time of `FILE`, whose time is 0, or of `FILE at MS`.
-#[tactic(auto, using(crate::proofs::AsciiTexts::text_tests), unfolding(pf_model::specs::Scripts::ingest_at, pf_model::specs::Scripts::file_at))]
-fn timed_file(words: &[u8]) -> Option<(&str, u64)>
+#[tactic(auto, using(crate::proofs::LineTexts::text_tests), unfolding(pf_model::specs::Scripts::ingest_at, pf_model::specs::Scripts::file_at))]
+fn timed_file(words: &str) -> Option<(&str, u64)>
     ensures exact { (tenant : List ℕ) → Finds (λ f. ingest tenant f.0.now f.1) result (ingest_with tenant words.now (only_word words.now)) }
     ensures time { IfSome result (λ f. f.1 ≤ maxt) }
 {
     if is_word(words) {
-        let Ok(file) = std::str::from_utf8(words) else {
-            return None
-        };
-        return Some((file, 0));
+        return Some((words, 0));
     }
     let (file, behind) = next_word(words)?;
-    let Ok(file) = std::str::from_utf8(file) else {
-        return None
-    };
-    let time = number_of(behind_word(b"at", behind)?)?;
+    let time = number_of(behind_word("at", behind)?.as_bytes())?;
     if time <= MAXT {
         Some((file, time))
     } else {
@@ -110,7 +89,7 @@ fn timed_file(words: &[u8]) -> Option<(&str, u64)>
 
 /// `ingest TENANT FILE`, or `ingest TENANT FILE at MS`.
 #[tactic(auto, unfolding(pf_model::specs::Scripts::ingest_of))]
-fn ingest_of(alloc: Global, words: &[u8]) -> Result<Line, ScriptError>
+fn ingest_of(alloc: Global, words: &str) -> Result<Line, ScriptError>
     ensures exact { Reads read.line_of result (ingest_of words.now) }
     ensures read { IfOk result IsReadLine }
     ensures idle { IfOk result (λ l. IsIdle (read.line_of l)) }
@@ -130,7 +109,7 @@ fn ingest_of(alloc: Global, words: &[u8]) -> Result<Line, ScriptError>
 }
 
 #[tactic(auto, unfolding(crate::specs::LineCuts::delete_words))]
-fn delete_cut(words: &[u8]) -> Option<DeleteCut<'_>>
+fn delete_cut(words: &str) -> Option<DeleteCut<'_>>
     ensures { Finds delete_in result (delete_words words.now) }
 {
     let (tenant, behind) = next_word(words)?;
@@ -138,9 +117,9 @@ fn delete_cut(words: &[u8]) -> Option<DeleteCut<'_>>
     let (to, behind) = next_word(behind)?;
     Some(DeleteCut {
         tenant,
-        from: number_of(from)?,
-        to: number_of(to)?,
-        selector: without_blanks(behind),
+        from: number_of(from.as_bytes())?,
+        to: number_of(to.as_bytes())?,
+        selector: text_of(behind)?,
     })
 }
 
@@ -149,20 +128,16 @@ fn delete_line(alloc: Global, words: &DeleteCut) -> Result<Line, ScriptError>
     ensures read { IfOk result IsReadLine }
     ensures idle { IfOk result (λ l. IsIdle (read.line_of l)) }
 {
-    let matchers = selector_of(alloc, words.selector)?;
-    let tenant = tenant_of(alloc, words.tenant)?;
-    let selector = text_of(alloc, words.selector)?;
     Ok(Line::Delete {
-        tenant,
+        tenant: tenant_of(alloc, words.tenant)?,
         from: words.from,
         to: words.to,
-        selector,
-        matchers,
+        selector: Text::of(alloc, words.selector)?,
     })
 }
 
 /// `delete TENANT FROM TO SELECTOR`.
-fn delete_of(alloc: Global, words: &[u8]) -> Result<Line, ScriptError>
+fn delete_of(alloc: Global, words: &str) -> Result<Line, ScriptError>
     ensures exact { Reads read.line_of result (delete_of words.now) }
     ensures read { IfOk result IsReadLine }
     ensures idle { IfOk result (λ l. IsIdle (read.line_of l)) }
@@ -174,7 +149,7 @@ fn delete_of(alloc: Global, words: &[u8]) -> Result<Line, ScriptError>
 }
 
 #[tactic(auto, unfolding(crate::specs::LineCuts::ask_words))]
-fn ask_cut(words: &[u8]) -> Option<AskCut<'_>>
+fn ask_cut(words: &str) -> Option<AskCut<'_>>
     ensures { Finds ask_in result (ask_words words.now) }
 {
     let (id, behind) = next_word(words)?;
@@ -185,10 +160,10 @@ fn ask_cut(words: &[u8]) -> Option<AskCut<'_>>
     Some(AskCut {
         id,
         tenant,
-        start: number_of(start)?,
-        end: number_of(end)?,
-        step: number_of(step)?,
-        query: without_blanks(behind),
+        start: number_of(start.as_bytes())?,
+        end: number_of(end.as_bytes())?,
+        step: number_of(step.as_bytes())?,
+        query: text_of(behind)?,
     })
 }
 
@@ -198,20 +173,17 @@ fn ask_line<'a>(
     number: u32,
     words: &AskCut<'a>,
 ) -> Result<Line, ScriptError>
-    requires { AreTexts (issued_in ids.old) }
     ensures exact { Reads read.line_of result (ask_with (issued_in ids.old) (ask_in words.now)) }
     ensures read { IfOk result IsReadLine }
     ensures issued { IfOk result (λ l. Alike (issued_after number (read.line_of l) (issued_in ids.old)) (issued_in ids.new)) }
-    ensures texts { OnOk result (AreTexts (issued_in ids.new)) }
 {
-    let matchers = selector_of(alloc, words.query)?;
-    if !is_id(words.id) || !ids.is_new(words.id) {
+    if !is_id(words.id) || !ids.is_new(words.id.as_bytes()) {
         return Err(ScriptError::NotBuilt);
     }
     let tenant = tenant_of(alloc, words.tenant)?;
-    let id = text_of(alloc, words.id)?;
-    let query = text_of(alloc, words.query)?;
-    ids.issue(words.id, number)?;
+    let id = Text::of(alloc, words.id)?;
+    let query = Text::of(alloc, words.query)?;
+    ids.issue(words.id.as_bytes(), number)?;
     Ok(Line::Ask {
         id,
         tenant,
@@ -219,7 +191,6 @@ fn ask_line<'a>(
         end: words.end,
         step: words.step,
         query,
-        matchers,
     })
 }
 
@@ -228,13 +199,11 @@ fn ask_of<'a>(
     alloc: Global,
     ids: &mut Ids<'a>,
     number: u32,
-    words: &'a [u8],
+    words: &'a str,
 ) -> Result<Line, ScriptError>
-    requires { AreTexts (issued_in ids.old) }
     ensures exact { Reads read.line_of result (ask_of (issued_in ids.old) words.now) }
     ensures read { IfOk result IsReadLine }
     ensures issued { IfOk result (λ l. Alike (issued_after number (read.line_of l) (issued_in ids.old)) (issued_in ids.new)) }
-    ensures texts { OnOk result (AreTexts (issued_in ids.new)) }
 {
     match ask_cut(words) {
         Some(words) => ask_line(alloc, ids, number, &words),
@@ -244,24 +213,19 @@ fn ask_of<'a>(
 
 /// `answer ID`, with an ID that was asked and not answered.
 #[tactic(auto, unfolding(pf_model::specs::Scripts::answer_of))]
-fn answer_of(alloc: Global, ids: &mut Ids, words: &[u8]) -> Result<Line, ScriptError>
-    requires { AreTexts (issued_in ids.old) }
+fn answer_of(alloc: Global, ids: &mut Ids, words: &str) -> Result<Line, ScriptError>
     ensures exact { Reads read.line_of result (answer_of (issued_in ids.old) words.now) }
     ensures read { IfOk result IsReadLine }
     ensures issued { IfOk result (λ l. (n : ℕ) → Alike (issued_after n (read.line_of l) (issued_in ids.old)) (issued_in ids.new)) }
-    ensures texts { OnOk result (AreTexts (issued_in ids.new)) }
 {
     if !is_word(words) {
         return Err(ScriptError::NotBuilt);
     }
-    let Ok(id) = std::str::from_utf8(words) else {
-        return Err(ScriptError::NotBuilt)
-    };
-    let Some(asked) = ids.answer(words) else {
+    let Some(asked) = ids.answer(words.as_bytes()) else {
         return Err(ScriptError::NotBuilt)
     };
     Ok(Line::Answer {
-        id: Text::of(alloc, id)?,
+        id: Text::of(alloc, words)?,
         asked,
     })
 }
@@ -271,22 +235,20 @@ fn line_with<'a>(
     alloc: Global,
     ids: &mut Ids<'a>,
     number: u32,
-    verb: &[u8],
-    words: &'a [u8],
+    verb: &str,
+    words: &'a str,
 ) -> Result<Line, ScriptError>
-    requires { AreTexts (issued_in ids.old) }
     ensures exact { Reads read.line_of result (line_with (issued_in ids.old) verb.now words.now) }
     ensures read { IfOk result IsReadLine }
     ensures issued { IfOk result (λ l. Alike (issued_after number (read.line_of l) (issued_in ids.old)) (issued_in ids.new)) }
-    ensures texts { OnOk result (AreTexts (issued_in ids.new)) }
 {
-    if verb == b"ingest".as_slice() {
+    if verb == "ingest" {
         ingest_of(alloc, words)
-    } else if verb == b"delete".as_slice() {
+    } else if verb == "delete" {
         delete_of(alloc, words)
-    } else if verb == b"ask".as_slice() {
+    } else if verb == "ask" {
         ask_of(alloc, ids, number, words)
-    } else if verb == b"answer".as_slice() {
+    } else if verb == "answer" {
         answer_of(alloc, ids, words)
     } else {
         Err(ScriptError::NotBuilt)
@@ -294,30 +256,28 @@ fn line_with<'a>(
 }
 
 /// Whether bytes are a text.
-#[tactic(auto, using(crate::proofs::AsciiTexts::text_tests))]
+#[tactic(auto, using(crate::proofs::LineTexts::text_tests))]
 fn is_text(bytes: &[u8]) -> bool
     ensures { result ≡ is_utf8 bytes.now }
 {
     std::str::from_utf8(bytes).is_ok()
 }
 
-#[tactic(auto, unfolding(pf_model::specs::Scripts::line_of))]
+#[tactic(auto, using(crate::proofs::LineTexts::text_tests), unfolding(pf_model::specs::Scripts::line_of))]
 fn line_of<'a>(
     alloc: Global,
     ids: &mut Ids<'a>,
     number: u32,
     bytes: &'a [u8],
 ) -> Result<Line, ScriptError>
-    requires { AreTexts (issued_in ids.old) }
     ensures exact { Reads read.line_of result (line_of (issued_in ids.old) bytes.now) }
     ensures read { IfOk result IsReadLine }
     ensures issued { IfOk result (λ l. Alike (issued_after number (read.line_of l) (issued_in ids.old)) (issued_in ids.new)) }
-    ensures texts { OnOk result (AreTexts (issued_in ids.new)) }
 {
-    if !is_text(bytes) {
-        return Err(ScriptError::NotBuilt);
-    }
-    match next_word(bytes) {
+    let Ok(text) = std::str::from_utf8(bytes) else {
+        return Err(ScriptError::NotBuilt)
+    };
+    match next_word(text) {
         Some((verb, words)) => line_with(alloc, ids, number, verb, words),
         None => Err(ScriptError::NotBuilt),
     }
@@ -340,11 +300,9 @@ pub fn read_line<'a>(
     number: u32,
     bytes: &'a [u8],
 ) -> Result<Option<Line>, ScriptError>
-    requires { AreTexts (issued_in ids.old) }
     ensures exact { Reads (option_map read.line_of) result (read_of (issued_in ids.old) bytes.now) }
     ensures read { IfOk result (λ o. IfSome o IsReadLine) }
     ensures issued { IfOk result (λ o. Alike (issued_with number (option_map read.line_of o) (issued_in ids.old)) (issued_in ids.new)) }
-    ensures texts { OnOk result (AreTexts (issued_in ids.new)) }
 {
     if is_passed(bytes) {
         return Ok(None);

@@ -5,7 +5,7 @@ ghost use Rattle.pf_model.specs.Exposition.{file_lines};
 ghost use Rattle.pf_model.specs.Lists.{Each};
 ghost use Rattle.pf_model.specs.Scripts.{script_of};
 ghost use Rattle.pf_script.specs.Cuts.{without_return};
-ghost use Rattle.pf_script.specs.IdLists.{AreTexts, issued_in};
+ghost use Rattle.pf_script.specs.IdLists.{issued_in};
 ghost use Rattle.pf_script.specs.LineCuts.{Adds, read_of};
 ghost use Rattle.pf_script.specs.Lines.{AllFollow, IsRead, Reads, lines_of, numbered_of};
 ghost use Rattle.pf_script.specs.declared.fault.ScriptError.TheVariants.{NotBuilt};
@@ -54,7 +54,6 @@ fn add_line<'a>(
     number: u32,
     text: &'a [u8],
 ) -> Result<(), ScriptError>
-    requires { AreTexts (issued_in ids.old) }
     ensures ok { OnOk result (Adds number text.now (issued_in ids.old) (issued_in ids.new) lines.old.items lines.new.items) }
     ensures err { result ≡ Err NotBuilt → read_of (issued_in ids.old) text.now ≡ None }
 {
@@ -66,8 +65,9 @@ fn add_line<'a>(
 }
 
 /// The lines of a script, at most 64 MiB long: `ingest TENANT FILE`, `ingest TENANT FILE at MS`, `delete TENANT FROM TO
-/// SELECTOR`, `ask ID TENANT START END STEP QUERY` and `answer ID`, empty lines and comments. A query or a selector is a
-/// metric name, or one with `{LABEL="VALUE"}`. A longer script, and one with any other line, is not built.
+/// SELECTOR`, `ask ID TENANT START END STEP QUERY` and `answer ID`, empty lines and comments. A query or a selector is any
+/// text that is not empty, without the blanks at its end; it is not read here. A longer script, and one with any other
+/// line, is not built.
 pub fn read_script(alloc: Global, bytes: &[u8]) -> Result<Script, ScriptError>
     ensures exact { Reads lines_of result (script_of bytes.now) }
     ensures read { IfOk result (λ s. Each IsRead s.lines.items) }

@@ -1,8 +1,6 @@
 //! What is read of a script.
 
 use pf_base::{Tenant, Text};
-use pf_model::Matchers;
-use std::sync::Arc;
 
 /// A line of a script. Times are in milliseconds.
 #[derive(Drop)]
@@ -13,15 +11,16 @@ pub enum Line {
         file: Text,
         time: u64,
     },
-    /// Delete a tenant's samples that a selector accepts. `selector` is the text, `matchers` what it says.
+    /// Delete a tenant's samples that a selector accepts. `selector` is its text as it stands in the script, not read and not
+    /// empty, without the blanks at its end.
     Delete {
         tenant: Tenant,
         from: u64,
         to: u64,
         selector: Text,
-        matchers: Arc<Matchers>,
     },
-    /// Ask a query of a tenant. `query` is the text, `matchers` what it says.
+    /// Ask a query of a tenant. `query` is its text as it stands in the script, not read and not empty, without the blanks at
+    /// its end.
     Ask {
         id: Text,
         tenant: Tenant,
@@ -29,7 +28,6 @@ pub enum Line {
         end: u64,
         step: u64,
         query: Text,
-        matchers: Arc<Matchers>,
     },
     /// Answer what was asked under this ID, on the line with the number `asked`.
     Answer {

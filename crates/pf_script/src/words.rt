@@ -2,9 +2,9 @@
 
 ghost use Rattle.std.specs.Prelude.{◌≡◌, ◌<◌, IfSome, length, nat_eq, not, position};
 ghost use Rattle.std.specs.List.{list_all};
+ghost use Rattle.pf_model.specs.Cuts.{cut_at};
 ghost use Rattle.pf_model.specs.Exposition.{is_blank, is_no_blank, is_word};
-ghost use Rattle.pf_model.specs.PlainSelectors.{behind_byte, cut_at};
-ghost use Rattle.pf_model.specs.Scripts.{behind_word, next_word, number_of, past_blanks, without_blanks};
+ghost use Rattle.pf_model.specs.Scripts.{behind_word, next_word, number_of, past_blanks, text_of, without_blanks};
 ghost use Rattle.pf_script.specs.Cuts.{Finds};
 
 /// The first number that is too large.
@@ -23,14 +23,6 @@ pub fn cut_at(byte: u8, bytes: &[u8]) -> Option<(&[u8], &[u8])>
 {
     let place = place_of(byte, bytes)?;
     Some((&bytes[..place], &bytes[place + 1..]))
-}
-
-/// What stands behind a byte that begins the bytes.
-pub fn behind_byte(byte: u8, bytes: &[u8]) -> Option<&[u8]>
-    ensures { Finds (λ b. b.now) result (behind_byte byte bytes.now) }
-{
-    let (first, behind) = bytes.split_first()?;
-    if *first == byte { Some(behind) } else { None }
 }
 
 fn is_blank(byte: u8) -> bool
@@ -55,33 +47,33 @@ fn first_no_blank(bytes: &[u8]) -> Option<usize>
 
 /// What stands behind the blanks in front.
 #[tactic(auto, using(crate::proofs::Blanks::past_rules))]
-pub fn past_blanks(bytes: &[u8]) -> &[u8]
-    ensures { result.now ≡ past_blanks bytes.now }
+pub fn past_blanks(text: &str) -> &str
+    ensures { result.now ≡ past_blanks text.now }
 {
-    match first_no_blank(bytes) {
-        Some(place) => &bytes[place..],
-        None => &[],
+    match first_no_blank(text.as_bytes()) {
+        Some(place) => &text[place..],
+        None => "",
     }
 }
 
 /// A word with a blank or more behind it, and what stands behind the blanks.
 #[tactic(auto, using(crate::proofs::Blanks::word_rules))]
-pub fn next_word(bytes: &[u8]) -> Option<(&[u8], &[u8])>
-    ensures { Finds (λ c. record { front = c.0.now; behind = c.1.now }) result (next_word bytes.now) }
+pub fn next_word(text: &str) -> Option<(&str, &str)>
+    ensures { Finds (λ c. record { front = c.0.now; behind = c.1.now }) result (next_word text.now) }
 {
-    let end = first_blank(bytes)?;
+    let end = first_blank(text.as_bytes())?;
     if end == 0 {
         return None;
     }
-    Some((&bytes[..end], past_blanks(&bytes[end..])))
+    Some((&text[..end], past_blanks(&text[end..])))
 }
 
 /// What stands behind a word of its own.
 #[tactic(auto, unfolding(pf_model::specs::Scripts::behind_word))]
-pub fn behind_word<'a>(word: &[u8], bytes: &'a [u8]) -> Option<&'a [u8]>
-    ensures { Finds (λ b. b.now) result (behind_word word.now bytes.now) }
+pub fn behind_word<'a>(word: &str, text: &'a str) -> Option<&'a str>
+    ensures { Finds (λ t. t.now) result (behind_word word.now text.now) }
 {
-    let (front, behind) = next_word(bytes)?;
+    let (front, behind) = next_word(text)?;
     if front == word { Some(behind) } else { None }
 }
 
@@ -91,16 +83,16 @@ fn has_no_blank(bytes: &[u8]) -> bool
     bytes.iter().all(|byte| !is_blank(*byte))
 }
 
-/// Whether bytes are one word and nothing else.
-pub fn is_word(bytes: &[u8]) -> bool
-    ensures { result ≡ is_word bytes.now }
+/// Whether a text is one word and nothing else.
+pub fn is_word(text: &str) -> bool
+    ensures { result ≡ is_word text.now }
 {
-    !bytes.is_empty() && has_no_blank(bytes)
+    !text.is_empty() && has_no_blank(text.as_bytes())
 }
 
 /// The bytes without the blanks at their end.
 #[tactic(auto, using(crate::proofs::Blanks::end_rules))]
-pub fn without_blanks(bytes: &[u8]) -> &[u8]
+fn front_of(bytes: &[u8]) -> &[u8]
     ensures { result.now ≡ without_blanks bytes.now }
 {
     let mut front = bytes;
@@ -111,6 +103,23 @@ pub fn without_blanks(bytes: &[u8]) -> &[u8]
         front = before;
     }
     front
+}
+
+/// A text without the blanks at its end.
+pub fn without_blanks(text: &str) -> &str
+    ensures { result.now ≡ without_blanks text.now }
+{
+    let length = front_of(text.as_bytes()).len();
+    &text[..length]
+}
+
+/// A text without the blanks at its end, where anything else stands in it.
+#[tactic(auto, using(crate::proofs::Blanks::text_rules))]
+pub fn text_of(text: &str) -> Option<&str>
+    ensures { Finds (λ t. t.now) result (text_of text.now) }
+{
+    let text = without_blanks(text);
+    if text.is_empty() { None } else { Some(text) }
 }
 
 /// The number of one decimal digit or more, below 2^63.

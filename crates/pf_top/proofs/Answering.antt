@@ -14,7 +14,7 @@ use Rattle.pf_model.specs.Machine.{AnswersRight, IsCode, Machine, Open, What, fu
 use Rattle.pf_model.specs.Report.{answered, body_of, body_by, unanswered}
 use Rattle.pf_model.specs.Scripts as script
 use Rattle.pf_model.specs.Scripts.{Line}
-use Rattle.pf_model.specs.Weave.{Files, IsNoQuery, what_of}
+use Rattle.pf_model.specs.Weave.{Known, IsNoQuery, what_of}
 use Rattle.pf_store.specs.Standing.{StandsFor}
 use Rattle.pf_top.specs.Asks.{SlotRight, StayOpenBut, IsFullWhat, IsNoTenantWhat, refused_answer}
 use Rattle.pf_top.specs.Clients.{IsStep}
@@ -26,7 +26,7 @@ use Rattle.pf_top.specs.declared.session.Session.{Session}
 use Rattle.pf_top.specs.declared.slots.Slot.{Slot}
 use Rattle.pf_top.specs.declared.slots.Slot.TheVariants as slot
 use Rattle.pf_top.proofs.Machines.{open_at_closed}
-use Rattle.pf_top.proofs.Queries.{machine_behind}
+use Rattle.pf_top.proofs.OpenQueries.{machine_behind}
 use Rattle.pf_top.proofs.Steps.{step_entered, step_excepted}
 
 many_times : (t step n : ℕ) → length (times_from t step n) ≡ n
@@ -61,22 +61,22 @@ answers_right l m q rows k h o g =
       coded (Some place) e h = cc
 
 -- an open query is answered
-pub step_answered : (files : Files) (old new : Client) (now : Session) (by : By) (n : ℕ) (id : List ℕ) (line : ℕ) (asking : Option Line) (moment : Option Moment)
+pub step_answered : (known : Known) (old new : Client) (now : Session) (by : By) (n : ℕ) (id : List ℕ) (line : ℕ) (asking : Option Line) (moment : Option Moment)
     (q : Query) (rows : List MatrixRow)
     → new.session ≡ now
     → IsEntered old.session by (answer q.place 200 0 (arc_value q.asked).grid.len) now → by.client ≡ 0 → by.line ≡ n
     → ((samples : List Row) → StandsFor q.pin.snap samples → direct samples (asked_in (arc_value q.asked)) ≡ gathered rows)
     → new.out.items ≡ old.out.items ++ answered n id (decimal 200) 0 (arc_value q.asked).grid.len (matrix_text rows)
-    → SlotRight old.session.limits.window (machine_of old.session) asking moment (Some (slot.Open q))
-    → IsStep files old (record { number = n; line = script.answer id line }) asking moment new
-step_answered files old new now by n id line asking moment q rows same e client is_line h told right =
+    → SlotRight known.readings old.session.limits.window (machine_of old.session) asking moment (Some (slot.Open q))
+    → IsStep known old (record { number = n; line = script.answer id line }) asking moment new
+step_answered known old new now by n id line asking moment q rows same e client is_line h told right =
     let l = old.session.limits in
     let m = machine_of old.session in
     let k = right.1 in
     let is = answer_is l m q rows k h in
     let body : body_of l (open_at q.place m.queries) ≡ matrix_text rows =
     ap (body_of l) k.is_open ∙ ap (body_by l k.opened) k.uncancelled ∙ ap answer_text is in
-    step_entered files old new by _ (answer q.place 200 0 (arc_value q.asked).grid.len) asking moment
+    step_entered known old new by _ (answer q.place 200 0 (arc_value q.asked).grid.len) asking moment
     (subst (λ (s : Session). IsEntered old.session by (answer q.place 200 0 (arc_value q.asked).grid.len) s) (sym same) e) client is_line right.0
     (told ∙ ap (λ (b : List ℕ). old.out.items ++ answered n id (decimal 200) 0 (arc_value q.asked).grid.len b) (sym body))
 
@@ -89,35 +89,39 @@ leaves_answered old new by q code cached evaluated e place o d g =
     (open_at_closed q.place place (machine_of old).queries d ∙ g)
 
 -- the answer of a refused ask
-pub step_unanswered : (files : Files) (old new : Client) (n : ℕ) (id : List ℕ) (line : ℕ) (asking : Option Line) (moment : Option Moment) (s : Slot)
+pub step_unanswered : (known : Known) (old new : Client) (n : ℕ) (id : List ℕ) (line : ℕ) (asking : Option Line) (moment : Option Moment) (s : Slot)
     → Stands old.session → new.session ≡ old.session
     → ((q : Query) → s ≡ slot.Open q → ⊥)
     → new.out.items ≡ old.out.items ++ refused_answer n id s
-    → SlotRight old.session.limits.window (machine_of old.session) asking moment (Some s)
-    → IsStep files old (record { number = n; line = script.answer id line }) asking moment new
-step_unanswered files old new n id line asking moment (slot.Open q) h same closed told right = absurd (closed q refl)
-step_unanswered files old new n id line asking moment (slot.BadGrid e) h same closed told right =
-    step_excepted files old new _ None asking moment h same (subst IsNoQuery (sym right.0) tt)
+    → SlotRight known.readings old.session.limits.window (machine_of old.session) asking moment (Some s)
+    → IsStep known old (record { number = n; line = script.answer id line }) asking moment new
+step_unanswered known old new n id line asking moment (slot.Open q) h same closed told right = absurd (closed q refl)
+step_unanswered known old new n id line asking moment (slot.BadGrid e) h same closed told right =
+    step_excepted known old new _ None asking moment h same (subst IsNoQuery (sym right.0) tt)
     (told ∙ ap (λ (t : List ℕ). old.out.items ++ answered n id (codes "400") 0 0 (error_text (codes "bad_data") t)) (sym right.1)
-    ∙ ap (λ (w : Option What). old.out.items ++ unanswered n id asking w) (sym right.0))
-step_unanswered files old new n id line asking moment slot.Full h same closed told right =
-    step_excepted files old new _ None asking moment h same (full_excepted (what_of moment) right)
+    ∙ ap (λ (w : Option What). old.out.items ++ unanswered known.readings n id asking w) (sym right.0))
+step_unanswered known old new n id line asking moment (slot.BadQuery e) h same closed told right =
+    step_excepted known old new _ None asking moment h same (subst IsNoQuery (sym right.0) tt)
+    (told ∙ ap (λ (t : List ℕ). old.out.items ++ answered n id (codes "400") 0 0 (error_text (codes "bad_data") t)) (sym right.1)
+    ∙ ap (λ (w : Option What). old.out.items ++ unanswered known.readings n id asking w) (sym right.0))
+step_unanswered known old new n id line asking moment slot.Full h same closed told right =
+    step_excepted known old new _ None asking moment h same (full_excepted (what_of moment) right)
     (told ∙ ap (λ (t : List ℕ). old.out.items ++ t) (full_told (what_of moment) right)) where
       full_excepted : (w : Option What) → IsFullWhat w → IsNoQuery w
       full_excepted (Some (full u outstanding)) r = tt
       full_excepted _ r = absurd r
 
-      full_told : (w : Option What) → IsFullWhat w → refused_answer n id slot.Full ≡ unanswered n id asking w
+      full_told : (w : Option What) → IsFullWhat w → refused_answer n id slot.Full ≡ unanswered known.readings n id asking w
       full_told (Some (full u outstanding)) r = refl
       full_told _ r = absurd r
-step_unanswered files old new n id line asking moment slot.TooManyTenants h same closed told right =
-    step_excepted files old new _ None asking moment h same (none_excepted (what_of moment) right)
+step_unanswered known old new n id line asking moment slot.TooManyTenants h same closed told right =
+    step_excepted known old new _ None asking moment h same (none_excepted (what_of moment) right)
     (told ∙ ap (λ (t : List ℕ). old.out.items ++ t) (none_told (what_of moment) right)) where
       none_excepted : (w : Option What) → IsNoTenantWhat w → IsNoQuery w
       none_excepted (Some (no_tenant name)) r = tt
       none_excepted _ r = absurd r
 
-      none_told : (w : Option What) → IsNoTenantWhat w → refused_answer n id slot.TooManyTenants ≡ unanswered n id asking w
+      none_told : (w : Option What) → IsNoTenantWhat w → refused_answer n id slot.TooManyTenants ≡ unanswered known.readings n id asking w
       none_told (Some (no_tenant name)) r = refl
       none_told _ r = absurd r
 

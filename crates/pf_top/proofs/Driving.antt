@@ -7,33 +7,35 @@ use Rattle.pf_base.specs.declared.plain.Limits.{Limits}
 use Rattle.pf_model.specs.Legal.{moments}
 use Rattle.pf_model.specs.Lists.{Each}
 use Rattle.pf_model.specs.Scripts.{Numbered}
-use Rattle.pf_model.specs.Weave.{Files, line_at, moment_of}
+use Rattle.pf_model.specs.Weave.{Known, line_at, moment_of}
 use Rattle.pf_script.specs.Lines.{AllFollow, Follows, IsRead, numbered_of, lines_of}
 use Rattle.pf_script.specs.declared.script.NumberedLine.{NumberedLine}
 use Rattle.pf_script.specs.declared.script.Script.{Script}
 use Rattle.pf_top.specs.Clients.{IsStopped}
 use Rattle.pf_top.specs.Drives.{AreShort, CanRun, IsEnd, IsGoing, RanTo}
-use Rattle.pf_top.specs.Files.{AreHeld, Contents, HoldsContent, IsShort}
+use Rattle.pf_top.specs.Files.{HoldsContent, IsShort}
 use Rattle.pf_top.specs.Going.{Going, GoesOn, IsReady}
+use Rattle.pf_top.specs.Queries.{IsKeptFor, IsTold, readings_in}
 use Rattle.pf_top.specs.Sessions.{journal_of, machine_of}
 use Rattle.pf_top.specs.declared.client.Client.{Client}
 use Rattle.pf_top.specs.declared.client.Ran.{Ran}
 use Rattle.pf_top.specs.declared.client.Ran.TheVariants as ran
 use Rattle.pf_top.specs.declared.loaded.Content.{Content}
+use Rattle.pf_top.specs.declared.loaded.Loaded.{Loaded}
 use Rattle.pf_top.specs.declared.loaded.Content.TheVariants.{Bytes, TooLong}
 use Rattle.pf_top.proofs.SlotLaws.{slot_of_answer, query_of_answer}
 use Rattle.pf_top.proofs.Texts.{named_by}
 
-abbrev untold : Files
-untold name = None
+abbrev untold : Loaded → Known
+untold loaded = record { files = λ name. None; readings = readings_in loaded.queries }
 
 untold_by : (content : Content) → IsShort content → HoldsContent None content
 untold_by (Bytes bytes) h = (tt, h)
 untold_by TooLong h = tt
 
 -- where nothing is told, all is held
-none_held : (kept : Contents) → AreShort kept → AreHeld untold kept
-none_held kept h name content g = untold_by content (h name content g)
+none_held : (loaded : Loaded) → AreShort loaded.files → IsTold (untold loaded) loaded
+none_held loaded h = record { held = λ name content g. untold_by content (h name content g); readings = refl }
 
 each_get : {X : Type 0} (P : X → Type 0) (xs : List X) (i : ℕ) (d : X) → i < length xs → Each P xs → P (get_or xs i d)
 each_get P [] i d p h = absurd (omega (arith, p))
@@ -66,7 +68,7 @@ split_at [] i d p = absurd (omega (arith, p))
 split_at (l ∷ ls) zero d p = refl
 split_at (l ∷ ls) (suc i) d p = ap (λ (xs : List Numbered). l ∷ xs) (split_at ls i d (omega (arith, p)))
 
-module _ (script : Script) (kept : Contents) (limits : Limits) (i : ℕ) (l : NumberedLine) (inside : i < length script.lines.items) (is : l ≡ get_or script.lines.items i l) where
+module _ (script : Script) (loaded : Loaded) (limits : Limits) (i : ℕ) (l : NumberedLine) (inside : i < length script.lines.items) (is : l ≡ get_or script.lines.items i l) where
   -- the line among the numbered ones
   numbered_is : get_or (lines_of script) i (numbered_of l) ≡ numbered_of l
   numbered_is = map_get script.lines.items i l inside ∙ ap numbered_of (sym is)
@@ -74,31 +76,34 @@ module _ (script : Script) (kept : Contents) (limits : Limits) (i : ℕ) (l : Nu
   inside_lines : i < length (lines_of script)
   inside_lines = let long = map_length script.lines.items in omega (arith, inside, long)
 
-  follows : CanRun script kept → Follows (take i (lines_of script)) (numbered_of l)
+  follows : CanRun script loaded → Follows (take i (lines_of script)) (numbered_of l)
   follows r = subst (λ (x : Numbered). Follows (take i (lines_of script)) x) numbered_is (follows_at [] (lines_of script) i (numbered_of l) inside_lines r.following)
 
-  pub ready : (c : Client) → CanRun script kept → IsGoing limits kept (lines_of script) (take i (lines_of script)) c → IsReady kept c l
+  pub ready : (c : Client) → CanRun script loaded → IsGoing limits loaded (lines_of script) (take i (lines_of script)) c → IsReady loaded c l
   ready c r g =
-      let now = g untold (none_held kept r.short) in
+      let now = g (untold loaded) (none_held loaded r.short) in
       record {
         stands = now.stands;
         read = subst IsRead (sym is) (each_get IsRead script.lines.items i l inside r.read);
         kept_files = λ name h. r.files name (named_by script.lines.items i l name inside is h);
+        right = r.right;
+        kept_text = subst (λ (x : Numbered). IsKeptFor loaded.queries x.line) numbered_is
+            (each_get (λ (x : Numbered). IsKeptFor loaded.queries x.line) (lines_of script) i (numbered_of l) inside_lines r.texts);
         queries = λ k q names found.
-            query_of_answer c.session.limits.window (machine_of c.session) (line_at k (lines_of script)) (moment_of 0 k (moments (journal_of c.session))) (get nat_cmp c.slots k) (slot_of_answer (lines_of script) (take i (lines_of script)) c (numbered_of l) k now.slots (follows r) names) q found;
+            query_of_answer (readings_in loaded.queries) c.session.limits.window (machine_of c.session) (line_at k (lines_of script)) (moment_of 0 k (moments (journal_of c.session))) (get nat_cmp c.slots k) (slot_of_answer (readings_in loaded.queries) (lines_of script) (take i (lines_of script)) c (numbered_of l) k now.slots (follows r) names) q found;
       }
 
-  pub goes : (old new : Client) → CanRun script kept → IsGoing limits kept (lines_of script) (take i (lines_of script)) old
-      → GoesOn kept old (numbered_of l) ran.On new → IsGoing limits kept (lines_of script) (take (i + 1) (lines_of script)) new
-  goes old new r g h = λ files held.
+  pub goes : (old new : Client) → CanRun script loaded → IsGoing limits loaded (lines_of script) (take i (lines_of script)) old
+      → GoesOn loaded old (numbered_of l) ran.On new → IsGoing limits loaded (lines_of script) (take (i + 1) (lines_of script)) new
+  goes old new r g h = λ known held.
       let whole : lines_of script ≡ take i (lines_of script) ++ numbered_of l ∷ drop (suc i) (lines_of script) =
       split_at (lines_of script) i (numbered_of l) inside_lines
       ∙ ap (λ (x : Numbered). take i (lines_of script) ++ x ∷ drop (suc i) (lines_of script)) numbered_is in
       let more : take (i + 1) (lines_of script) ≡ take i (lines_of script) ++ numbered_of l ∷ [] =
       take_more (lines_of script) i (numbered_of l) inside_lines
       ∙ ap (λ (x : Numbered). take i (lines_of script) ++ x ∷ []) numbered_is in
-      subst (λ (d : List Numbered). Going files limits (lines_of script) d new) (sym more)
-      (h files limits (lines_of script) (take i (lines_of script)) (drop (suc i) (lines_of script)) held whole (g files held) (follows r))
+      subst (λ (d : List Numbered). Going known limits (lines_of script) d new) (sym more)
+      (h known limits (lines_of script) (take i (lines_of script)) (drop (suc i) (lines_of script)) held whole (g known held) (follows r))
 
   get_there : slice_get (lines_of script) i ≡ Some (numbered_of l)
   get_there = found (lines_of script) i (numbered_of l) inside_lines ∙ ap (λ (x : Numbered). Some x) numbered_is where
@@ -107,21 +112,21 @@ module _ (script : Script) (kept : Contents) (limits : Limits) (i : ℕ) (l : Nu
     found (x ∷ ls) zero d p = refl
     found (x ∷ ls) (suc j) d p = found ls j d (omega (arith, p))
 
-  pub stops : (old new : Client) → CanRun script kept → IsGoing limits kept (lines_of script) (take i (lines_of script)) old
-      → GoesOn kept old (numbered_of l) ran.Full new → RanTo limits kept (lines_of script) i new
+  pub stops : (old new : Client) → CanRun script loaded → IsGoing limits loaded (lines_of script) (take i (lines_of script)) old
+      → GoesOn loaded old (numbered_of l) ran.Full new → RanTo limits loaded (lines_of script) i new
   stops old new r g h =
       let whole : lines_of script ≡ take i (lines_of script) ++ numbered_of l ∷ drop (suc i) (lines_of script) =
       split_at (lines_of script) i (numbered_of l) inside_lines
       ∙ ap (λ (x : Numbered). take i (lines_of script) ++ x ∷ drop (suc i) (lines_of script)) numbered_is in
-      let at_full : (files : Files) → AreHeld files kept → IsStopped files old (numbered_of l) new =
-      λ files held. h files limits (lines_of script) (take i (lines_of script)) (drop (suc i) (lines_of script)) held whole (g files held) (follows r) in
-      let same : new ≡ old = (at_full untold (none_held kept r.short)).same in
+      let at_full : (known : Known) → IsTold known loaded → IsStopped known old (numbered_of l) new =
+      λ known held. h known limits (lines_of script) (take i (lines_of script)) (drop (suc i) (lines_of script)) held whole (g known held) (follows r) in
+      let same : new ≡ old = (at_full (untold loaded) (none_held loaded r.short)).same in
       record {
         within = let p = inside_lines in omega (arith, p);
-        going = subst (λ (c : Client). IsGoing limits kept (lines_of script) (take i (lines_of script)) c) (sym same) g;
-        stopped = λ files held. subst (IsEnd files new) (sym get_there)
-            (let s = at_full files held in
-            subst (λ (c : Client). IsStopped files c (numbered_of l) c) (sym same)
+        going = subst (λ (c : Client). IsGoing limits loaded (lines_of script) (take i (lines_of script)) c) (sym same) g;
+        stopped = λ known held. subst (IsEnd known new) (sym get_there)
+            (let s = at_full known held in
+            subst (λ (c : Client). IsStopped known c (numbered_of l) c) (sym same)
             (record { wanted = s.wanted; wants = s.wants; full = s.full; same = refl }));
       }
 
@@ -133,14 +138,14 @@ past : {X : Type 0} (xs : List X) → slice_get xs (length xs) ≡ None
 past [] = refl
 past (x ∷ xs) = past xs
 
-pub ends : (script : Script) (kept : Contents) (limits : Limits) (i : ℕ) (c : Client) → i ≡ length script.lines.items
-    → IsGoing limits kept (lines_of script) (take i (lines_of script)) c → RanTo limits kept (lines_of script) i c
-ends script kept limits i c e g =
+pub ends : (script : Script) (loaded : Loaded) (limits : Limits) (i : ℕ) (c : Client) → i ≡ length script.lines.items
+    → IsGoing limits loaded (lines_of script) (take i (lines_of script)) c → RanTo limits loaded (lines_of script) i c
+ends script loaded limits i c e g =
     let long : i ≡ length (lines_of script) = e ∙ sym (map_length script.lines.items) in
     record {
       within = omega (arith, long);
       going = g;
-      stopped = λ files held. subst (λ n. IsEnd files c (slice_get (lines_of script) n)) (sym long) (subst (IsEnd files c) (sym (past (lines_of script))) tt);
+      stopped = λ known held. subst (λ n. IsEnd known c (slice_get (lines_of script) n)) (sym long) (subst (IsEnd known c) (sym (past (lines_of script))) tt);
     }
 
 pub other_ran : (r : Ran) → (r ≡ ran.Full → ⊥) → r ≡ ran.On

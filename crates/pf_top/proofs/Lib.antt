@@ -10,7 +10,8 @@ pub mod Machines
 pub mod Names
 pub mod Onward
 pub mod OutputLaws
-pub mod Queries
+pub mod OpenQueries
+pub mod TextReads
 pub mod Reports
 pub mod SlotLaws
 pub mod Steps

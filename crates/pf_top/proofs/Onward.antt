@@ -7,7 +7,7 @@ use Rattle.pf_model.specs.Lists.{Each, joined}
 use Rattle.pf_model.specs.Machine.{What, Entry, started}
 use Rattle.pf_model.specs.Report.{line_text, reply_of}
 use Rattle.pf_model.specs.Scripts.{Numbered}
-use Rattle.pf_model.specs.Weave.{Files, IsLineOf, IsMatched, IsWoven, Refusal, Refused, Rises, Turn, asked_of_line, asking_line, asking_of, line_at, turn_of}
+use Rattle.pf_model.specs.Weave.{Known, IsLineOf, IsMatched, IsWoven, Refusal, Refused, Rises, Turn, asked_of_line, asking_line, asking_of, line_at, turn_of}
 use Rattle.pf_script.specs.Lines.{Follows, IsAsk, NamesAsk}
 use Rattle.pf_top.specs.Clients.{IsStep, entries_by, moment_with, turn_with}
 use Rattle.pf_top.specs.Going.{HaveTurns, IsAmong}
@@ -42,15 +42,15 @@ each_refused : (P : Refused → Type 0) (rs : List Refused) (n : ℕ) (r : Optio
 each_refused P rs n None h f = subst (Each P) (sym (append-nil rs)) h
 each_refused P rs n (Some x) h f = each_push P rs _ h (f x)
 
-module _ (files : Files) (limits : Limits) (lines done : List Numbered) (old new : Client) (l : Numbered) where
+module _ (known : Known) (limits : Limits) (lines done : List Numbered) (old new : Client) (l : Numbered) where
   -- the moments behind the line
-  pub behind : (s : IsStep files old l (asking_of lines (asking_line l.line)) (asked_of_line 0 (moments (journal_of old.session)) (asking_line l.line)) new)
+  pub behind : (s : IsStep known old l (asking_of lines (asking_line l.line)) (asked_of_line 0 (moments (journal_of old.session)) (asking_line l.line)) new)
       → moments (journal_of new.session) ≡ moments (journal_of old.session) ++ moments_by (machine_of old.session) l.number s.entered
   behind s = ap moments s.journal ∙ moments_grow started (journal_of old.session) l.number s.entered
 
-  pub turns_on : HaveTurns files limits lines done old → old.session.limits ≡ limits → Follows done l
-      → IsStep files old l (asking_of lines (asking_line l.line)) (asked_of_line 0 (moments (journal_of old.session)) (asking_line l.line)) new
-      → HaveTurns files limits lines (done ++ l ∷ []) new
+  pub turns_on : HaveTurns known limits lines done old → old.session.limits ≡ limits → Follows done l
+      → IsStep known old l (asking_of lines (asking_line l.line)) (asked_of_line 0 (moments (journal_of old.session)) (asking_line l.line)) new
+      → HaveTurns known limits lines (done ++ l ∷ []) new
   turns_on h limited f s =
       let J = journal_of old.session in
       let xs = moments J in
@@ -69,35 +69,35 @@ module _ (files : Files) (limits : Limits) (lines done : List Numbered) (old new
       let newest : turn_of 0 xs_new rs_new lines l ≡ turn_with m l s.refused (asking_of lines (asking_line l.line)) (asked_of_line 0 xs (asking_line l.line)) s.entered =
       turn_new l done lines m s.entered xs s.refused rs f.rising among lower_moments lower_refused in
       let names : List (List ℕ) = old.session.names.items ++ s.more in
-      let woven_before : Each (λ (d : Numbered). IsWoven files names (turn_of 0 xs_new rs_new lines d)) done =
+      let woven_before : Each (λ (d : Numbered). IsWoven known names (turn_of 0 xs_new rs_new lines d)) done =
       each_four _ _ _ _ done
-      (λ (d : Numbered) (w : IsWoven files old.session.names.items (turn_of 0 xs rs lines d)) (p : d.number < l.number) (i : IsAmong done (asking_line d.line)).
-      subst (λ (t : Turn). IsMatched files names t t.mine) (sym (same d p i)) (matched_more files old.session.names.items s.more (turn_of 0 xs rs lines d) (turn_of 0 xs rs lines d).mine w))
+      (λ (d : Numbered) (w : IsWoven known old.session.names.items (turn_of 0 xs rs lines d)) (p : d.number < l.number) (i : IsAmong done (asking_line d.line)).
+      subst (λ (t : Turn). IsMatched known names t t.mine) (sym (same d p i)) (matched_more known old.session.names.items s.more (turn_of 0 xs rs lines d) (turn_of 0 xs rs lines d).mine w))
       h.woven f.rising h.names in
-      let woven_now : IsWoven files names (turn_of 0 xs_new rs_new lines l) =
-      subst (λ (t : Turn). IsMatched files names t t.mine) (sym newest)
-      (subst (λ (ns : List (List ℕ)). IsMatched files ns (turn_with m l s.refused (asking_of lines (asking_line l.line)) (asked_of_line 0 xs (asking_line l.line)) s.entered)
+      let woven_now : IsWoven known names (turn_of 0 xs_new rs_new lines l) =
+      subst (λ (t : Turn). IsMatched known names t t.mine) (sym newest)
+      (subst (λ (ns : List (List ℕ)). IsMatched known ns (turn_with m l s.refused (asking_of lines (asking_line l.line)) (asked_of_line 0 xs (asking_line l.line)) s.entered)
       (moment_with m l.number s.entered)) s.grown s.woven) in
-      let told_before : joined (λ (d : Numbered). reply_of limits (turn_of 0 xs_new rs_new lines d)) done ≡ joined (λ (d : Numbered). reply_of limits (turn_of 0 xs rs lines d)) done =
+      let told_before : joined (λ (d : Numbered). reply_of limits known.readings (turn_of 0 xs_new rs_new lines d)) done ≡ joined (λ (d : Numbered). reply_of limits known.readings (turn_of 0 xs rs lines d)) done =
       joined_same _ _ done (each_four _ _ _ _ done
-      (λ (d : Numbered) (u : Unit {0}) (p : d.number < l.number) (i : IsAmong done (asking_line d.line)). ap (reply_of limits) (same d p i))
+      (λ (d : Numbered) (u : Unit {0}) (p : d.number < l.number) (i : IsAmong done (asking_line d.line)). ap (reply_of limits known.readings) (same d p i))
       (each_map _ _ (λ (d : Numbered) (p : d.number < l.number). tt) done f.rising) f.rising h.names) in
-      let told_now : reply_of limits (turn_of 0 xs_new rs_new lines l) ≡ reply_of old.session.limits (turn_with m l s.refused (asking_of lines (asking_line l.line)) (asked_of_line 0 xs (asking_line l.line)) s.entered) =
-      ap (reply_of limits) newest ∙ ap (λ (k : Limits). reply_of k (turn_with m l s.refused (asking_of lines (asking_line l.line)) (asked_of_line 0 xs (asking_line l.line)) s.entered)) (sym limited) in
+      let told_now : reply_of limits known.readings (turn_of 0 xs_new rs_new lines l) ≡ reply_of old.session.limits known.readings (turn_with m l s.refused (asking_of lines (asking_line l.line)) (asked_of_line 0 xs (asking_line l.line)) s.entered) =
+      ap (reply_of limits known.readings) newest ∙ ap (λ (k : Limits). reply_of k known.readings (turn_with m l s.refused (asking_of lines (asking_line l.line)) (asked_of_line 0 xs (asking_line l.line)) s.entered)) (sym limited) in
       let head : List ℕ = line_text (codes "client" ∷ decimal 0 ∷ []) in
-      let told : new.out.items ≡ head ++ joined (λ (d : Numbered). reply_of limits (turn_of 0 xs_new rs_new lines d)) (done ++ l ∷ []) =
+      let told : new.out.items ≡ head ++ joined (λ (d : Numbered). reply_of limits known.readings (turn_of 0 xs_new rs_new lines d)) (done ++ l ∷ []) =
       s.told
-      ∙ ap (λ (t : List ℕ). t ++ reply_of old.session.limits (turn_with m l s.refused (asking_of lines (asking_line l.line)) (asked_of_line 0 xs (asking_line l.line)) s.entered)) h.told
+      ∙ ap (λ (t : List ℕ). t ++ reply_of old.session.limits known.readings (turn_with m l s.refused (asking_of lines (asking_line l.line)) (asked_of_line 0 xs (asking_line l.line)) s.entered)) h.told
       ∙ append_assoc head _ _
-      ∙ ap (λ (t : List ℕ). head ++ (joined (λ (d : Numbered). reply_of limits (turn_of 0 xs rs lines d)) done ++ t)) (sym told_now)
-      ∙ ap (λ (t : List ℕ). head ++ (t ++ reply_of limits (turn_of 0 xs_new rs_new lines l))) (sym told_before)
-      ∙ ap (λ (t : List ℕ). head ++ t) (sym (joined_push (λ (d : Numbered). reply_of limits (turn_of 0 xs_new rs_new lines d)) done l)) in
+      ∙ ap (λ (t : List ℕ). head ++ (joined (λ (d : Numbered). reply_of limits known.readings (turn_of 0 xs rs lines d)) done ++ t)) (sym told_now)
+      ∙ ap (λ (t : List ℕ). head ++ (t ++ reply_of limits known.readings (turn_of 0 xs_new rs_new lines l))) (sym told_before)
+      ∙ ap (λ (t : List ℕ). head ++ t) (sym (joined_push (λ (d : Numbered). reply_of limits known.readings (turn_of 0 xs_new rs_new lines d)) done l)) in
       record {
         refused = rs_new;
-        woven = subst (λ (ns : List (List ℕ)). Each (λ (d : Numbered). IsWoven files ns (turn_of 0 (moments (journal_of new.session)) rs_new lines d)) (done ++ l ∷ [])) (sym s.grown)
-            (subst (λ (ys : List Moment). Each (λ (d : Numbered). IsWoven files names (turn_of 0 ys rs_new lines d)) (done ++ l ∷ [])) (sym (behind s))
+        woven = subst (λ (ns : List (List ℕ)). Each (λ (d : Numbered). IsWoven known ns (turn_of 0 (moments (journal_of new.session)) rs_new lines d)) (done ++ l ∷ [])) (sym s.grown)
+            (subst (λ (ys : List Moment). Each (λ (d : Numbered). IsWoven known names (turn_of 0 ys rs_new lines d)) (done ++ l ∷ [])) (sym (behind s))
             (each_push _ done l woven_before woven_now));
-        told = subst (λ (ys : List Moment). new.out.items ≡ head ++ joined (λ (d : Numbered). reply_of limits (turn_of 0 ys rs_new lines d)) (done ++ l ∷ [])) (sym (behind s)) told;
+        told = subst (λ (ys : List Moment). new.out.items ≡ head ++ joined (λ (d : Numbered). reply_of limits known.readings (turn_of 0 ys rs_new lines d)) (done ++ l ∷ [])) (sym (behind s)) told;
         entries = subst (Each (λ (e : Entry). (e.client ≡ 0) × IsLineOf (done ++ l ∷ []) e.line)) (sym s.journal)
             (each_by _ J l.number s.entered
             (each_map _ _ (λ (e : Entry) (p : (e.client ≡ 0) × IsLineOf done e.line). (p.0, line_more e.line done l p.1)) J h.entries)

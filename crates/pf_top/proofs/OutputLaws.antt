@@ -1,24 +1,26 @@
 -- What the steps of a replay give is what a run may print.
-use Rattle.std.proofs.Common.{◌≡◌, ℕ, ◌<◌, ◌≤◌, inl, inr, Bool, true, false, nat_le, Option, Some, None, List, [], ◌∷◌, refl, arith, sym, ap, ◌∙◌, append-nil, length, take, subst, true≢false}
+use Rattle.std.proofs.Common.{◌≡◌, ℕ, ◌<◌, ◌≤◌, inl, inr, Bool, true, false, cond, nat_le, Option, Some, None, List, [], ◌∷◌, refl, arith, sym, ap, ◌∙◌, append-nil, length, take, subst, true≢false}
 use Rattle.std.specs.Prelude.{option_and_then}
 use Rattle.std.proofs.lemmas.Bool.Decides.{nat_tests}
 use Rattle.pf_base.specs.declared.plain.Limits.{Limits}
 use Rattle.pf_io.specs.Outside.{Rose, Holds, Grows, LongerThan}
 use Rattle.pf_model.specs.Lists.{Each}
-use Rattle.pf_model.specs.PlainSelectors.{kept}
+use Rattle.pf_model.specs.Cuts.{kept}
 use Rattle.pf_model.specs.Scripts.{Numbered, script_of, script_word, most_bytes}
 use Rattle.pf_model.specs.Weave.{Files}
 use Rattle.pf_script.specs.Lines.{AllFollow, IsRead, lines_of}
 use Rattle.pf_script.specs.declared.script.Script.{Script}
-use Rattle.pf_top.specs.Correct.{ReadsAs, ReadsAsNone, AreScripts, IsUnbuilt, Reported, Outside, Correct, IsOutput}
-use Rattle.pf_top.specs.Drives.{CanRun, IsReport}
-use Rattle.pf_top.specs.Files.{AreLoaded, Contents, HoldsContent}
-use Rattle.pf_top.specs.Outputs.{IsScriptOutput, IsWordsOutput, default_limits}
+use Rattle.pf_top.specs.Correct.{ReadsAs, ReadsAsNone, AreScripts, IsUnbuilt, NamesFile, Reported, Outside, Correct, IsOutput}
+use Rattle.pf_top.specs.Drives.{AreShort, CanRun, IsReport}
+use Rattle.pf_top.specs.Files.{AreLoaded, Contents, HoldsContent, IsKept}
+use Rattle.pf_top.specs.Queries.{AreReadAs, IsKeptFor}
+use Rattle.pf_top.specs.Outputs.{IsRun, IsScriptOutput, IsWordsOutput, default_limits}
 use Rattle.pf_top.specs.Refusals.{refused_read, refused_not_built}
 use Rattle.std.specs.declared.vec.Vec.{Vec}
 use Rattle.std.specs.declared.alloc.Global.{Global}
 use Rattle.pf_top.specs.declared.loaded.Content.{Content}
 use Rattle.pf_top.specs.declared.loaded.Content.TheVariants.{Bytes}
+use Rattle.pf_top.specs.declared.loaded.Loaded.{Loaded}
 use Rattle.pf_top.proofs.Texts.{held_short}
 
 -- a rise from a later count is one from an earlier count
@@ -46,6 +48,7 @@ reported_by limits files words name lines full text word read r = record {
   names = r.names;
   rest = r.rest;
   read = scripts_are files (script_word words) name lines word read;
+  built = (r.built, tt);
   legal = r.legal;
   known = r.known;
   woven = r.woven;
@@ -58,11 +61,13 @@ words_by : (limits : Limits) (files : Files) (words : List (List ℕ)) (name : L
     → script_word words ≡ Some name → ReadsAs script_of (files name) lines → before ≤ mid
     → IsScriptOutput limits files mid after lines status text
     → IsWordsOutput limits files before after words status text
-words_by limits files words name lines before mid after status text word read h (inl (zero, r)) =
+words_by limits files words name lines before mid after status text word read h (inl (inl (zero, r))) =
     inl (zero, reported_by limits files words name lines false text word read r)
-words_by limits files words name lines before mid after status text word read h (inr (inl (eight, r))) =
+words_by limits files words name lines before mid after status text word read h (inl (inr (inl (eight, r)))) =
     inr (inl (eight, reported_by limits files words name lines true text word read r))
-words_by limits files words name lines before mid after status text word read h (inr (inr (four, (file, (named, (rose, whole)))))) =
+words_by limits files words name lines before mid after status text word read h (inl (inr (inr (nine, (has, whole))))) =
+    inr (inr (inr (nine, record { unbuilt = unbuilt_is files words (script_word words) name word (inr (lines, (read, has))); whole = whole })))
+words_by limits files words name lines before mid after status text word read h (inr (four, (file, (named, (rose, whole))))) =
     inr (inr (inl (
       four,
       record {
@@ -83,14 +88,22 @@ words_output limits files again words name lines before mid after status text wo
     words_by limits files words name lines before mid after status text word read h
     (subst (λ (f : Files). IsScriptOutput limits f mid after lines status text) all o)
 
-pub can_run : (told : Files) (script : Script) (kept : Contents) → AreLoaded told (lines_of script) kept → Each IsRead script.lines.items → AllFollow [] (lines_of script)
-    → CanRun script kept
-can_run told script kept l read following = record {
-  short = λ name content g. held_short told kept name content l.held g;
-  files = l.there;
-  read = read;
-  following = following;
-}
+-- contents that were loaded are short
+pub loaded_short : (told : Files) (lines : List Numbered) (kept : Contents) → AreLoaded told lines kept → AreShort kept
+loaded_short told lines kept l name content g = held_short told kept name content l.held g
+
+pub can_run : (script : Script) (loaded : Loaded) → AreShort loaded.files
+    → ((name : List ℕ) → NamesFile (lines_of script) name → IsKept loaded.files name)
+    → AreReadAs loaded.queries × Each (λ l. IsKeptFor loaded.queries l.line) (lines_of script)
+    → Each IsRead script.lines.items → AllFollow [] (lines_of script) → CanRun script loaded
+can_run script loaded short there queries read following =
+    record { short = short; files = there; right = queries.0; texts = queries.1; read = read; following = following }
+
+-- what a run gives, once the script and the files are read, by its report
+pub run_ended : (limits : Limits) (files : Files) (lines : List Numbered) (full : Bool) (status : ℕ) (text : List ℕ)
+    → status ≡ cond full 8 0 → IsReport limits files lines full text → IsRun limits files lines status text
+run_ended limits files lines false status text is r = inl (is, r)
+run_ended limits files lines true status text is r = inr (inl (is, r))
 
 past : (n most : ℕ) → most < n → nat_le n most ≡ false
 past n most h = grind (arith, nat_tests)
@@ -112,7 +125,7 @@ pub long_output : (limits : Limits) (files : Files) (words : List (List ℕ)) (n
     → script_word words ≡ Some name → LongerThan (files name) most_bytes → (status ≡ 9) × (text ≡ refused_not_built)
     → IsWordsOutput limits files before after words status text
 long_output limits files words name before after status text word long p =
-    inr (inr (inr (p.0, record { unbuilt = unbuilt_is files words (script_word words) name word (script_too_long (files name) long); whole = p.1 })))
+    inr (inr (inr (p.0, record { unbuilt = unbuilt_is files words (script_word words) name word (inl (script_too_long (files name) long)); whole = p.1 })))
 
 -- a script that was not read
 pub unread_output : (limits : Limits) (files : Files) (words : List (List ℕ)) (name : List ℕ) (before after status : ℕ) (text : List ℕ)

@@ -9,14 +9,17 @@ use Rattle.pf_model.specs.Lists.{Each, joined}
 use Rattle.pf_model.specs.Machine.{Entry, started, reserved}
 use Rattle.pf_model.specs.Report.{journal_text, line_text, reply_of, stop_reply}
 use Rattle.pf_model.specs.Scripts.{Numbered}
-use Rattle.pf_model.specs.Weave.{Files, IsLineOf, MetFull, Rest, Stop, StopsAt, Woven, turn_of}
+use Rattle.pf_model.specs.Weave.{Files, Known, IsLineOf, MetFull, Rest, Stop, StopsAt, Woven, turn_of}
 use Rattle.pf_top.specs.Clients.{IsStopped}
-use Rattle.pf_top.specs.Correct.{HaveMetFull}
+use Rattle.pf_top.specs.Correct.{HaveMetFull, IsBuiltLine}
 use Rattle.pf_top.specs.Drives.{IsEnd, IsReport, RanTo}
-use Rattle.pf_top.specs.Files.{AreHeld, Contents}
+use Rattle.pf_top.specs.Files.{AreHeld}
+use Rattle.pf_top.specs.Queries.{AreReadAs, IsTold, readings_in}
 use Rattle.pf_top.specs.Sessions.{journal_of}
 use Rattle.pf_top.specs.declared.client.Client.{Client}
+use Rattle.pf_top.specs.declared.loaded.Loaded.{Loaded}
 use Rattle.pf_top.proofs.Lists.{each_map}
+use Rattle.pf_top.proofs.TextReads.{reading_right}
 
 take_whole : {X : Type 0} (xs : List X) → take (length xs) xs ≡ xs
 take_whole [] = refl
@@ -31,8 +34,8 @@ only_one x y zero h = (refl, cc)
 only_one x y (suc i) h = cc
 
 -- the line that met the full journal
-met_full : (files : Files) (c : Client) (l : Numbered) → IsStopped files c l c → MetFull files c.session.limits (journal_of c.session) 0 l.line
-met_full files c l s = record {
+met_full : (known : Known) (c : Client) (l : Numbered) → IsStopped known c l c → MetFull known c.session.limits (journal_of c.session) 0 l.line
+met_full known c l s = record {
   front = length (journal_of c.session);
   has_all = subst (Each (λ (e : Entry). e.client ≡ 0 → ⊥)) (sym (drop_whole (journal_of c.session))) tt;
   wanted = s.wanted;
@@ -41,37 +44,40 @@ met_full files c l s = record {
       (sym (take_whole (journal_of c.session))) s.full;
 }
 
-stops_at : (files : Files) (c : Client) (l : Option Numbered) → IsEnd files c l → StopsAt files c.session.limits (journal_of c.session) 0 l (is_some l)
-stops_at files c None h = tt
-stops_at files c (Some l) h = met_full files c l h
+stops_at : (known : Known) (c : Client) (l : Option Numbered) → IsEnd known c l → StopsAt known c.session.limits (journal_of c.session) 0 l (is_some l)
+stops_at known c None h = tt
+stops_at known c (Some l) h = met_full known c l h
 
 met_by : (b : Bool) (stop : Stop) → stop.full ≡ b → HaveMetFull b (stop ∷ [])
 met_by false stop e = (e, tt)
 met_by true stop e = λ h. let f = h.0 in let g : true ≡ false = sym e ∙ f in cc
 
-pub reported : (limits : Limits) (kept : Contents) (lines : List Numbered) (n : ℕ) (c : Client) (full : Bool) (text : List ℕ) (files : Files)
-    → AreHeld files kept → RanTo limits kept lines n c
+pub reported : (limits : Limits) (loaded : Loaded) (lines : List Numbered) (n : ℕ) (c : Client) (full : Bool) (text : List ℕ) (told : Files)
+    → AreHeld told loaded.files → AreReadAs loaded.queries → Each (λ l. IsBuiltLine l.line) lines → RanTo limits loaded lines n c
     → full ≡ is_some (slice_get lines n)
     → text ≡ c.out.items ++ (stop_reply full (slice_get lines n) ++ journal_text c.session.names.items (journal_of c.session))
-    → IsReport limits files lines full text
-reported limits kept lines n c full text files held r met told =
-    let g = r.going files held in
+    → IsReport limits told lines full text
+reported limits loaded lines n c full text told files_held right built r met printed =
+    let known : Known = record { files = told; readings = readings_in loaded.queries } in
+    let held : IsTold known loaded = record { held = files_held; readings = refl } in
+    let g = r.going known held in
     let t = g.turns in
     let J = journal_of c.session in
     let names = c.session.names.items in
     let stop : Stop = record { ran = n; full = full; refused = t.refused } in
-    let rest : Rest = record { stops = stop ∷ [] } in
-    let woven : Woven files limits names J 0 lines stop = record {
+    let rest : Rest = record { stops = stop ∷ []; readings = readings_in loaded.queries } in
+    let woven : Woven known limits names J 0 lines stop = record {
       rising = t.rising;
-      known = each_map _ (λ (e : Entry). e.client ≡ 0 → IsLineOf (take n lines) e.line) (λ (e : Entry) (p : (e.client ≡ 0) × IsLineOf (take n lines) e.line). λ k. p.1) J t.entries;
+      lined = each_map _ (λ (e : Entry). e.client ≡ 0 → IsLineOf (take n lines) e.line) (λ (e : Entry) (p : (e.client ≡ 0) × IsLineOf (take n lines) e.line). λ k. p.1) J t.entries;
       each = t.woven;
-      stops = subst (λ (l : Limits). StopsAt files l J 0 (slice_get lines n) full) g.limited
-          (subst (StopsAt files c.session.limits J 0 (slice_get lines n)) (sym met) (stops_at files c (slice_get lines n) (r.stopped files held)));
+      stops = subst (λ (l : Limits). StopsAt known l J 0 (slice_get lines n) full) g.limited
+          (subst (StopsAt known c.session.limits J 0 (slice_get lines n)) (sym met) (stops_at known c (slice_get lines n) (r.stopped known held)));
     } in
     record {
       journal = J;
       names = names;
       rest = rest;
+      built = built;
       legal = subst (λ (l : Limits). Legal l names J) g.limited g.stands.legal;
       known = record { many = g.stands.many; different = g.stands.tenants.apart };
       woven = record {
@@ -79,15 +85,16 @@ reported limits kept lines n c full text files held r met told =
         each = λ client ls s a b.
             let one = only_one lines ls client a in
             let two = only_one stop s client b in
-            subst (λ k. Woven files limits names J k ls s) (sym one.0)
-            (subst (λ (x : Stop). Woven files limits names J 0 ls x) two.1
-            (subst (λ (x : List Numbered). Woven files limits names J 0 x stop) one.1 woven));
+            subst (λ k. Woven known limits names J k ls s) (sym one.0)
+            (subst (λ (x : Stop). Woven known limits names J 0 ls x) two.1
+            (subst (λ (x : List Numbered). Woven known limits names J 0 x stop) one.1 woven));
+        read = reading_right loaded.queries right;
         nobody_else = each_map _ _ (λ (e : Entry) (p : (e.client ≡ 0) × IsLineOf (take n lines) e.line). let z = p.0 in omega (arith, z)) J t.entries;
       };
       met = met_by full stop refl;
-      whole = told
+      whole = printed
           ∙ ap (λ (o : List ℕ). o ++ (stop_reply full (slice_get lines n) ++ journal_text names J)) t.told
-          ∙ shape (line_text (codes "client" ∷ decimal 0 ∷ [])) (joined (λ (l : Numbered). reply_of limits (turn_of 0 (moments J) t.refused lines l)) (take n lines))
+          ∙ shape (line_text (codes "client" ∷ decimal 0 ∷ [])) (joined (λ (l : Numbered). reply_of limits (readings_in loaded.queries) (turn_of 0 (moments J) t.refused lines l)) (take n lines))
           (stop_reply full (slice_get lines n)) (journal_text names J);
     } where
       shape : (a b c d : List ℕ) → (a ++ b) ++ (c ++ d) ≡ ((a ++ (b ++ c)) ++ []) ++ d

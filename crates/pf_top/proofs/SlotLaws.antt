@@ -7,8 +7,9 @@ use Rattle.pf_base.specs.declared.plain.Limits.{Limits}
 use Rattle.pf_model.specs.Legal.{Moment, moments}
 use Rattle.pf_model.specs.Lists.{Each}
 use Rattle.pf_model.specs.Machine.{Machine, Open as OpenQuery, Entry, started, open_at}
+use Rattle.pf_model.specs.Queries.{Readings}
 use Rattle.pf_model.specs.Scripts.{Line, Numbered}
-use Rattle.pf_model.specs.Weave.{Files, IsLineOf, IsOfAsk, asked_of_line, asking_line, asking_of, line_at, moment_of}
+use Rattle.pf_model.specs.Weave.{Known, IsLineOf, IsOfAsk, asked_of_line, asking_line, asking_of, line_at, moment_of}
 use Rattle.pf_script.specs.Lines.{Follows, IsAsk, NamesAsk}
 use Rattle.pf_top.specs.Asks.{IsAskStep, LeavesOpen, SlotRight}
 use Rattle.pf_top.specs.Clients.{IsStep, SameQueries, moment_with}
@@ -17,7 +18,7 @@ use Rattle.pf_top.specs.Sessions.{IsQuery, journal_of, machine_of}
 use Rattle.pf_top.specs.declared.client.Client.{Client}
 use Rattle.pf_top.specs.declared.session.Query.{Query}
 use Rattle.pf_top.specs.declared.slots.Slot.{Slot}
-use Rattle.pf_top.specs.declared.slots.Slot.TheVariants.{Open, BadGrid, Full, TooManyTenants}
+use Rattle.pf_top.specs.declared.slots.Slot.TheVariants.{Open, BadGrid, BadQuery, Full, TooManyTenants}
 use Rattle.pf_top.proofs.Lists.{each_map}
 use Rattle.pf_top.proofs.Machines.{bool_cases}
 use Rattle.pf_top.proofs.Onward.{ask_among, behind, turns_on}
@@ -52,12 +53,12 @@ line_at_behind (d ∷ ds) rest l h =
     let other : nat_eq d.number l.number ≡ false = let b = h.0 in grind (arith, nat_tests, b) in
     rw other (line_at_behind ds rest l h.1)
 
-slot_moves : (w v : ℕ) (m n : Machine) (asking : Option Line) (moment later : Option Moment) (s : Option Slot)
-    → SlotRight w m asking moment s → later ≡ moment → v ≡ w
+slot_moves : (readings : Readings) (w v : ℕ) (m n : Machine) (asking : Option Line) (moment later : Option Moment) (s : Option Slot)
+    → SlotRight readings w m asking moment s → later ≡ moment → v ≡ w
     → ((q : Query) → s ≡ Some (Open q) → (o : OpenQuery) → open_at q.place m.queries ≡ Some o → open_at q.place n.queries ≡ Some o)
-    → SlotRight v n asking later s
-slot_moves w v m n asking moment later None h e f still = absurd h
-slot_moves w v m n asking moment later (Some (Open q)) h e f still = (
+    → SlotRight readings v n asking later s
+slot_moves readings w v m n asking moment later None h e f still = absurd h
+slot_moves readings w v m n asking moment later (Some (Open q)) h e f still = (
   subst (λ (x : Option Moment). IsOfAsk x q.place) (sym e) h.0,
   subst (λ k. IsQuery k n q) (sym f) (record {
     opened = h.1.opened;
@@ -68,9 +69,10 @@ slot_moves w v m n asking moment later (Some (Open q)) h e f still = (
     uncancelled = h.1.uncancelled;
   }),
 )
-slot_moves w v m n asking moment later (Some (BadGrid g)) h e f still = subst (λ (x : Option Moment). SlotRight v n asking x (Some (BadGrid g))) (sym e) h
-slot_moves w v m n asking moment later (Some Full) h e f still = subst (λ (x : Option Moment). SlotRight v n asking x (Some Full)) (sym e) h
-slot_moves w v m n asking moment later (Some TooManyTenants) h e f still = subst (λ (x : Option Moment). SlotRight v n asking x (Some TooManyTenants)) (sym e) h
+slot_moves readings w v m n asking moment later (Some (BadGrid g)) h e f still = subst (λ (x : Option Moment). SlotRight readings v n asking x (Some (BadGrid g))) (sym e) h
+slot_moves readings w v m n asking moment later (Some (BadQuery g)) h e f still = subst (λ (x : Option Moment). SlotRight readings v n asking x (Some (BadQuery g))) (sym e) h
+slot_moves readings w v m n asking moment later (Some Full) h e f still = subst (λ (x : Option Moment). SlotRight readings v n asking x (Some Full)) (sym e) h
+slot_moves readings w v m n asking moment later (Some TooManyTenants) h e f still = subst (λ (x : Option Moment). SlotRight readings v n asking x (Some TooManyTenants)) (sym e) h
 
 -- what is found in a map that changed at one key
 at_other : (get_new get_old found : Option Slot) (b : Bool) → get_new ≡ cond b found get_old → b ≡ false → get_new ≡ get_old
@@ -79,27 +81,27 @@ at_other get_new get_old found b e t = e ∙ ap (λ x. cond x found get_old) t
 at_same : (get_new get_old found : Option Slot) (b : Bool) → get_new ≡ cond b found get_old → b ≡ true → get_new ≡ found
 at_same get_new get_old found b e t = e ∙ ap (λ x. cond x found get_old) t
 
-module _ (files : Files) (limits : Limits) (lines done : List Numbered) (old new : Client) (l : Numbered) where
+module _ (known : Known) (limits : Limits) (lines done : List Numbered) (old new : Client) (l : Numbered) where
   asking : Option Line
   asking = asking_of lines (asking_line l.line)
 
-  moment_kept : (k : ℕ) (s : IsStep files old l (asking_of lines (asking_line l.line)) (asked_of_line 0 (moments (journal_of old.session)) (asking_line l.line)) new)
+  moment_kept : (k : ℕ) (s : IsStep known old l (asking_of lines (asking_line l.line)) (asked_of_line 0 (moments (journal_of old.session)) (asking_line l.line)) new)
       → k ≢ l.number → moment_of 0 k (moments (journal_of new.session)) ≡ moment_of 0 k (moments (journal_of old.session))
   moment_kept k s d =
-      ap (moment_of 0 k) (behind files limits lines done old new l s)
+      ap (moment_of 0 k) (behind known limits lines done old new l s)
       ∙ moment_front k l.number (machine_of old.session) s.entered (moments (journal_of old.session)) d
 
   number_other : (k : ℕ) → Follows done l → IsAsk (line_at k done) → k ≢ l.number
   number_other k f a e = let b = line_below l.number k done f.rising (ask_among k done a) in omega (arith, b, e)
 
-  pub slots_plain : HaveSlots lines done old → Follows done l
-      → IsStep files old l (asking_of lines (asking_line l.line)) (asked_of_line 0 (moments (journal_of old.session)) (asking_line l.line)) new
-      → SameQueries old new → (IsAsk (Some l.line) → ⊥) → HaveSlots lines (done ++ l ∷ []) new
+  pub slots_plain : HaveSlots known.readings lines done old → Follows done l
+      → IsStep known old l (asking_of lines (asking_line l.line)) (asked_of_line 0 (moments (journal_of old.session)) (asking_line l.line)) new
+      → SameQueries old new → (IsAsk (Some l.line) → ⊥) → HaveSlots known.readings lines (done ++ l ∷ []) new
   slots_plain h f s q unasked = record {
     right = λ k a un. elim (ask_push k done l a) [
       | inl there ↦
-          subst (SlotRight new.session.limits.window (machine_of new.session) (line_at k lines) (moment_of 0 k (moments (journal_of new.session)))) (sym (ap (λ x. get nat_cmp x k) q.slots))
-          (slot_moves old.session.limits.window new.session.limits.window (machine_of old.session) (machine_of new.session) (line_at k lines)
+          subst (SlotRight known.readings new.session.limits.window (machine_of new.session) (line_at k lines) (moment_of 0 k (moments (journal_of new.session)))) (sym (ap (λ x. get nat_cmp x k) q.slots))
+          (slot_moves known.readings old.session.limits.window new.session.limits.window (machine_of old.session) (machine_of new.session) (line_at k lines)
           (moment_of 0 k (moments (journal_of old.session))) (moment_of 0 k (moments (journal_of new.session))) (get nat_cmp old.slots k)
           (h.right k there (each_front _ done (l ∷ []) un)) (moment_kept k s (number_other k f there)) (ap (λ (x : Limits). x.window) s.limits)
           (λ p e o g. subst (λ (qs : List OpenQuery). open_at p.place qs ≡ Some o) (sym q.queries) g))
@@ -109,12 +111,12 @@ module _ (files : Files) (limits : Limits) (lines done : List Numbered) (old new
     below = λ k p e. let b = h.below k p (sym (ap (λ x. get nat_cmp x k) q.slots) ∙ e) in let c = q.counted in omega (arith, b, c);
   }
 
-  pub slots_answer : (asked : ℕ) → asking_line l.line ≡ Some asked → HaveSlots lines done old → Follows done l
-      → IsStep files old l (asking_of lines (asking_line l.line)) (asked_of_line 0 (moments (journal_of old.session)) (asking_line l.line)) new
+  pub slots_answer : (asked : ℕ) → asking_line l.line ≡ Some asked → HaveSlots known.readings lines done old → Follows done l
+      → IsStep known old l (asking_of lines (asking_line l.line)) (asked_of_line 0 (moments (journal_of old.session)) (asking_line l.line)) new
       → ((k : ℕ) → get nat_cmp new.slots k ≡ cond (nat_eq asked k) None (get nat_cmp old.slots k))
       → LeavesOpen (get nat_cmp old.slots asked) (machine_of old.session).queries (machine_of new.session).queries
       → (machine_of old.session).count ≤ (machine_of new.session).count
-      → (IsAsk (Some l.line) → ⊥) → HaveSlots lines (done ++ l ∷ []) new
+      → (IsAsk (Some l.line) → ⊥) → HaveSlots known.readings lines (done ++ l ∷ []) new
   slots_answer asked names h f s left leaves counted unasked =
       let old_of : (k : ℕ) (p : Query) → get nat_cmp new.slots k ≡ Some (Open p) → (k ≢ asked) × (get nat_cmp old.slots k ≡ Some (Open p)) =
       λ k p e. elim (bool_cases (nat_eq asked k)) [
@@ -127,8 +129,8 @@ module _ (files : Files) (limits : Limits) (lines done : List Numbered) (old new
               let differ : k ≢ asked = λ e. each_last _ done l un (names ∙ ap (λ x. Some x) (sym e)) in
               let unchanged : get nat_cmp new.slots k ≡ get nat_cmp old.slots k =
               at_other _ (get nat_cmp old.slots k) None _ (left k) (let d = differ in grind (arith, nat_tests, d)) in
-              subst (SlotRight new.session.limits.window (machine_of new.session) (line_at k lines) (moment_of 0 k (moments (journal_of new.session)))) (sym unchanged)
-              (slot_moves old.session.limits.window new.session.limits.window (machine_of old.session) (machine_of new.session) (line_at k lines)
+              subst (SlotRight known.readings new.session.limits.window (machine_of new.session) (line_at k lines) (moment_of 0 k (moments (journal_of new.session)))) (sym unchanged)
+              (slot_moves known.readings old.session.limits.window new.session.limits.window (machine_of old.session) (machine_of new.session) (line_at k lines)
               (moment_of 0 k (moments (journal_of old.session))) (moment_of 0 k (moments (journal_of new.session))) (get nat_cmp old.slots k)
               (h.right k there (each_front _ done (l ∷ []) un)) (moment_kept k s (number_other k f there)) (ap (λ (x : Limits). x.window) s.limits)
               (λ p e o g. open_still (get nat_cmp old.slots asked) refl leaves k p differ e o g))
@@ -143,17 +145,18 @@ module _ (files : Files) (limits : Limits) (lines done : List Numbered) (old new
         open_still None is leaves k p d e o g = leaves p.place o g
         open_still (Some (Open q)) is leaves k p d e o g = leaves p.place o (λ same. d (h.apart k asked p q e is same)) g
         open_still (Some (BadGrid x)) is leaves k p d e o g = leaves p.place o g
+        open_still (Some (BadQuery x)) is leaves k p d e o g = leaves p.place o g
         open_still (Some Full) is leaves k p d e o g = leaves p.place o g
         open_still (Some TooManyTenants) is leaves k p d e o g = leaves p.place o g
 
-module _ (files : Files) (limits : Limits) (lines done rest : List Numbered) (old new : Client) (l : Numbered) where
-  pub slots_ask : lines ≡ done ++ l ∷ rest → HaveTurns files limits lines done old → HaveSlots lines done old → Follows done l
-      → (a : IsAskStep files old l new) → asking_line l.line ≡ None
-      → HaveSlots lines (done ++ l ∷ []) new
+module _ (known : Known) (limits : Limits) (lines done rest : List Numbered) (old new : Client) (l : Numbered) where
+  pub slots_ask : lines ≡ done ++ l ∷ rest → HaveTurns known limits lines done old → HaveSlots known.readings lines done old → Follows done l
+      → (a : IsAskStep known old l new) → asking_line l.line ≡ None
+      → HaveSlots known.readings lines (done ++ l ∷ []) new
   slots_ask whole t h f a none =
       let J = journal_of old.session in
-      let s : IsStep files old l (asking_of lines (asking_line l.line)) (asked_of_line 0 (moments J) (asking_line l.line)) new =
-      subst (λ (n : Option ℕ). IsStep files old l (asking_of lines n) (asked_of_line 0 (moments J) n) new) (sym none) a.step in
+      let s : IsStep known old l (asking_of lines (asking_line l.line)) (asked_of_line 0 (moments J) (asking_line l.line)) new =
+      subst (λ (n : Option ℕ). IsStep known old l (asking_of lines n) (asked_of_line 0 (moments J) n) new) (sym none) a.step in
       let lower : Each (λ (x : Moment). x.entry.line < l.number) (moments J) =
       each_moments (λ (e : Entry). e.line < l.number) started J
       (each_map _ _ (λ (e : Entry) (p : (e.client ≡ 0) × IsLineOf done e.line). line_below l.number e.line done f.rising p.1) J t.entries) in
@@ -165,10 +168,10 @@ module _ (files : Files) (limits : Limits) (lines done rest : List Numbered) (ol
       λ k e. at_same _ (get nat_cmp old.slots k) (Some a.slot) _ (a.kept k) (grind (arith, nat_tests, e)) in
       let is_old : (k : ℕ) → k ≢ l.number → get nat_cmp new.slots k ≡ get nat_cmp old.slots k =
       λ k d. at_other _ (get nat_cmp old.slots k) (Some a.slot) _ (a.kept k) (grind (arith, nat_tests, d)) in
-      let here_right : SlotRight new.session.limits.window (machine_of new.session) (line_at l.number lines) (moment_of 0 l.number (moments (journal_of new.session))) (get nat_cmp new.slots l.number) =
-      subst (λ (x : Option Line). SlotRight new.session.limits.window (machine_of new.session) x (moment_of 0 l.number (moments (journal_of new.session))) (get nat_cmp new.slots l.number)) (sym line_is)
-      (subst (λ (x : Option Moment). SlotRight new.session.limits.window (machine_of new.session) (Some l.line) x (get nat_cmp new.slots l.number)) (sym mine)
-      (subst (SlotRight new.session.limits.window (machine_of new.session) (Some l.line) (moment_with (machine_of old.session) l.number a.step.entered)) (sym (is_new l.number refl)) a.right)) in
+      let here_right : SlotRight known.readings new.session.limits.window (machine_of new.session) (line_at l.number lines) (moment_of 0 l.number (moments (journal_of new.session))) (get nat_cmp new.slots l.number) =
+      subst (λ (x : Option Line). SlotRight known.readings new.session.limits.window (machine_of new.session) x (moment_of 0 l.number (moments (journal_of new.session))) (get nat_cmp new.slots l.number)) (sym line_is)
+      (subst (λ (x : Option Moment). SlotRight known.readings new.session.limits.window (machine_of new.session) (Some l.line) x (get nat_cmp new.slots l.number)) (sym mine)
+      (subst (SlotRight known.readings new.session.limits.window (machine_of new.session) (Some l.line) (moment_with (machine_of old.session) l.number a.step.entered)) (sym (is_new l.number refl)) a.right)) in
       let fresh_place : (p : Query) → a.slot ≡ Open p → (p.place ≡ (machine_of old.session).count) × (p.place < (machine_of new.session).count) = a.fresh in
       let slot_is : (k : ℕ) (p : Query) → l.number ≡ k → get nat_cmp new.slots k ≡ Some (Open p) → a.slot ≡ Open p =
       λ k p e g. some_slot a.slot (Open p) (sym (is_new k e) ∙ g) in
@@ -176,18 +179,18 @@ module _ (files : Files) (limits : Limits) (lines done rest : List Numbered) (ol
         right = λ k asks un. elim (bool_cases (nat_eq l.number k)) [
           | inl t ↦
               let same : l.number ≡ k = grind (arith, nat_tests, t) in
-              subst (λ n. SlotRight new.session.limits.window (machine_of new.session) (line_at n lines) (moment_of 0 n (moments (journal_of new.session))) (get nat_cmp new.slots n)) same here_right
+              subst (λ n. SlotRight known.readings new.session.limits.window (machine_of new.session) (line_at n lines) (moment_of 0 n (moments (journal_of new.session))) (get nat_cmp new.slots n)) same here_right
           | inr t ↦
               let differ : k ≢ l.number = λ e. grind (arith, nat_tests, t, e) in
               let there : IsAsk (line_at k done) = elim (ask_push k done l asks) [
                 | inl b ↦ b
                 | inr b ↦ absurd (differ (sym b.0))
               ] in
-              subst (SlotRight new.session.limits.window (machine_of new.session) (line_at k lines) (moment_of 0 k (moments (journal_of new.session)))) (sym (is_old k differ))
-              (slot_moves old.session.limits.window new.session.limits.window (machine_of old.session) (machine_of new.session) (line_at k lines)
+              subst (SlotRight known.readings new.session.limits.window (machine_of new.session) (line_at k lines) (moment_of 0 k (moments (journal_of new.session)))) (sym (is_old k differ))
+              (slot_moves known.readings old.session.limits.window new.session.limits.window (machine_of old.session) (machine_of new.session) (line_at k lines)
               (moment_of 0 k (moments J)) (moment_of 0 k (moments (journal_of new.session))) (get nat_cmp old.slots k)
               (h.right k there (each_front _ done (l ∷ []) un))
-              (moment_kept files limits lines done old new l k s differ)
+              (moment_kept known limits lines done old new l k s differ)
               (ap (λ (x : Limits). x.window) a.step.limits)
               (λ p e o g. a.still p.place o g))
         ];
@@ -221,57 +224,57 @@ module _ (files : Files) (limits : Limits) (lines done rest : List Numbered) (ol
 
 -- ---- going on
 
-module _ (files : Files) (limits : Limits) (lines done rest : List Numbered) (old new : Client) (l : Numbered) where
+module _ (known : Known) (limits : Limits) (lines done rest : List Numbered) (old new : Client) (l : Numbered) where
   -- an `ingest` or a `delete`
-  pub going_plain : Going files limits lines done old → Follows done l → asking_line l.line ≡ None → (IsAsk (Some l.line) → ⊥)
-      → IsStep files old l None None new → SameQueries old new → Going files limits lines (done ++ l ∷ []) new
+  pub going_plain : Going known limits lines done old → Follows done l → asking_line l.line ≡ None → (IsAsk (Some l.line) → ⊥)
+      → IsStep known old l None None new → SameQueries old new → Going known limits lines (done ++ l ∷ []) new
   going_plain g f none unasked s q =
-      let t : IsStep files old l (asking_of lines (asking_line l.line)) (asked_of_line 0 (moments (journal_of old.session)) (asking_line l.line)) new =
-      subst (λ (n : Option ℕ). IsStep files old l (asking_of lines n) (asked_of_line 0 (moments (journal_of old.session)) n) new) (sym none) s in
+      let t : IsStep known old l (asking_of lines (asking_line l.line)) (asked_of_line 0 (moments (journal_of old.session)) (asking_line l.line)) new =
+      subst (λ (n : Option ℕ). IsStep known old l (asking_of lines n) (asked_of_line 0 (moments (journal_of old.session)) n) new) (sym none) s in
       record {
         stands = s.stands;
         limited = s.limits ∙ g.limited;
-        turns = turns_on files limits lines done old new l g.turns g.limited f t;
-        slots = slots_plain files limits lines done old new l g.slots f t q unasked;
+        turns = turns_on known limits lines done old new l g.turns g.limited f t;
+        slots = slots_plain known limits lines done old new l g.slots f t q unasked;
       }
 
   -- an `ask`
-  pub going_ask : lines ≡ done ++ l ∷ rest → Going files limits lines done old → Follows done l → asking_line l.line ≡ None
-      → IsAskStep files old l new → Going files limits lines (done ++ l ∷ []) new
+  pub going_ask : lines ≡ done ++ l ∷ rest → Going known limits lines done old → Follows done l → asking_line l.line ≡ None
+      → IsAskStep known old l new → Going known limits lines (done ++ l ∷ []) new
   going_ask whole g f none a =
-      let t : IsStep files old l (asking_of lines (asking_line l.line)) (asked_of_line 0 (moments (journal_of old.session)) (asking_line l.line)) new =
-      subst (λ (n : Option ℕ). IsStep files old l (asking_of lines n) (asked_of_line 0 (moments (journal_of old.session)) n) new) (sym none) a.step in
+      let t : IsStep known old l (asking_of lines (asking_line l.line)) (asked_of_line 0 (moments (journal_of old.session)) (asking_line l.line)) new =
+      subst (λ (n : Option ℕ). IsStep known old l (asking_of lines n) (asked_of_line 0 (moments (journal_of old.session)) n) new) (sym none) a.step in
       record {
         stands = a.step.stands;
         limited = a.step.limits ∙ g.limited;
-        turns = turns_on files limits lines done old new l g.turns g.limited f t;
-        slots = slots_ask files limits lines done rest old new l whole g.turns g.slots f a none;
+        turns = turns_on known limits lines done old new l g.turns g.limited f t;
+        slots = slots_ask known limits lines done rest old new l whole g.turns g.slots f a none;
       }
 
   -- an `answer`
-  pub going_answer : (asked : ℕ) → Going files limits lines done old → Follows done l → asking_line l.line ≡ Some asked → (IsAsk (Some l.line) → ⊥)
-      → IsStep files old l (line_at asked lines) (moment_of 0 asked (moments (journal_of old.session))) new
+  pub going_answer : (asked : ℕ) → Going known limits lines done old → Follows done l → asking_line l.line ≡ Some asked → (IsAsk (Some l.line) → ⊥)
+      → IsStep known old l (line_at asked lines) (moment_of 0 asked (moments (journal_of old.session))) new
       → ((k : ℕ) → get nat_cmp new.slots k ≡ cond (nat_eq asked k) None (get nat_cmp old.slots k))
       → LeavesOpen (get nat_cmp old.slots asked) (machine_of old.session).queries (machine_of new.session).queries
       → (machine_of old.session).count ≤ (machine_of new.session).count
-      → Going files limits lines (done ++ l ∷ []) new
+      → Going known limits lines (done ++ l ∷ []) new
   going_answer asked g f names unasked s left leaves counted =
-      let t : IsStep files old l (asking_of lines (asking_line l.line)) (asked_of_line 0 (moments (journal_of old.session)) (asking_line l.line)) new =
-      subst (λ (n : Option ℕ). IsStep files old l (asking_of lines n) (asked_of_line 0 (moments (journal_of old.session)) n) new) (sym names) s in
+      let t : IsStep known old l (asking_of lines (asking_line l.line)) (asked_of_line 0 (moments (journal_of old.session)) (asking_line l.line)) new =
+      subst (λ (n : Option ℕ). IsStep known old l (asking_of lines n) (asked_of_line 0 (moments (journal_of old.session)) n) new) (sym names) s in
       record {
         stands = s.stands;
         limited = s.limits ∙ g.limited;
-        turns = turns_on files limits lines done old new l g.turns g.limited f t;
-        slots = slots_answer files limits lines done old new l asked names g.slots f t left leaves counted unasked;
+        turns = turns_on known limits lines done old new l g.turns g.limited f t;
+        slots = slots_answer known limits lines done old new l asked names g.slots f t left leaves counted unasked;
       }
 
 -- the ask that an answer names is kept
-pub slot_of_answer : (lines done : List Numbered) (c : Client) (l : Numbered) (asked : ℕ) → HaveSlots lines done c → Follows done l → asking_line l.line ≡ Some asked
-    → SlotRight c.session.limits.window (machine_of c.session) (line_at asked lines) (moment_of 0 asked (moments (journal_of c.session))) (get nat_cmp c.slots asked)
-slot_of_answer lines done c l asked h f names =
+pub slot_of_answer : (readings : Readings) (lines done : List Numbered) (c : Client) (l : Numbered) (asked : ℕ) → HaveSlots readings lines done c → Follows done l → asking_line l.line ≡ Some asked
+    → SlotRight readings c.session.limits.window (machine_of c.session) (line_at asked lines) (moment_of 0 asked (moments (journal_of c.session))) (get nat_cmp c.slots asked)
+slot_of_answer readings lines done c l asked h f names =
     let n : NamesAsk done (Some asked) = subst (NamesAsk done) names f.names in
     h.right asked n.0 n.1
 
 -- and if it is an open query, the machine has it open
-pub query_of_answer : (w : ℕ) (m : Machine) (asking : Option Line) (moment : Option Moment) (s : Option Slot) → SlotRight w m asking moment s → (q : Query) → s ≡ Some (Open q) → IsQuery w m q
-query_of_answer w m asking moment s h q e = (subst (SlotRight w m asking moment) e h).1
+pub query_of_answer : (readings : Readings) (w : ℕ) (m : Machine) (asking : Option Line) (moment : Option Moment) (s : Option Slot) → SlotRight readings w m asking moment s → (q : Query) → s ≡ Some (Open q) → IsQuery w m q
+query_of_answer readings w m asking moment s h q e = (subst (SlotRight readings w m asking moment) e h).1

@@ -14,7 +14,7 @@ use Rattle.pf_top.specs.Clients.{moment_with}
 use Rattle.pf_top.specs.Sessions.{IsAsked, IsEnteredFor}
 use Rattle.pf_top.specs.declared.session.Query.{Query}
 use Rattle.pf_top.specs.declared.slots.Slot.{Slot}
-use Rattle.pf_top.specs.declared.slots.Slot.TheVariants.{Open, BadGrid, Full, TooManyTenants}
+use Rattle.pf_top.specs.declared.slots.Slot.TheVariants.{Open, BadGrid, BadQuery, Full, TooManyTenants}
 use Rattle.pf_top.proofs.Machines.{open_at_front}
 use Rattle.pf_base.specs.declared.plain.By.{By}
 use Rattle.pf_model.specs.Legal.{Moment}
@@ -22,25 +22,27 @@ use Rattle.pf_base.specs.Batches.{BatchData}
 use Rattle.pf_model.specs.declared.expr.Matcher.{Matcher}
 use Rattle.pf_model.specs.Machine as what
 use Rattle.pf_model.specs.Machine.{Machine, What, append, full, no_tenant, Entry, next}
-use Rattle.pf_model.specs.PlainSelectors.{asked_of, selector_of}
+use Rattle.pf_model.specs.Queries.{IsSelector, asked_of}
 use Rattle.pf_model.specs.Report.{reply_of, reply_line, ingested}
 use Rattle.pf_model.specs.Scripts.{Line, Numbered, ingest, delete, ask}
 use Rattle.pf_store.specs.Verdicts.{VerdictsData}
 use Rattle.pf_store.specs.declared.tenant_log.Deleted.{Deleted}
-use Rattle.pf_model.specs.Weave.{Files, Fits, Gives, IsMatched, Excepted, Refusal}
+use Rattle.pf_model.specs.Weave.{Known, Fits, Gives, IsMatched, Excepted, Refusal}
 use Rattle.pf_top.specs.Clients.{IsStep, SameQueries, entries_by, turn_with}
 use Rattle.pf_top.specs.Sessions.{Stands, IsAppended, IsDeleted, IsEntered, journal_of, machine_of}
 use Rattle.pf_top.specs.declared.client.Client.{Client}
 use Rattle.pf_top.specs.declared.session.Session.{Session}
-use Rattle.pf_top.proofs.Queries.{machine_behind}
+use Rattle.pf_types.specs.Errors.{words_of_error}
+use Rattle.pf_types.specs.declared.query.QueryError.{QueryError}
+use Rattle.pf_top.proofs.OpenQueries.{machine_behind}
 
 -- a line with an entry
-abbrev pub step_entered : (files : Files) (old new : Client) (by : By) (l : Numbered) (what : What) (asking : Option Line) (asked : Option Moment)
+abbrev pub step_entered : (known : Known) (old new : Client) (by : By) (l : Numbered) (what : What) (asking : Option Line) (asked : Option Moment)
     → IsEntered old.session by what new.session → by.client ≡ 0 → by.line ≡ l.number
-    → Fits files new.session.names.items l.line asked what
-    → new.out.items ≡ old.out.items ++ reply_of old.session.limits (turn_with (machine_of old.session) l None asking asked (Some what))
-    → IsStep files old l asking asked new
-step_entered files old new by l what asking asked e client line fits told = record {
+    → Fits known new.session.names.items l.line asked what
+    → new.out.items ≡ old.out.items ++ reply_of old.session.limits known.readings (turn_with (machine_of old.session) l None asking asked (Some what))
+    → IsStep known old l asking asked new
+step_entered known old new by l what asking asked e client line fits told = record {
   entered = Some what;
   refused = None;
   stands = e.stands;
@@ -55,12 +57,12 @@ step_entered files old new by l what asking asked e client line fits told = reco
 }
 
 -- a line without one leaves the session
-abbrev pub step_excepted : (files : Files) (old new : Client) (l : Numbered) (refused : Option Refusal) (asking : Option Line) (asked : Option Moment)
+abbrev pub step_excepted : (known : Known) (old new : Client) (l : Numbered) (refused : Option Refusal) (asking : Option Line) (asked : Option Moment)
     → Stands old.session → new.session ≡ old.session
-    → Excepted files (turn_with (machine_of old.session) l refused asking asked None) l.line
-    → new.out.items ≡ old.out.items ++ reply_of old.session.limits (turn_with (machine_of old.session) l refused asking asked None)
-    → IsStep files old l asking asked new
-step_excepted files old new l refused asking asked h same excepted told = record {
+    → Excepted known (turn_with (machine_of old.session) l refused asking asked None) l.line
+    → new.out.items ≡ old.out.items ++ reply_of old.session.limits known.readings (turn_with (machine_of old.session) l refused asking asked None)
+    → IsStep known old l asking asked new
+step_excepted known old new l refused asking asked h same excepted told = record {
   entered = None;
   refused = refused;
   stands = subst Stands (sym same) h;
@@ -91,25 +93,25 @@ same_session old new same slots = record {
 }
 
 -- a batch was taken in
-pub step_ingested : (files : Files) (old new : Client) (by : By) (n : ℕ) (tenant file : List ℕ) (time : ℕ) (batch : BatchData) (v : VerdictsData)
-    → IsAppended old.session by tenant batch v new.session → by.client ≡ 0 → by.line ≡ n → Gives (files file) time batch
+pub step_ingested : (known : Known) (old new : Client) (by : By) (n : ℕ) (tenant file : List ℕ) (time : ℕ) (batch : BatchData) (v : VerdictsData)
+    → IsAppended old.session by tenant batch v new.session → by.client ≡ 0 → by.line ≡ n → Gives (known.files file) time batch
     → new.out.items ≡ old.out.items ++ ingested n tenant batch.skipped v.list v.entry
-    → IsStep files old (record { number = n; line = ingest tenant file time }) None None new
-step_ingested files old new by n tenant file time batch v e client line gives told =
-    step_entered files old new by _ (append e.number batch v.list v.entry) None None e.entered client line (e.named, gives) told
+    → IsStep known old (record { number = n; line = ingest tenant file time }) None None new
+step_ingested known old new by n tenant file time batch v e client line gives told =
+    step_entered known old new by _ (append e.number batch v.list v.entry) None None e.entered client line (e.named, gives) told
 
 pub same_ingested : (old new : Client) (by : By) (tenant : List ℕ) (batch : BatchData) (v : VerdictsData)
     → IsAppended old.session by tenant batch v new.session → new.slots ≡ old.slots → SameQueries old new
 same_ingested old new by tenant batch v e slots = same_entered old new by (append e.number batch v.list v.entry) e.entered refl slots
 
 -- samples were deleted
-pub step_deleted : (files : Files) (old new : Client) (by : By) (n : ℕ) (tenant : List ℕ) (from to : ℕ) (selector : List ℕ) (ms : List Matcher) (d : Deleted)
+pub step_deleted : (known : Known) (old new : Client) (by : By) (n : ℕ) (tenant : List ℕ) (from to : ℕ) (selector : List ℕ) (ms : List Matcher) (d : Deleted)
     → IsDeleted old.session by tenant ms from to d new.session → by.client ≡ 0 → by.line ≡ n
-    → from ≤ to → to ≤ 4398046511103 → selector_of selector ≡ Some ms
+    → from ≤ to → to ≤ 4398046511103 → IsSelector selector ms
     → new.out.items ≡ old.out.items ++ reply_line n (codes "delete") tenant (codes "generation" ∷ decimal d.generation ∷ codes "entry" ∷ decimal d.entry ∷ [])
-    → IsStep files old (record { number = n; line = delete tenant from to selector }) None None new
-step_deleted files old new by n tenant from to selector ms d e client line forward within read told =
-    step_entered files old new by _ (what.delete e.number ms from to d.generation d.entry) None None e.entered client line
+    → IsStep known old (record { number = n; line = delete tenant from to selector }) None None new
+step_deleted known old new by n tenant from to selector ms d e client line forward within read told =
+    step_entered known old new by _ (what.delete e.number ms from to d.generation d.entry) None None e.entered client line
     (e.named, ((forward, within), read, refl, refl)) told
 
 pub same_deleted : (old new : Client) (by : By) (tenant : List ℕ) (from to : ℕ) (ms : List Matcher) (d : Deleted)
@@ -124,14 +126,30 @@ if_ok_map P Q (Err e) f h = tt
 -- ---- asks
 
 -- an ask whose grid is refused
-pub step_bad_grid : (files : Files) (old new : Client) (n : ℕ) (id tenant : List ℕ) (start end step : ℕ) (query : List ℕ) (e : GridError)
-    → Stands old.session → new.session ≡ old.session → asked_of start end step query ≡ Err (grid_text e)
+pub step_bad_grid : (known : Known) (old new : Client) (n : ℕ) (id tenant : List ℕ) (start end step : ℕ) (query : List ℕ) (e : GridError)
+    → Stands old.session → new.session ≡ old.session → asked_of known.readings start end step query ≡ Some (Err (grid_text e))
     → new.out.items ≡ old.out.items ++ asked_refused n id (codes "400")
     → ((k : ℕ) → get nat_cmp new.slots k ≡ cond (nat_eq n k) (Some (BadGrid e)) (get nat_cmp old.slots k))
-    → IsAskStep files old (record { number = n; line = ask id tenant start end step query }) new
-step_bad_grid files old new n id tenant start end step query e h same refused told kept = record {
-  step = step_excepted files old new _ None None None h same (subst IsNoAsk (sym refused) tt) told;
+    → IsAskStep known old (record { number = n; line = ask id tenant start end step query }) new
+step_bad_grid known old new n id tenant start end step query e h same refused told kept = record {
+  step = step_excepted known old new _ None None None h same (subst IsNoAsk (sym refused) tt) told;
   slot = BadGrid e;
+  kept = kept;
+  right = (refl, ap refusal_text_of refused);
+  still = λ place o g. subst (λ (s : Session). open_at place (machine_of s).queries ≡ Some o) (sym same) g;
+  counted = let c = ap (λ (s : Session). (machine_of s).count) same in omega (arith, c);
+  fresh = λ q g. cc;
+}
+
+-- an ask whose query is refused
+pub step_bad_query : (known : Known) (old new : Client) (n : ℕ) (id tenant : List ℕ) (start end step : ℕ) (query : List ℕ) (e : QueryError)
+    → Stands old.session → new.session ≡ old.session → asked_of known.readings start end step query ≡ Some (Err (words_of_error e))
+    → new.out.items ≡ old.out.items ++ asked_refused n id (codes "400")
+    → ((k : ℕ) → get nat_cmp new.slots k ≡ cond (nat_eq n k) (Some (BadQuery e)) (get nat_cmp old.slots k))
+    → IsAskStep known old (record { number = n; line = ask id tenant start end step query }) new
+step_bad_query known old new n id tenant start end step query e h same refused told kept = record {
+  step = step_excepted known old new _ None None None h same (subst IsNoAsk (sym refused) tt) told;
+  slot = BadQuery e;
   kept = kept;
   right = (refl, ap refusal_text_of refused);
   still = λ place o g. subst (λ (s : Session). open_at place (machine_of s).queries ≡ Some o) (sym same) g;
@@ -150,17 +168,17 @@ still_open old new by what e h place o g =
     subst (λ (m : Machine). open_at place m.queries ≡ Some o) (sym (machine_behind old.session new.session by what e.journal)) (h place o g)
 
 -- an ask whose query is open
-pub step_asked : (files : Files) (old new : Client) (by : By) (n : ℕ) (id tenant : List ℕ) (start end step : ℕ) (query : List ℕ) (wanted : Asked) (q : Query)
+pub step_asked : (known : Known) (old new : Client) (by : By) (n : ℕ) (id tenant : List ℕ) (start end step : ℕ) (query : List ℕ) (wanted : Asked) (q : Query)
     → IsAsked old.session by tenant wanted q new.session → by.client ≡ 0 → by.line ≡ n
-    → asked_of start end step query ≡ Ok wanted
+    → asked_of known.readings start end step query ≡ Some (Ok wanted)
     → new.out.items ≡ old.out.items ++ reply_line n (codes "ask") id (codes "pin" ∷ decimal q.pin.number ∷ codes "place" ∷ decimal q.place ∷ [])
     → ((k : ℕ) → get nat_cmp new.slots k ≡ cond (nat_eq n k) (Some (Open q)) (get nat_cmp old.slots k))
-    → IsAskStep files old (record { number = n; line = ask id tenant start end step query }) new
-step_asked files old new by n id tenant start end step query wanted q a client line asked told kept =
+    → IsAskStep known old (record { number = n; line = ask id tenant start end step query }) new
+step_asked known old new by n id tenant start end step query wanted q a client line asked told kept =
     let what : What = what.ask a.number wanted q.pin.number q.pin.generation q.pin.floor in
     let counted = behind_push old new by what a.entered in
     record {
-      step = step_entered files old new by _ what None None a.entered client line (a.named, asked)
+      step = step_entered known old new by _ what None None a.entered client line (a.named, asked)
           (told ∙ ap (λ k. old.out.items ++ reply_line n (codes "ask") id (codes "pin" ∷ decimal q.pin.number ∷ codes "place" ∷ decimal k ∷ [])) a.place);
       slot = Open q;
       kept = kept;
@@ -172,21 +190,21 @@ step_asked files old new by n id tenant start end step query wanted q a client l
     }
 
 -- an ask that was refused with an entry
-pub step_unasked : (files : Files) (old new : Client) (by : By) (n : ℕ) (id tenant : List ℕ) (start end step : ℕ) (query : List ℕ) (wanted : Asked) (what : What) (slot : Slot)
+pub step_unasked : (known : Known) (old new : Client) (by : By) (n : ℕ) (id tenant : List ℕ) (start end step : ℕ) (query : List ℕ) (wanted : Asked) (what : What) (slot : Slot)
     → IsEntered old.session by what new.session → by.client ≡ 0 → by.line ≡ n
-    → asked_of start end step query ≡ Ok wanted
-    → IsNamed new.session.names.items tenant what → FitsAsk (Ok wanted) what
+    → asked_of known.readings start end step query ≡ Some (Ok wanted)
+    → IsNamed new.session.names.items tenant what → FitsAsk (Some (Ok wanted)) what
     → StayOpen (machine_of old.session).queries (next (machine_of old.session) what).queries
     → new.out.items ≡ old.out.items ++ ask_reply n id (machine_of old.session).count (Some what)
-    → SlotRight new.session.limits.window (machine_of new.session) (Some (ask id tenant start end step query))
+    → SlotRight known.readings new.session.limits.window (machine_of new.session) (Some (ask id tenant start end step query))
     (moment_with (machine_of old.session) n (Some what)) (Some slot)
     → ((q : Query) → slot ≡ Open q → ⊥)
     → ((k : ℕ) → get nat_cmp new.slots k ≡ cond (nat_eq n k) (Some slot) (get nat_cmp old.slots k))
-    → IsAskStep files old (record { number = n; line = ask id tenant start end step query }) new
-step_unasked files old new by n id tenant start end step query wanted what slot e client line asked named fits stays told right closed kept =
+    → IsAskStep known old (record { number = n; line = ask id tenant start end step query }) new
+step_unasked known old new by n id tenant start end step query wanted what slot e client line asked named fits stays told right closed kept =
     let counted = behind_push old new by what e in
     record {
-      step = step_entered files old new by _ what None None e client line (named, subst (λ (r : Result Asked (List ℕ)). FitsAsk r what) (sym asked) fits) told;
+      step = step_entered known old new by _ what None None e client line (named, subst (λ (r : Option (Result Asked (List ℕ))). FitsAsk r what) (sym asked) fits) told;
       slot = slot;
       kept = kept;
       right = right;
@@ -196,45 +214,45 @@ step_unasked files old new by n id tenant start end step query wanted what slot 
     }
 
 -- the same where the session is told by an equation
-pub asked_by : (files : Files) (old new : Client) (now : Session) (by : By) (n : ℕ) (id tenant : List ℕ) (start end step : ℕ) (query : List ℕ) (wanted : Asked) (q : Query)
+pub asked_by : (known : Known) (old new : Client) (now : Session) (by : By) (n : ℕ) (id tenant : List ℕ) (start end step : ℕ) (query : List ℕ) (wanted : Asked) (q : Query)
     → new.session ≡ now
     → IsAsked old.session by tenant wanted q now → by.client ≡ 0 → by.line ≡ n
-    → asked_of start end step query ≡ Ok wanted
+    → asked_of known.readings start end step query ≡ Some (Ok wanted)
     → new.out.items ≡ old.out.items ++ reply_line n (codes "ask") id (codes "pin" ∷ decimal q.pin.number ∷ codes "place" ∷ decimal q.place ∷ [])
     → ((k : ℕ) → get nat_cmp new.slots k ≡ cond (nat_eq n k) (Some (Open q)) (get nat_cmp old.slots k))
-    → IsAskStep files old (record { number = n; line = ask id tenant start end step query }) new
-asked_by files old new now by n id tenant start end step query wanted q same a client line asked told kept =
-    step_asked files old new by n id tenant start end step query wanted q
+    → IsAskStep known old (record { number = n; line = ask id tenant start end step query }) new
+asked_by known old new now by n id tenant start end step query wanted q same a client line asked told kept =
+    step_asked known old new by n id tenant start end step query wanted q
     (subst (λ (s : Session). IsAsked old.session by tenant wanted q s) (sym same) a) client line asked told kept
 
-pub filled_by : (files : Files) (old new : Client) (now : Session) (by : By) (n limit : ℕ) (id tenant : List ℕ) (start end step : ℕ) (query : List ℕ) (wanted : Asked)
+pub filled_by : (known : Known) (old new : Client) (now : Session) (by : By) (n limit : ℕ) (id tenant : List ℕ) (start end step : ℕ) (query : List ℕ) (wanted : Asked)
     → new.session ≡ now
     → IsEnteredFor old.session by tenant (λ u. full u limit) now → by.client ≡ 0 → by.line ≡ n
-    → asked_of start end step query ≡ Ok wanted
+    → asked_of known.readings start end step query ≡ Some (Ok wanted)
     → new.out.items ≡ old.out.items ++ asked_refused n id (codes "429")
     → ((k : ℕ) → get nat_cmp new.slots k ≡ cond (nat_eq n k) (Some Full) (get nat_cmp old.slots k))
-    → IsAskStep files old (record { number = n; line = ask id tenant start end step query }) new
-filled_by files old new now by n limit id tenant start end step query wanted same a client line asked told kept =
+    → IsAskStep known old (record { number = n; line = ask id tenant start end step query }) new
+filled_by known old new now by n limit id tenant start end step query wanted same a client line asked told kept =
     let b : IsEnteredFor old.session by tenant (λ u. full u limit) new.session = subst (λ (s : Session). IsEnteredFor old.session by tenant (λ u. full u limit) s) (sym same) a in
-    step_unasked files old new by n id tenant start end step query wanted (full b.number limit) Full b.entered client line asked
+    step_unasked known old new by n id tenant start end step query wanted (full b.number limit) Full b.entered client line asked
     b.named tt (λ place o g. g) told tt (λ q g. cc) kept
 
-pub stranger_by : (files : Files) (old new : Client) (now : Session) (by : By) (n : ℕ) (id tenant : List ℕ) (start end step : ℕ) (query : List ℕ) (wanted : Asked)
+pub stranger_by : (known : Known) (old new : Client) (now : Session) (by : By) (n : ℕ) (id tenant : List ℕ) (start end step : ℕ) (query : List ℕ) (wanted : Asked)
     → new.session ≡ now
     → IsEntered old.session by (no_tenant tenant) now → by.client ≡ 0 → by.line ≡ n
-    → asked_of start end step query ≡ Ok wanted
+    → asked_of known.readings start end step query ≡ Some (Ok wanted)
     → new.out.items ≡ old.out.items ++ asked_refused n id (codes "503")
     → ((k : ℕ) → get nat_cmp new.slots k ≡ cond (nat_eq n k) (Some TooManyTenants) (get nat_cmp old.slots k))
-    → IsAskStep files old (record { number = n; line = ask id tenant start end step query }) new
-stranger_by files old new now by n id tenant start end step query wanted same a client line asked told kept =
+    → IsAskStep known old (record { number = n; line = ask id tenant start end step query }) new
+stranger_by known old new now by n id tenant start end step query wanted same a client line asked told kept =
     let b : IsEntered old.session by (no_tenant tenant) new.session = subst (λ (s : Session). IsEntered old.session by (no_tenant tenant) s) (sym same) a in
-    step_unasked files old new by n id tenant start end step query wanted (no_tenant tenant) TooManyTenants b client line asked
+    step_unasked known old new by n id tenant start end step query wanted (no_tenant tenant) TooManyTenants b client line asked
     refl tt (λ place o g. g) told tt (λ q g. cc) kept
 
 -- a step speaks of the session and the report before it alone
-pub step_from : (files : Files) (old mid new : Client) (l : Numbered) (asking : Option Line) (asked : Option Moment)
-    → mid.session ≡ old.session → mid.out.items ≡ old.out.items → IsStep files mid l asking asked new → IsStep files old l asking asked new
-step_from files old mid new l asking asked same out h = record {
+pub step_from : (known : Known) (old mid new : Client) (l : Numbered) (asking : Option Line) (asked : Option Moment)
+    → mid.session ≡ old.session → mid.out.items ≡ old.out.items → IsStep known mid l asking asked new → IsStep known old l asking asked new
+step_from known old mid new l asking asked same out h = record {
   entered = h.entered;
   refused = h.refused;
   stands = h.stands;
@@ -242,7 +260,7 @@ step_from files old mid new l asking asked same out h = record {
   journal = h.journal ∙ ap (λ (s : Session). journal_of s ++ entries_by l.number h.entered) same;
   more = h.more;
   grown = h.grown ∙ ap (λ (s : Session). s.names.items ++ h.more) same;
-  woven = subst (λ (s : Session). IsMatched files new.session.names.items (turn_with (machine_of s) l h.refused asking asked h.entered) (moment_with (machine_of s) l.number h.entered)) same h.woven;
-  told = h.told ∙ ap (λ (t : List ℕ). t ++ reply_of mid.session.limits (turn_with (machine_of mid.session) l h.refused asking asked h.entered)) out
-      ∙ ap (λ (s : Session). old.out.items ++ reply_of s.limits (turn_with (machine_of s) l h.refused asking asked h.entered)) same;
+  woven = subst (λ (s : Session). IsMatched known new.session.names.items (turn_with (machine_of s) l h.refused asking asked h.entered) (moment_with (machine_of s) l.number h.entered)) same h.woven;
+  told = h.told ∙ ap (λ (t : List ℕ). t ++ reply_of mid.session.limits known.readings (turn_with (machine_of mid.session) l h.refused asking asked h.entered)) out
+      ∙ ap (λ (s : Session). old.out.items ++ reply_of s.limits known.readings (turn_with (machine_of s) l h.refused asking asked h.entered)) same;
 }

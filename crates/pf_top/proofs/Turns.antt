@@ -6,7 +6,7 @@ use Rattle.pf_model.specs.Lists.{Each, joined}
 use Rattle.pf_model.specs.Machine.{Machine, What, append, delete, ask, full, no_tenant, cancel, answer, Entry, next}
 use Rattle.pf_model.specs.Scripts as script
 use Rattle.pf_model.specs.Scripts.{Line, Numbered}
-use Rattle.pf_model.specs.Weave.{Files, Fits, IsLineOf, IsMatched, IsNamed, Refusal, Refused, Rises, Turn, asked_of_line, asking_line, asking_of, moment_of, is_of, refusal_of, turn_of}
+use Rattle.pf_model.specs.Weave.{Known, Fits, IsLineOf, IsMatched, IsNamed, Refusal, Refused, Rises, Turn, asked_of_line, asking_line, asking_of, moment_of, is_of, refusal_of, turn_of}
 use Rattle.pf_top.specs.Clients.{entries_by, moment_with, turn_with}
 use Rattle.pf_top.specs.Going.{IsAmong}
 use Rattle.pf_top.proofs.Lists.{get_front}
@@ -128,15 +128,15 @@ named_more names more tenant (no_tenant name) h = h
 named_more names more tenant (cancel query) h = h
 named_more names more tenant (answer query code cached evaluated) h = h
 
-fits_more : (files : Files) (names more : List (List ℕ)) (l : Line) (asked : Option Moment) (w : What) → Fits files names l asked w → Fits files (names ++ more) l asked w
-fits_more files names more (script.ingest tenant file time) asked w h = (named_more names more tenant w h.0, h.1)
-fits_more files names more (script.delete tenant from to selector) asked w h = (named_more names more tenant w h.0, h.1)
-fits_more files names more (script.ask id tenant start end step query) asked w h = (named_more names more tenant w h.0, h.1)
-fits_more files names more (script.answer id line) asked w h = h
+fits_more : (known : Known) (names more : List (List ℕ)) (l : Line) (asked : Option Moment) (w : What) → Fits known names l asked w → Fits known (names ++ more) l asked w
+fits_more known names more (script.ingest tenant file time) asked w h = (named_more names more tenant w h.0, h.1)
+fits_more known names more (script.delete tenant from to selector) asked w h = (named_more names more tenant w h.0, h.1)
+fits_more known names more (script.ask id tenant start end step query) asked w h = (named_more names more tenant w h.0, h.1)
+fits_more known names more (script.answer id line) asked w h = h
 
-pub matched_more : (files : Files) (names more : List (List ℕ)) (t : Turn) (mine : Option Moment) → IsMatched files names t mine → IsMatched files (names ++ more) t mine
-matched_more files names more t None h = h
-matched_more files names more t (Some x) h = fits_more files names more t.line.line t.asked x.entry.what h
+pub matched_more : (known : Known) (names more : List (List ℕ)) (t : Turn) (mine : Option Moment) → IsMatched known names t mine → IsMatched known (names ++ more) t mine
+matched_more known names more t None h = h
+matched_more known names more t (Some x) h = fits_more known names more t.line.line t.asked x.entry.what h
 
 -- ---- joined replies
 

@@ -6,15 +6,17 @@ use Rattle.pf_model.specs.ErrorTexts.{full_text, grid_text, tenants_text}
 use Rattle.pf_model.specs.Json.{error_text}
 use Rattle.pf_model.specs.Legal.{Moment}
 use Rattle.pf_model.specs.Machine.{What, full, no_tenant, Machine, Open as OpenQuery, open_at}
+use Rattle.pf_model.specs.Queries.{Readings}
 use Rattle.pf_model.specs.Report.{answered, asking_text}
 use Rattle.pf_model.specs.Scripts.{Line, Numbered}
-use Rattle.pf_model.specs.Weave.{Files, IsOfAsk, what_of}
+use Rattle.pf_model.specs.Weave.{Known, IsOfAsk, what_of}
+use Rattle.pf_types.specs.Errors.{words_of_error}
 use Rattle.pf_top.specs.Clients.{IsStep, moment_with}
 use Rattle.pf_top.specs.Sessions.{IsQuery, machine_of}
 use Rattle.pf_top.specs.declared.client.Client.{Client}
 use Rattle.pf_top.specs.declared.session.Query.{Query}
 use Rattle.pf_top.specs.declared.slots.Slot.{Slot}
-use Rattle.pf_top.specs.declared.slots.Slot.TheVariants.{Open, BadGrid, Full, TooManyTenants}
+use Rattle.pf_top.specs.declared.slots.Slot.TheVariants.{Open, BadGrid, BadQuery, Full, TooManyTenants}
 
 -- what became of asks, by line
 abbrev pub Slots : Type 0
@@ -34,27 +36,30 @@ IsNoTenantWhat _ = ⊥
 abbrev pub slot_code : Slot → List ℕ
 slot_code (Open q) = []
 slot_code (BadGrid e) = codes "400"
+slot_code (BadQuery e) = codes "400"
 slot_code Full = codes "429"
 slot_code TooManyTenants = codes "503"
 
 -- what is kept of an ask is what became of it
-abbrev pub SlotRight : ℕ → Machine → Option Line → Option Moment → Option Slot → Type 0
-SlotRight window m asking moment None = ⊥
-SlotRight window m asking moment (Some (Open q)) = IsOfAsk moment q.place × IsQuery window m q
-SlotRight window m asking moment (Some (BadGrid e)) = (what_of moment ≡ None) × (asking_text asking ≡ grid_text e)
-SlotRight window m asking moment (Some Full) = IsFullWhat (what_of moment)
-SlotRight window m asking moment (Some TooManyTenants) = IsNoTenantWhat (what_of moment)
+abbrev pub SlotRight : Readings → ℕ → Machine → Option Line → Option Moment → Option Slot → Type 0
+SlotRight readings window m asking moment None = ⊥
+SlotRight readings window m asking moment (Some (Open q)) = IsOfAsk moment q.place × IsQuery window m q
+SlotRight readings window m asking moment (Some (BadGrid e)) = (what_of moment ≡ None) × (asking_text readings asking ≡ grid_text e)
+SlotRight readings window m asking moment (Some (BadQuery e)) =
+    (what_of moment ≡ None) × (asking_text readings asking ≡ words_of_error e)
+SlotRight readings window m asking moment (Some Full) = IsFullWhat (what_of moment)
+SlotRight readings window m asking moment (Some TooManyTenants) = IsNoTenantWhat (what_of moment)
 
 -- open queries that are open later
 abbrev pub StayOpen : List OpenQuery → List OpenQuery → Type 0
 StayOpen old new = (place : ℕ) (o : OpenQuery) → open_at place old ≡ Some o → open_at place new ≡ Some o
 
 -- an ask was run, and what became of it is kept
-pub record IsAskStep (files : Files) (old : Client) (l : Numbered) (new : Client) : Type 0 where
-  pub step : IsStep files old l None None new
+pub record IsAskStep (known : Known) (old : Client) (l : Numbered) (new : Client) : Type 0 where
+  pub step : IsStep known old l None None new
   pub slot : Slot
   pub kept : (k : ℕ) → get nat_cmp new.slots k ≡ cond (nat_eq l.number k) (Some slot) (get nat_cmp old.slots k)
-  pub right : SlotRight new.session.limits.window (machine_of new.session) (Some l.line)
+  pub right : SlotRight known.readings new.session.limits.window (machine_of new.session) (Some l.line)
       (moment_with (machine_of old.session) l.number step.entered) (Some slot)
   pub still : StayOpen (machine_of old.session).queries (machine_of new.session).queries
   pub counted : (machine_of old.session).count ≤ (machine_of new.session).count
@@ -65,6 +70,7 @@ pub record IsAskStep (files : Files) (old : Client) (l : Numbered) (new : Client
 abbrev pub refused_answer : ℕ → List ℕ → Slot → List ℕ
 refused_answer n id (Open q) = []
 refused_answer n id (BadGrid e) = answered n id (codes "400") 0 0 (error_text (codes "bad_data") (grid_text e))
+refused_answer n id (BadQuery e) = answered n id (codes "400") 0 0 (error_text (codes "bad_data") (words_of_error e))
 refused_answer n id Full = answered n id (codes "429") 0 0 (error_text (codes "too_many_requests") full_text)
 refused_answer n id TooManyTenants = answered n id (codes "503") 0 0 (error_text (codes "unavailable") tenants_text)
 

@@ -7,7 +7,7 @@ use Rattle.pf_model.specs.Legal.{Moment}
 use Rattle.pf_model.specs.Machine.{What, Entry, Machine}
 use Rattle.pf_model.specs.Report.{reply_of}
 use Rattle.pf_model.specs.Scripts.{Line, Numbered}
-use Rattle.pf_model.specs.Weave.{Files, Gives, IsMatched, IsRefusedAs, Refusal, Turn, WantsRoom, at_line, too_long}
+use Rattle.pf_model.specs.Weave.{Known, Gives, IsMatched, IsRefusedAs, Refusal, Turn, WantsRoom, at_line, too_long}
 use Rattle.pf_top.specs.Sessions.{Stands, IsFull, journal_of, machine_of}
 use Rattle.pf_top.specs.declared.client.Client.{Client}
 use Rattle.pf_top.specs.declared.client.FileFault.{FileFault}
@@ -39,7 +39,7 @@ turn_with m l refused asking asked what =
     record { line = l; mine = moment_with m l.number what; refused = refused; asking = asking; asked = asked }
 
 -- a line was run: it entered at most one entry, which fits it, and its reply was told
-pub record IsStep (files : Files) (old : Client) (l : Numbered) (asking : Option Line) (asked : Option Moment) (new : Client) : Type 0 where
+pub record IsStep (known : Known) (old : Client) (l : Numbered) (asking : Option Line) (asked : Option Moment) (new : Client) : Type 0 where
   pub entered : Option What
   pub refused : Option Refusal
   pub stands : Stands new.session
@@ -47,21 +47,21 @@ pub record IsStep (files : Files) (old : Client) (l : Numbered) (asking : Option
   pub journal : journal_of new.session ≡ journal_of old.session ++ entries_by l.number entered
   pub more : List (List ℕ)
   pub grown : new.session.names.items ≡ old.session.names.items ++ more
-  pub woven : IsMatched files new.session.names.items (turn_with (machine_of old.session) l refused asking asked entered)
+  pub woven : IsMatched known new.session.names.items (turn_with (machine_of old.session) l refused asking asked entered)
       (moment_with (machine_of old.session) l.number entered)
   pub told : new.out.items
-      ≡ old.out.items ++ reply_of old.session.limits (turn_with (machine_of old.session) l refused asking asked entered)
+      ≡ old.out.items ++ reply_of old.session.limits known.readings (turn_with (machine_of old.session) l refused asking asked entered)
 
 -- a line met the full journal
-pub record IsStopped (files : Files) (old : Client) (l : Numbered) (new : Client) : Type 0 where
+pub record IsStopped (known : Known) (old : Client) (l : Numbered) (new : Client) : Type 0 where
   pub wanted : ℕ
-  pub wants : WantsRoom files l.line wanted
+  pub wants : WantsRoom known l.line wanted
   pub full : IsFull old.session wanted
   pub same : new ≡ old
 
-abbrev pub Runs : Files → Client → Numbered → Option Line → Option Moment → Ran → Client → Type 0
-Runs files old l asking asked On new = IsStep files old l asking asked new
-Runs files old l asking asked Full new = IsStopped files old l new
+abbrev pub Runs : Known → Client → Numbered → Option Line → Option Moment → Ran → Client → Type 0
+Runs known old l asking asked On new = IsStep known old l asking asked new
+Runs known old l asking asked Full new = IsStopped known old l new
 
 -- neither open queries nor what became of asks changed
 pub record SameQueries (old new : Client) : Type 0 where
@@ -79,6 +79,6 @@ IsTimed (Batch batch) = are_timed batch.rows ≡ true
 IsTimed (Refused fault) = Unit {0}
 
 -- an ask was run, or met the full journal
-abbrev pub AskRuns : (Client → Type 0) → Files → Client → Numbered → Ran → Client → Type 0
-AskRuns IsAskRun files old l On new = IsAskRun new
-AskRuns IsAskRun files old l Full new = IsStopped files old l new
+abbrev pub AskRuns : (Client → Type 0) → Known → Client → Numbered → Ran → Client → Type 0
+AskRuns IsAskRun known old l On new = IsAskRun new
+AskRuns IsAskRun known old l Full new = IsStopped known old l new

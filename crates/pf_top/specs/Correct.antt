@@ -5,6 +5,7 @@ use Rattle.pf_io.specs.Outside.{Rose, Grows}
 use Rattle.pf_model.specs.Legal.{Legal, AreNames}
 use Rattle.pf_model.specs.Lists.{Each}
 use Rattle.pf_model.specs.Machine.{Entry}
+use Rattle.pf_model.specs.Queries.{IsBuiltQuery, IsBuiltSelector, IsUnbuiltQuery, IsUnbuiltSelector}
 use Rattle.pf_model.specs.Report.{report}
 use Rattle.pf_model.specs.Scripts.{Line, Numbered, ingest, delete, ask, answer, script_of, script_word}
 use Rattle.pf_model.specs.Weave.{Rest, Stop, Weave}
@@ -36,6 +37,23 @@ abbrev pub NamesFile : List Numbered → List ℕ → Type 0
 NamesFile [] name = ⊥
 NamesFile (l ∷ ls) name = LineNames l.line name ⊎ NamesFile ls name
 
+-- a line's query or selector is of a form that is built, or of one that is not
+abbrev pub IsBuiltLine : Line → Type 0
+IsBuiltLine (ingest tenant file time) = Unit {0}
+IsBuiltLine (delete tenant from to selector) = IsBuiltSelector selector
+IsBuiltLine (ask id tenant start end step query) = IsBuiltQuery query
+IsBuiltLine (answer id asked) = Unit {0}
+
+abbrev pub IsUnbuiltLine : Line → Type 0
+IsUnbuiltLine (ingest tenant file time) = ⊥
+IsUnbuiltLine (delete tenant from to selector) = IsUnbuiltSelector selector
+IsUnbuiltLine (ask id tenant start end step query) = IsUnbuiltQuery query
+IsUnbuiltLine (answer id asked) = ⊥
+
+abbrev pub HasUnbuilt : List Numbered → Type 0
+HasUnbuilt [] = ⊥
+HasUnbuilt (l ∷ ls) = IsUnbuiltLine l.line ⊎ HasUnbuilt ls
+
 -- a client met the full journal, or none did
 abbrev pub HaveMetFull : Bool → List Stop → Type 0
 HaveMetFull false stops = Each (λ s. s.full ≡ false) stops
@@ -48,6 +66,7 @@ pub record Reported (limits : Limits) (files : List ℕ → Option (List ℕ)) (
   pub names : List (List ℕ)
   pub rest : Rest
   pub read : AreScripts files (script_word words) scripts
+  pub built : Each (Each (λ l. IsBuiltLine l.line)) scripts
   pub legal : Legal limits names journal
   pub known : AreNames names journal
   pub woven : Weave files limits names journal scripts rest
@@ -67,10 +86,12 @@ pub record Unread (files : List ℕ → Option (List ℕ)) (before after : ℕ) 
   pub rose : Rose before after
   pub whole : text ≡ refused_read name
 
--- the words, or the script that they name, are of no form that is built
+-- the words, the script that they name or a query of this script are of no form that is built
 abbrev pub IsUnbuilt : (List ℕ → Option (List ℕ)) → List (List ℕ) → Option (List ℕ) → Type 0
 IsUnbuilt files words None = Unit {0}
-IsUnbuilt files words (Some name) = ReadsAsNone script_of (files name)
+IsUnbuilt files words (Some name) =
+    ReadsAsNone script_of (files name)
+    ⊎ ((lines : List Numbered) × (ReadsAs script_of (files name) lines × HasUnbuilt lines))
 
 pub record Unbuilt (files : List ℕ → Option (List ℕ)) (words : List (List ℕ)) (text : List ℕ) : Type 0 where
   pub unbuilt : IsUnbuilt files words (script_word words)

@@ -7,47 +7,52 @@ use Rattle.pf_model.specs.Legal.{AreNames, Legal}
 use Rattle.pf_model.specs.Machine.{Entry}
 use Rattle.pf_model.specs.Report.{report}
 use Rattle.pf_model.specs.Scripts.{Numbered}
-use Rattle.pf_model.specs.Weave.{Files, Rest, Weave}
+use Rattle.pf_model.specs.Weave.{Files, Known, Rest, Weave}
 use Rattle.pf_script.specs.Lines.{AllFollow, IsRead, lines_of}
 use Rattle.pf_script.specs.declared.script.Script.{Script}
 use Rattle.pf_top.specs.Clients.{IsStopped}
-use Rattle.pf_top.specs.Correct.{HaveMetFull, NamesFile}
-use Rattle.pf_top.specs.Files.{AreHeld, Contents, IsKept, IsShort}
+use Rattle.pf_top.specs.Correct.{HaveMetFull, IsBuiltLine, NamesFile}
+use Rattle.pf_top.specs.Files.{Contents, IsKept, IsShort}
 use Rattle.pf_top.specs.Going.{Going}
+use Rattle.pf_top.specs.Queries.{AreReadAs, IsKeptFor, IsTold}
 use Rattle.pf_top.specs.declared.client.Client.{Client}
 use Rattle.pf_top.specs.declared.loaded.Content.{Content}
+use Rattle.pf_top.specs.declared.loaded.Loaded.{Loaded}
 
 -- no content is longer than the greatest length
 abbrev pub AreShort : Contents → Type 0
 AreShort kept = (name : List ℕ) (content : Content) → get_by_text kept name ≡ Some content → IsShort content
 
--- a script with what the files that it names hold
-pub record CanRun (script : Script) (kept : Contents) : Type 0 where
-  pub short : AreShort kept
-  pub files : (name : List ℕ) → NamesFile (lines_of script) name → IsKept kept name
+-- a script with what the files that it names hold, and how its queries are read
+pub record CanRun (script : Script) (loaded : Loaded) : Type 0 where
+  pub short : AreShort loaded.files
+  pub files : (name : List ℕ) → NamesFile (lines_of script) name → IsKept loaded.files name
+  pub right : AreReadAs loaded.queries
+  pub texts : Each (λ l. IsKeptFor loaded.queries l.line) (lines_of script)
   pub read : Each IsRead script.lines.items
   pub following : AllFollow [] (lines_of script)
 
 -- a client is on its way, wherever what files hold is told
-abbrev pub IsGoing : Limits → Contents → List Numbered → List Numbered → Client → Type 0
-IsGoing limits kept lines done c = (files : Files) → AreHeld files kept → Going files limits lines done c
+abbrev pub IsGoing : Limits → Loaded → List Numbered → List Numbered → Client → Type 0
+IsGoing limits loaded lines done c = (known : Known) → IsTold known loaded → Going known limits lines done c
 
 -- the line that met the full journal, if the client did not run to the end
-abbrev pub IsEnd : Files → Client → Option Numbered → Type 0
-IsEnd files c None = Unit {0}
-IsEnd files c (Some l) = IsStopped files c l c
+abbrev pub IsEnd : Known → Client → Option Numbered → Type 0
+IsEnd known c None = Unit {0}
+IsEnd known c (Some l) = IsStopped known c l c
 
 -- a client ran so many lines
-pub record RanTo (limits : Limits) (kept : Contents) (lines : List Numbered) (n : ℕ) (c : Client) : Type 0 where
+pub record RanTo (limits : Limits) (loaded : Loaded) (lines : List Numbered) (n : ℕ) (c : Client) : Type 0 where
   pub within : n ≤ length lines
-  pub going : IsGoing limits kept lines (take n lines) c
-  pub stopped : (files : Files) → AreHeld files kept → IsEnd files c (slice_get lines n)
+  pub going : IsGoing limits loaded lines (take n lines) c
+  pub stopped : (known : Known) → IsTold known loaded → IsEnd known c (slice_get lines n)
 
 -- text is the report of a legal journal that is woven from one client's script
 pub record IsReport (limits : Limits) (files : Files) (lines : List Numbered) (full : Bool) (text : List ℕ) : Type 0 where
   pub journal : List Entry
   pub names : List (List ℕ)
   pub rest : Rest
+  pub built : Each (λ l. IsBuiltLine l.line) lines
   pub legal : Legal limits names journal
   pub known : AreNames names journal
   pub woven : Weave files limits names journal (lines ∷ []) rest

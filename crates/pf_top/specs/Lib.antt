@@ -6,5 +6,6 @@ pub mod Entries
 pub mod Files
 pub mod Going
 pub mod Outputs
+pub mod Queries
 pub mod Refusals
 pub mod Sessions

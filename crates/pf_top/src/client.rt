@@ -1,16 +1,17 @@
 //! A client that runs the lines of its script.
 
 ghost use Rattle.std.specs.Arc.{arc_value};
-ghost use Rattle.pf_model.specs.PlainSelectors.{asked_of, selector_of};
-ghost use Rattle.std.specs.Prelude.{◌≡◌, ◌≤◌, ◌++◌, ◌∷◌, [], ℕ, Ok, codes, cond, decimal, nat_eq, List, Option, length, IfOk, OnOk, Some, None, map, true};
+ghost use Rattle.pf_base.specs.Grids.{grid_of, maxt};
+ghost use Rattle.pf_model.specs.Queries.{IsSelector, asked_of};
+ghost use Rattle.std.specs.Prelude.{◌≡◌, ◌≤◌, ◌++◌, ◌∷◌, [], ℕ, Ok, codes, cond, decimal, nat_eq, nat_lt, ◌||◌, List, Option, length, IfOk, OnOk, Some, None, map, true};
 ghost use Rattle.pf_block.specs.Snaps.{are_timed};
-ghost use Rattle.pf_model.specs.Report.{answered, asked_refused, ingest_reply, reply_line, tenants_words};
+ghost use Rattle.pf_model.specs.Report.{answered, asked_refused, delete_reply, ingest_reply, reply_line, tenants_words, undeleted_words};
 ghost use Rattle.pf_io.specs.Outside.{Holds};
 ghost use Rattle.pf_script.specs.Lines.{numbered_of};
 ghost use Rattle.pf_top.specs.Going.{GoesOn, IsReady};
 ghost use Rattle.pf_model.specs.Scripts as script;
 ghost use Rattle.pf_model.specs.Scripts.{answer, ask, delete, ingest, most_bytes};
-ghost use Rattle.pf_model.specs.Weave.{Files, Gives};
+ghost use Rattle.pf_model.specs.Weave.{Gives, Known};
 ghost use Rattle.pf_report.specs.Words.{word_text};
 ghost use Rattle.std.specs.BTreeMap.{get};
 ghost use Rattle.std.specs.Ordering.{nat_cmp};
@@ -20,13 +21,16 @@ ghost use Rattle.pf_top.specs.declared.session.Query.{Query};
 ghost use Rattle.pf_top.specs.declared.slots.Slot.TheVariants.{Open};
 ghost use Rattle.pf_top.specs.Clients.{AskRuns, IsFileRead, IsStep, IsTimed, Runs, SameQueries, refusal_in};
 ghost use Rattle.pf_top.specs.Files.{AreHeld, HoldsContent, IsKept, IsShort};
+ghost use Rattle.pf_top.specs.Queries.{AreReadAs, IsKeptAs, is_query_built, is_selector_built, readings_in};
+ghost use Rattle.pf_types.specs.Errors.{words_of_error};
 ghost use Rattle.pf_model.specs.ErrorTexts.{grid_text};
 ghost use Rattle.pf_model.specs.Json.{error_text};
 ghost use Rattle.pf_model.specs.Legal.{Moment};
 ghost use Rattle.pf_top.specs.Sessions.{IsQuery, Stands, machine_of};
 
 use crate::entry::Asked;
-use crate::loaded::{Content, Contents, content_of};
+use crate::loaded::{Content, Contents, Loaded, content_of};
+use crate::queries::{Queries, QueryRead, query_of};
 use crate::session::{AskError, ChangeError, Query, Session};
 use crate::slots::{Slot, Slots, code_of, keep, take};
 use pf_base::{Batch, By, Grid, GridError, MAXT, OutOfMemory, Tenant, Text};
@@ -36,6 +40,7 @@ use pf_model::Matchers;
 use pf_report::{Word, push_error_answer, push_ingested, push_matrix_answer, push_reply};
 use pf_script::{Line, NumberedLine};
 use pf_store::Deleted;
+use pf_types::{QueryError, error_text, grid_text};
 use std::alloc::Global;
 use std::sync::Arc;
 
@@ -218,18 +223,6 @@ fn push_asked(out: &mut Vec<u8>, number: u32, id: &str, query: &Query) -> Result
     )
 }
 
-/// What is said of a refused grid.
-fn grid_message(error: GridError) -> &'static str
-    ensures { result.now ≡ grid_text error }
-{
-    match error {
-        GridError::ZeroStep => "zero step",
-        GridError::TimeTooLarge => "time too large",
-        GridError::EndBeforeStart => "end before start",
-        GridError::TooManySteps => "too many steps",
-    }
-}
-
 /// Appends the reply to the answer of an ask whose grid was refused.
 fn push_bad_grid(
     alloc: Global,
@@ -240,8 +233,23 @@ fn push_bad_grid(
 ) -> Result<(), OutOfMemory>
     ensures { OnOk result (out.new.items ≡ out.old.items ++ answered number id.now (codes "400") 0 0 (error_text (codes "bad_data") (grid_text error))) }
 {
-    let message = grid_message(error);
-    push_error_answer(alloc, out, number, id, "400", "bad_data", message)?;
+    let message = grid_text(alloc, error)?;
+    push_error_answer(alloc, out, number, id, "400", "bad_data", message.as_str())?;
+    Ok(())
+}
+
+/// Appends the reply to the answer of an ask whose query was refused.
+fn push_bad_query(
+    alloc: Global,
+    out: &mut Vec<u8>,
+    number: u32,
+    id: &str,
+    error: &QueryError,
+) -> Result<(), OutOfMemory>
+    ensures { OnOk result (out.new.items ≡ out.old.items ++ answered number id.now (codes "400") 0 0 (error_text (codes "bad_data") (words_of_error error.now))) }
+{
+    let message = error_text(alloc, error)?;
+    push_error_answer(alloc, out, number, id, "400", "bad_data", message.as_str())?;
     Ok(())
 }
 
@@ -258,6 +266,7 @@ fn push_refused_answer(
     match slot {
         Slot::Open(_) => Ok(()),
         Slot::BadGrid(error) => push_bad_grid(alloc, out, number, id, *error),
+        Slot::BadQuery(error) => push_bad_query(alloc, out, number, id, error),
         Slot::Full => push_error_answer(
             alloc,
             out,
@@ -279,6 +288,24 @@ fn push_refused_answer(
     }
 }
 
+/// Whether no sample has a time from one to the other.
+fn is_no_range(from: u64, to: u64) -> bool
+    ensures { result ≡ (nat_lt to from || nat_lt maxt to) }
+{
+    to < from || MAXT < to
+}
+
+/// What is refused of a deletion: its range, or else its selector.
+fn refused_part(from: u64, to: u64) -> &'static str
+    ensures { undeleted_words from to ≡ codes "bad" ∷ result.now ∷ [] }
+{
+    if is_no_range(from, to) {
+        "range"
+    } else {
+        "selector"
+    }
+}
+
 fn too_many_tenants() -> [Word<'static>; 3]
     ensures { map word_text result ≡ tenants_words }
 {
@@ -297,7 +324,7 @@ impl Client {
     ) -> Result<Ran, OutOfMemory>
         requires stands { Stands self.old.session }
         requires timed { are_timed batch.rows ≡ true }
-        ensures runs { IfOk result (λ r. (files : Files) → Gives (files file.now) time batch → Runs files self.old (record { number = number; line = ingest tenant.now file.now time }) None None r self.new) }
+        ensures runs { IfOk result (λ r. (known : Known) → Gives (known.files file.now) time batch → Runs known self.old (record { number = number; line = ingest tenant.now file.now time }) None None r self.new) }
         ensures same { OnOk result (SameQueries self.old self.new) }
     {
         let skipped = batch.skipped;
@@ -336,7 +363,7 @@ impl Client {
         requires stands { Stands self.old.session }
         requires kept { IsKept files.now file.now }
         requires within { time ≤ 4398046511103 }
-        ensures runs { IfOk result (λ r. (told : Files) → AreHeld told files.now → Runs told self.old (record { number = number; line = ingest tenant.now file.now time }) None None r self.new) }
+        ensures runs { IfOk result (λ r. (told : Known) → AreHeld told.files files.now → Runs told self.old (record { number = number; line = ingest tenant.now file.now time }) None None r self.new) }
         ensures same { OnOk result (SameQueries self.old self.new) }
     {
         let Some(content) = content_of(files, file.as_str()) else {
@@ -351,28 +378,22 @@ impl Client {
         }
     }
 
-    /// Runs a `delete`.
-    pub fn delete(
+    /// Deletes the samples of a tenant that a selector accepts.
+    fn delete_selected(
         &mut self,
         number: u32,
         tenant: &Tenant,
         from: u64,
         to: u64,
-        selector: &Text,
-        matchers: &Arc<Matchers>,
+        matchers: Arc<Matchers>,
     ) -> Result<Ran, OutOfMemory>
         requires stands { Stands self.old.session }
-        requires read { selector_of selector.now ≡ Some (arc_value matchers.now) }
-        ensures runs { IfOk result (λ r. (told : Files) → Runs told self.old (record { number = number; line = delete tenant.now from to selector.now }) None None r self.new) }
+        requires range { from ≤ to }
+        requires within { to ≤ 4398046511103 }
+        ensures runs { IfOk result (λ r. (told : Known) (selector : List ℕ) → IsSelector selector (arc_value matchers) → Runs told self.old (record { number = number; line = delete tenant.now from to selector }) None None r self.new) }
         ensures same { OnOk result (SameQueries self.old self.new) }
     {
         let name = tenant.as_str();
-        if to < from || MAXT < to {
-            let words = [Word::Text("bad"), Word::Text("range")];
-            push_reply(&mut self.out, number, "delete", name, &words)?;
-            return Ok(Ran::On);
-        }
-        let matchers = Arc::try_clone(matchers)?;
         match self.session.delete(by(number), tenant, matchers, from, to) {
             Ok(deleted) => {
                 push_deleted(&mut self.out, number, name, deleted)?;
@@ -384,6 +405,58 @@ impl Client {
             }
             Err(ChangeError::JournalFull) => Ok(Ran::Full),
             Err(ChangeError::OutOfMemory) => Err(OutOfMemory),
+        }
+    }
+
+    /// Replies to a `delete` whose range or selector is refused.
+    fn refuse_delete(
+        &mut self,
+        number: u32,
+        tenant: &Tenant,
+        from: u64,
+        to: u64,
+    ) -> Result<(), OutOfMemory>
+        ensures told { OnOk result (self.new.out.items ≡ self.old.out.items ++ delete_reply number tenant.now from to None) }
+        ensures session { self.new.session ≡ self.old.session }
+        ensures slots { self.new.slots ≡ self.old.slots }
+    {
+        let words = [Word::Text("bad"), Word::Text(refused_part(from, to))];
+        push_reply(&mut self.out, number, "delete", tenant.as_str(), &words)
+    }
+
+    /// Runs a `delete`.
+    pub fn delete(
+        &mut self,
+        queries: &Queries,
+        number: u32,
+        tenant: &Tenant,
+        from: u64,
+        to: u64,
+        selector: &Text,
+    ) -> Result<Ran, OutOfMemory>
+        requires stands { Stands self.old.session }
+        requires right { AreReadAs queries.now }
+        requires kept { IsKeptAs is_selector_built queries.now selector.now }
+        ensures runs { IfOk result (λ r. (told : Known) → Runs told self.old (record { number = number; line = delete tenant.now from to selector.now }) None None r self.new) }
+        ensures same { OnOk result (SameQueries self.old self.new) }
+    {
+        if is_no_range(from, to) {
+            self.refuse_delete(number, tenant, from, to)?;
+            return Ok(Ran::On);
+        }
+        match query_of(queries, selector.as_str()) {
+            Some(QueryRead::Selector(matchers)) => {
+                self.delete_selected(number, tenant, from, to, Arc::try_clone(matchers)?)
+            }
+            Some(QueryRead::Refused(_error)) => {
+                self.refuse_delete(number, tenant, from, to)?;
+                Ok(Ran::On)
+            }
+            Some(QueryRead::Other) => {
+                self.refuse_delete(number, tenant, from, to)?;
+                Ok(Ran::On)
+            }
+            _ => Ok(Ran::On),
         }
     }
 
@@ -416,7 +489,7 @@ impl Client {
         asked: Arc<Asked>,
     ) -> Result<Ran, OutOfMemory>
         requires stands { Stands self.old.session }
-        ensures runs { IfOk result (λ r. (told : Files) (start end step : ℕ) (query : List ℕ) → asked_of start end step query ≡ Ok (asked_in (arc_value asked)) → AskRuns (IsAskStep told self.old (record { number = number; line = ask id.now tenant.now start end step query })) told self.old (record { number = number; line = ask id.now tenant.now start end step query }) r self.new) }
+        ensures runs { IfOk result (λ r. (told : Known) (start end step : ℕ) (query : List ℕ) → asked_of told.readings start end step query ≡ Some (Ok (asked_in (arc_value asked))) → AskRuns (IsAskStep told self.old (record { number = number; line = ask id.now tenant.now start end step query })) told self.old (record { number = number; line = ask id.now tenant.now start end step query }) r self.new) }
     {
         match self.session.ask(by(number), tenant, asked) {
             Ok(query) => {
@@ -436,9 +509,39 @@ impl Client {
         }
     }
 
+    /// Asks what was read of a query over a grid.
+    fn ask_read(
+        &mut self,
+        queries: &Queries,
+        number: u32,
+        id: &Text,
+        tenant: &Tenant,
+        query: &Text,
+        grid: Grid,
+    ) -> Result<Ran, OutOfMemory>
+        requires stands { Stands self.old.session }
+        requires right { AreReadAs queries.now }
+        requires kept { IsKeptAs is_query_built queries.now query.now }
+        ensures runs { IfOk result (λ r. (told : Known) (start end step : ℕ) → told.readings ≡ readings_in queries.now → grid_of start end step ≡ Ok grid → AskRuns (IsAskStep told self.old (record { number = number; line = ask id.now tenant.now start end step query.now })) told self.old (record { number = number; line = ask id.now tenant.now start end step query.now }) r self.new) }
+    {
+        match query_of(queries, query.as_str()) {
+            Some(QueryRead::Selector(matchers)) => {
+                let matchers = Arc::try_clone(matchers)?;
+                let asked = Arc::new(self.alloc, Asked { matchers, grid })?;
+                self.ask_over(number, id, tenant, asked)
+            }
+            Some(QueryRead::Refused(error)) => {
+                self.refuse_ask(number, id.as_str(), Slot::BadQuery(*error))?;
+                Ok(Ran::On)
+            }
+            _ => Ok(Ran::On),
+        }
+    }
+
     /// Runs an `ask`.
     pub fn ask(
         &mut self,
+        queries: &Queries,
         number: u32,
         id: &Text,
         tenant: &Tenant,
@@ -446,18 +549,14 @@ impl Client {
         end: u64,
         step: u64,
         query: &Text,
-        matchers: &Arc<Matchers>,
     ) -> Result<Ran, OutOfMemory>
         requires stands { Stands self.old.session }
-        requires read { selector_of query.now ≡ Some (arc_value matchers.now) }
-        ensures runs { IfOk result (λ r. (told : Files) → AskRuns (IsAskStep told self.old (record { number = number; line = ask id.now tenant.now start end step query.now })) told self.old (record { number = number; line = ask id.now tenant.now start end step query.now }) r self.new) }
+        requires right { AreReadAs queries.now }
+        requires kept { IsKeptAs is_query_built queries.now query.now }
+        ensures runs { IfOk result (λ r. (told : Known) → told.readings ≡ readings_in queries.now → AskRuns (IsAskStep told self.old (record { number = number; line = ask id.now tenant.now start end step query.now })) told self.old (record { number = number; line = ask id.now tenant.now start end step query.now }) r self.new) }
     {
         match Grid::aligned(start, end, step) {
-            Ok(grid) => {
-                let matchers = Arc::try_clone(matchers)?;
-                let asked = Arc::new(self.alloc, Asked { matchers, grid })?;
-                self.ask_over(number, id, tenant, asked)
-            }
+            Ok(grid) => self.ask_read(queries, number, id, tenant, query, grid),
             Err(error) => {
                 self.refuse_ask(number, id.as_str(), Slot::BadGrid(error))?;
                 Ok(Ran::On)
@@ -469,7 +568,7 @@ impl Client {
     fn answer_query(&mut self, number: u32, id: &Text, query: &Query) -> Result<(), OutOfMemory>
         requires stands { Stands self.old.session }
         requires kept { IsQuery self.old.session.limits.window (machine_of self.old.session) query.now }
-        ensures step { OnOk result ((told : Files) (line : ℕ) (asking : Option script.Line) (moment : Option Moment) → SlotRight self.old.session.limits.window (machine_of self.old.session) asking moment (Some (Open query.now)) → IsStep told self.old (record { number = number; line = answer id.now line }) asking moment self.new) }
+        ensures step { OnOk result ((told : Known) (line : ℕ) (asking : Option script.Line) (moment : Option Moment) → SlotRight told.readings self.old.session.limits.window (machine_of self.old.session) asking moment (Some (Open query.now)) → IsStep told self.old (record { number = number; line = answer id.now line }) asking moment self.new) }
         ensures slots { OnOk result (self.new.slots ≡ self.old.slots) }
         ensures still { OnOk result (StayOpenBut query.now.place (machine_of self.old.session).queries (machine_of self.new.session).queries) }
         ensures counted { OnOk result ((machine_of self.old.session).count ≤ (machine_of self.new.session).count) }
@@ -504,7 +603,7 @@ impl Client {
     pub fn answer(&mut self, number: u32, id: &Text, asked: u32) -> Result<(), OutOfMemory>
         requires stands { Stands self.old.session }
         requires kept { (q : Query) → get nat_cmp self.old.slots asked ≡ Some (Open q) → IsQuery self.old.session.limits.window (machine_of self.old.session) q }
-        ensures step { OnOk result ((told : Files) (asking : Option script.Line) (moment : Option Moment) → SlotRight self.old.session.limits.window (machine_of self.old.session) asking moment (get nat_cmp self.old.slots asked) → IsStep told self.old (record { number = number; line = answer id.now asked }) asking moment self.new) }
+        ensures step { OnOk result ((told : Known) (asking : Option script.Line) (moment : Option Moment) → SlotRight told.readings self.old.session.limits.window (machine_of self.old.session) asking moment (get nat_cmp self.old.slots asked) → IsStep told self.old (record { number = number; line = answer id.now asked }) asking moment self.new) }
         ensures left { OnOk result ((k : ℕ) → get nat_cmp self.new.slots k ≡ cond (nat_eq asked k) None (get nat_cmp self.old.slots k)) }
         ensures still { OnOk result (LeavesOpen (get nat_cmp self.old.slots asked) (machine_of self.old.session).queries (machine_of self.new.session).queries) }
         ensures counted { OnOk result ((machine_of self.old.session).count ≤ (machine_of self.new.session).count) }
@@ -519,6 +618,10 @@ impl Client {
                 self.answer_refused(number, id, &Slot::BadGrid(error))?;
                 Ok(())
             }
+            Some(Slot::BadQuery(error)) => {
+                self.answer_refused(number, id, &Slot::BadQuery(error))?;
+                Ok(())
+            }
             Some(Slot::Full) => {
                 self.answer_refused(number, id, &Slot::Full)?;
                 Ok(())
@@ -531,21 +634,21 @@ impl Client {
     }
 
     /// Runs a line.
-    pub fn run_line(&mut self, files: &Contents, line: &NumberedLine) -> Result<Ran, OutOfMemory>
-        requires { IsReady files.now self.old line.now }
-        ensures { IfOk result (λ r. GoesOn files.now self.old (numbered_of line.now) r self.new) }
+    pub fn run_line(&mut self, loaded: &Loaded, line: &NumberedLine) -> Result<Ran, OutOfMemory>
+        requires { IsReady loaded.now self.old line.now }
+        ensures { IfOk result (λ r. GoesOn loaded.now self.old (numbered_of line.now) r self.new) }
     {
+        let number = line.number;
         match &line.line {
             Line::Ingest { tenant, file, time } => {
-                self.ingest(files, line.number, tenant, file, *time)
+                self.ingest(&loaded.files, number, tenant, file, *time)
             }
             Line::Delete {
                 tenant,
                 from,
                 to,
                 selector,
-                matchers,
-            } => self.delete(line.number, tenant, *from, *to, selector, matchers),
+            } => self.delete(&loaded.queries, number, tenant, *from, *to, selector),
             Line::Ask {
                 id,
                 tenant,
@@ -553,19 +656,12 @@ impl Client {
                 end,
                 step,
                 query,
-                matchers,
-            } => self.ask(
-                line.number,
-                id,
-                tenant,
-                *start,
-                *end,
-                *step,
-                query,
-                matchers,
-            ),
+            } => {
+                let queries = &loaded.queries;
+                self.ask(queries, number, id, tenant, *start, *end, *step, query)
+            }
             Line::Answer { id, asked } => {
-                self.answer(line.number, id, *asked)?;
+                self.answer(number, id, *asked)?;
                 Ok(Ran::On)
             }
         }

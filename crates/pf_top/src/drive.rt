@@ -5,14 +5,14 @@ ghost use Rattle.pf_model.specs.Report.{journal_text, stop_reply};
 ghost use Rattle.pf_top.specs.Files.{AreHeld};
 ghost use Rattle.pf_top.specs.Sessions.{journal_of};
 ghost use Rattle.pf_model.specs.Scripts.{Numbered};
-ghost use Rattle.pf_model.specs.Weave.{Files};
+ghost use Rattle.pf_model.specs.Weave.{Files, Known};
 ghost use Rattle.pf_script.specs.Lines.{lines_of};
 ghost use Rattle.pf_top.specs.Drives.{CanRun, IsGoing, IsReport, RanTo};
 ghost use Rattle.pf_top.specs.Going.{Going};
 
 use crate::client::{Client, Ran};
 use crate::journal::push_journal;
-use crate::loaded::Contents;
+use crate::loaded::Loaded;
 use crate::session::Session;
 use crate::stop::push_stop;
 use pf_base::{Limits, OutOfMemory};
@@ -25,7 +25,7 @@ use std::collections::BTreeMap;
 fn client_of(alloc: Global, limits: Limits) -> Result<Client, OutOfMemory>
     requires journal { limits.journal ≤ 4000000 }
     requires some { 1 ≤ limits.outstanding }
-    ensures { IfOk result (λ c. (files : Files) (lines : List Numbered) → Going files limits lines [] c) }
+    ensures { IfOk result (λ c. (known : Known) (lines : List Numbered) → Going known limits lines [] c) }
 {
     let mut out = Vec::new(alloc);
     push_line(&mut out, &[Word::Text("client"), Word::Number(0)])?;
@@ -38,14 +38,14 @@ fn client_of(alloc: Global, limits: Limits) -> Result<Client, OutOfMemory>
 }
 
 /// Runs the lines of a script, up to the one that meets the full journal: how many were run.
-fn run_lines(client: &mut Client, script: &Script, files: &Contents) -> Result<usize, OutOfMemory>
-    requires can_run { CanRun script.now files.now }
-    requires begins { IsGoing client.old.session.limits files.now (lines_of script.now) [] client.old }
-    ensures { IfOk result (λ n. RanTo client.old.session.limits files.now (lines_of script.now) n client.new) }
+fn run_lines(client: &mut Client, script: &Script, loaded: &Loaded) -> Result<usize, OutOfMemory>
+    requires can_run { CanRun script.now loaded.now }
+    requires begins { IsGoing client.old.session.limits loaded.now (lines_of script.now) [] client.old }
+    ensures { IfOk result (λ n. RanTo client.old.session.limits loaded.now (lines_of script.now) n client.new) }
 {
     let mut ran = 0;
     for line in &script.lines {
-        match client.run_line(files, line)? {
+        match client.run_line(loaded, line)? {
             Ran::On => ran += 1,
             Ran::Full => return Ok(ran),
         }
@@ -95,14 +95,14 @@ pub fn run_script(
     alloc: Global,
     limits: Limits,
     script: &Script,
-    files: &Contents,
+    loaded: &Loaded,
 ) -> Result<Report, OutOfMemory>
     requires journal { limits.journal ≤ 4000000 }
     requires some { 1 ≤ limits.outstanding }
-    requires can_run { CanRun script.now files.now }
-    ensures { IfOk result (λ r. (told : Files) → AreHeld told files.now → IsReport limits told (lines_of script.now) r.full r.text.items) }
+    requires can_run { CanRun script.now loaded.now }
+    ensures { IfOk result (λ r. (told : Files) → AreHeld told loaded.now.files → IsReport limits told (lines_of script.now) r.full r.text.items) }
 {
     let mut client = client_of(alloc, limits)?;
-    let ran = run_lines(&mut client, script, files)?;
+    let ran = run_lines(&mut client, script, loaded)?;
     Ok(report_of(client, script, ran)?)
 }

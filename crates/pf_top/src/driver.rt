@@ -1,14 +1,18 @@
 //! The call that does all that the program does.
 
-ghost use Rattle.std.specs.Prelude.{◌≡◌, ◌≤◌, [], IfOk, vec_len};
+ghost use Rattle.std.specs.Prelude.{◌≡◌, ◌≤◌, ℕ, List, [], IfOk, vec_len};
 ghost use Rattle.pf_model.specs.Lists.{Each};
 ghost use Rattle.pf_script.specs.Lines.{AllFollow, IsRead, lines_of};
-ghost use Rattle.pf_top.specs.Correct.{Correct, Outside};
-ghost use Rattle.pf_top.specs.Outputs.{IsScriptOutput, IsWordsOutput, default_limits};
+ghost use Rattle.pf_model.specs.Weave.{Files};
+ghost use Rattle.pf_top.specs.Correct.{Correct, NamesFile, Outside};
+ghost use Rattle.pf_top.specs.Drives.{AreShort};
+ghost use Rattle.pf_top.specs.Files.{AreHeld, IsKept};
+ghost use Rattle.pf_top.specs.Outputs.{IsRun, IsScriptOutput, IsWordsOutput, default_limits};
 ghost use Rattle.pf_top.specs.Refusals.{refused_read, refused_not_built};
 
 use crate::drive::run_script;
-use crate::loaded::{Content, LoadError, load_all, read_file};
+use crate::loaded::{Content, Contents, LoadError, Loaded, load_all, read_file};
+use crate::queries::{QueriesError, read_queries};
 use crate::words::script_name;
 use pf_base::{Limits, OutOfMemory, Text};
 use pf_io::{Doors, Files, Gate, Hop, ReadError, Sink, put_all};
@@ -60,7 +64,37 @@ fn unbuilt(alloc: Global) -> Result<Output, OutOfMemory>
     })
 }
 
-/// Reads the files that a script names, and runs it.
+/// Reads the queries of a script whose files are read, and runs it.
+fn run_loaded(
+    alloc: Global,
+    limits: Limits,
+    script: &Script,
+    files: Contents,
+) -> Result<Output, OutOfMemory>
+    requires journal { limits.journal ≤ 4000000 }
+    requires some { 1 ≤ limits.outstanding }
+    requires short { AreShort files }
+    requires there { (name : List ℕ) → NamesFile (lines_of script.now) name → IsKept files name }
+    requires read { Each IsRead script.now.lines.items }
+    requires following { AllFollow [] (lines_of script.now) }
+    ensures { IfOk result (λ o. (told : Files) → AreHeld told files → IsRun limits told (lines_of script.now) o.status o.text.items) }
+{
+    match read_queries(alloc, script) {
+        Ok(queries) => {
+            let loaded = Loaded { files, queries };
+            let report = run_script(alloc, limits, script, &loaded)?;
+            let status = if report.full { 8 } else { 0 };
+            Ok(Output {
+                status,
+                text: report.text,
+            })
+        }
+        Err(QueriesError::NotBuilt) => unbuilt(alloc),
+        Err(QueriesError::OutOfMemory) => Err(OutOfMemory),
+    }
+}
+
+/// Reads the files that a script names, and then its queries, and runs it.
 fn replay_script<F: Files>(
     alloc: Global,
     limits: Limits,
@@ -75,14 +109,7 @@ fn replay_script<F: Files>(
     ensures counted { F.faults files.old ≤ F.faults files.new }
 {
     match load_all(alloc, files, script) {
-        Ok(contents) => {
-            let report = run_script(alloc, limits, script, &contents)?;
-            let status = if report.full { 8 } else { 0 };
-            Ok(Output {
-                status,
-                text: report.text,
-            })
-        }
+        Ok(contents) => run_loaded(alloc, limits, script, contents),
         Err(LoadError::Unread { name }) => unread(alloc, name.as_str()),
         Err(LoadError::OutOfMemory) => Err(OutOfMemory),
     }
@@ -118,8 +145,9 @@ fn replay<F: Files>(
 
 /// Does all that the program does: takes its words, reads the files, writes what it prints and answers its status.
 ///
-/// Built are the words `replay SCRIPT`, and scripts of `ingest`, `delete`, `ask`, `answer`, empty and comment lines whose
-/// queries and selectors are a metric name, or one with `{LABEL="VALUE"}`. The hops, the gate and the doors are of no use to
+/// Built are the words `replay SCRIPT`, and scripts of `ingest`, `delete`, `ask`, `answer`, empty and comment lines. Any text
+/// that is not empty is read as a query or a selector: one that is refused is answered so, and of those that are lawful,
+/// instant selectors of `=` and `!=` without `@` and offset are built. The hops, the gate and the doors are of no use to
 /// these. The statuses are 0 for a report, 4 for a file that was not read, 5 for output that was not taken, 6 for want of
 /// memory, 8 for a report of a client that met the full journal, and 9 for all that is not built.
 pub fn run<R, F: Files, O: Sink, H: Hop + Send + Drop, G: Gate + Sync, D: Doors>(

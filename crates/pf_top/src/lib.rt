@@ -11,6 +11,7 @@ mod driver;
 mod entry;
 mod journal;
 mod loaded;
+mod queries;
 mod session;
 mod slots;
 mod stop;

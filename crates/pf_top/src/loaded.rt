@@ -1,4 +1,4 @@
-//! The files that a script names.
+//! What a script names: files and queries.
 
 ghost use Rattle.std.specs.Prelude.{◌≡◌, ◌≢◌, ◌≤◌, ℕ, Err, IfErr, IfOk, List, MatchOption, OnOk, Some, None, [], length, map};
 ghost use Rattle.std.specs.BTreeMap.{get_by_text};
@@ -9,6 +9,7 @@ ghost use Rattle.pf_top.specs.Correct.{LineNames, NamesFile};
 ghost use Rattle.pf_top.specs.Files.{AreHeld, AreLoaded, HoldsContent, IsLoaded, IsLoadedFor, IsUnread};
 ghost use Rattle.pf_top.specs.declared.loaded.LoadError.{LoadError};
 
+use crate::queries::Queries;
 use pf_base::Text;
 use pf_io::{Files, ReadError};
 use pf_script::{Line, NumberedLine, Script};
@@ -28,6 +29,13 @@ pub enum Content {
 
 /// What files hold, by name.
 pub type Contents = BTreeMap<String, Content>;
+
+/// What a script names: what its files hold, and how its queries are read.
+#[derive(Drop)]
+pub struct Loaded {
+    pub files: Contents,
+    pub queries: Queries,
+}
 
 /// A file was not read, or memory ran out.
 #[derive(Drop)]

@@ -7,6 +7,7 @@ ghost use Rattle.std.specs.Ordering.{nat_cmp};
 
 use crate::session::Query;
 use pf_base::{GridError, OutOfMemory};
+use pf_types::QueryError;
 use std::collections::BTreeMap;
 
 /// What became of an ask.
@@ -15,6 +16,8 @@ pub enum Slot {
     Open(Query),
     /// The grid was refused.
     BadGrid(GridError),
+    /// The query was refused.
+    BadQuery(QueryError),
     Full,
     TooManyTenants,
 }
@@ -44,7 +47,7 @@ pub fn code_of(slot: &Slot) -> &'static str
 {
     match slot {
         Slot::Open(_) => "",
-        Slot::BadGrid(_) => "400",
+        Slot::BadGrid(_) | Slot::BadQuery(_) => "400",
         Slot::Full => "429",
         Slot::TooManyTenants => "503",
     }

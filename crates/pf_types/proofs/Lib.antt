@@ -1,6 +1,10 @@
+pub mod Asked
 pub mod Exact
 pub mod Faults
 pub mod Names
 pub mod NodeFaults
+pub mod Obstacles
 pub mod Operands
+pub mod Utf8
 pub mod Variants
+pub mod Walks

@@ -1,2 +1,4 @@
+pub mod Errors
 pub mod Faults
+pub mod Obstacles
 pub mod Rules

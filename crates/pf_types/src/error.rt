@@ -1,6 +1,7 @@
 //! Errors of kinds, and their texts.
 
 ghost use Rattle.std.specs.Prelude.{◌≡◌, ◌++◌, codes, take, vec_len, OnErr, OnOk};
+ghost use Rattle.std.specs.Str.{IsUtf8};
 ghost use Rattle.pf_model.specs.ErrorTexts.{fault_text, kind_name, node_text};
 ghost use Rattle.pf_types.specs.Faults.{fault_of};
 
@@ -26,58 +27,62 @@ pub enum TypeError {
     SubqueryTooFine { at: u32 },
 }
 
-fn kind_name(kind: Kind) -> &'static [u8]
+fn kind_name(kind: Kind) -> &'static str
     ensures { result.now ≡ kind_name kind }
 {
     match kind {
-        Kind::Scalar => b"scalar",
-        Kind::Instant => b"instant vector",
-        Kind::Range => b"range vector",
-        Kind::Text => b"string",
+        Kind::Scalar => "scalar",
+        Kind::Instant => "instant vector",
+        Kind::Range => "range vector",
+        Kind::Text => "string",
     }
 }
 
 /// Appends a node's number and what is wrong with it.
-fn push_node(out: &mut Vec<u8>, at: u32, what: &[u8]) -> Result<(), OutOfMemory>
+fn push_node(out: &mut Vec<u8>, at: u32, what: &str) -> Result<(), OutOfMemory>
     ensures ok { OnOk result (out.new.items ≡ out.old.items ++ node_text at what.now) }
+    ensures utf8 { OnOk result (IsUtf8 out.old.items → IsUtf8 out.new.items) }
     ensures kept { take (vec_len out.old) out.new.items ≡ out.old.items }
 {
     let mut buffer = Buffer::new();
-    out.extend_from_slice(b"node ")?;
+    out.extend_from_slice("node ".as_bytes())?;
     out.extend_from_slice(buffer.format(at).as_bytes())?;
-    out.extend_from_slice(what)?;
+    out.extend_from_slice(what.as_bytes())?;
     Ok(())
 }
 
 fn push_kinds(out: &mut Vec<u8>, wanted: Kind, found: Kind) -> Result<(), OutOfMemory>
     ensures ok { OnOk result (out.new.items ≡ out.old.items ++ (kind_name wanted ++ (codes ", found " ++ kind_name found))) }
+    ensures utf8 { OnOk result (IsUtf8 out.old.items → IsUtf8 out.new.items) }
     ensures kept { take (vec_len out.old) out.new.items ≡ out.old.items }
 {
-    out.extend_from_slice(kind_name(wanted))?;
-    out.extend_from_slice(b", found ")?;
-    out.extend_from_slice(kind_name(found))?;
+    out.extend_from_slice(kind_name(wanted).as_bytes())?;
+    out.extend_from_slice(", found ".as_bytes())?;
+    out.extend_from_slice(kind_name(found).as_bytes())?;
     Ok(())
 }
 
 fn push_wrong(out: &mut Vec<u8>, at: u32, wanted: Kind, found: Kind) -> Result<(), OutOfMemory>
     ensures ok { OnOk result (out.new.items ≡ out.old.items ++ node_text at (codes ": wanted " ++ (kind_name wanted ++ (codes ", found " ++ kind_name found)))) }
+    ensures utf8 { OnOk result (IsUtf8 out.old.items → IsUtf8 out.new.items) }
     ensures kept { take (vec_len out.old) out.new.items ≡ out.old.items }
 {
-    push_node(out, at, b": wanted ")?;
+    push_node(out, at, ": wanted ")?;
     push_kinds(out, wanted, found)
 }
 
 fn push_error(out: &mut Vec<u8>, error: TypeError) -> Result<(), OutOfMemory>
     ensures ok { OnOk result (out.new.items ≡ out.old.items ++ fault_text (fault_of error)) }
+    ensures utf8 { OnOk result (IsUtf8 out.old.items → IsUtf8 out.new.items) }
     ensures kept { take (vec_len out.old) out.new.items ≡ out.old.items }
 {
     match error {
-        TypeError::ArgCount { at } => push_node(out, at, b": wrong number of arguments"),
+        TypeError::ArgCount { at } => push_node(out, at, ": wrong number of arguments"),
         TypeError::Wrong { at, wanted, found } => push_wrong(out, at, wanted, found),
-        TypeError::BadName { at } => push_node(out, at, b": bad label name"),
-        TypeError::BoolNeeded { at } => push_node(out, at, b": bool needed"),
-        TypeError::BadMatching { at } => push_node(out, at, b": bad matching"),
-        TypeError::SubqueryTooFine { at } => push_node(out, at, b": subquery too fine"),
+        TypeError::BadName { at } => push_node(out, at, ": bad label name"),
+        TypeError::BoolNeeded { at } => push_node(out, at, ": bool needed"),
+        TypeError::BadMatching { at } => push_node(out, at, ": bad matching"),
+        TypeError::SubqueryTooFine { at } => push_node(out, at, ": subquery too fine"),
     }
 }
 
@@ -85,6 +90,7 @@ impl TypeError {
     /// Appends the text, as `node 3: wanted scalar, found instant vector`.
     pub fn push_text(&self, out: &mut Vec<u8>) -> Result<(), OutOfMemory>
         ensures ok { OnOk result (out.new.items ≡ out.old.items ++ fault_text (fault_of self.now)) }
+        ensures utf8 { OnOk result (IsUtf8 out.old.items → IsUtf8 out.new.items) }
         ensures err { OnErr result (out.new.items ≡ out.old.items) }
     {
         let before = out.len();

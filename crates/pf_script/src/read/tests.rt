@@ -1,6 +1,5 @@
 use super::*;
 use crate::script::Line;
-use pf_base::{Labels, Text};
 use std::fmt::Write;
 use std::test::Fail;
 
@@ -20,7 +19,6 @@ fn tell(text: &mut String, line: &NumberedLine) -> Result<(), Fail> {
             from,
             to,
             selector,
-            ..
         } => {
             write!(
                 text,
@@ -36,7 +34,6 @@ fn tell(text: &mut String, line: &NumberedLine) -> Result<(), Fail> {
             end,
             step,
             query,
-            ..
         } => {
             write!(
                 text,
@@ -97,6 +94,24 @@ fn reads_scripts(rt: HostRuntime) -> Result<(), Fail> {
             "ask a123456789_123456789_123456789_b t 1 2 1 up",
             "1 ask a123456789_123456789_123456789_b t 1 2 1 up; ",
         ),
+        (
+            "ask q acme 0 0 1 rate(up[5m])",
+            "1 ask q acme 0 0 1 rate(up[5m]); ",
+        ),
+        ("delete acme 0 1 sum(", "1 delete acme 0 1 sum(; "),
+        (
+            "delete a 1 2 up down\ndelete a 1 2 sum",
+            "1 delete a 1 2 up down; 2 delete a 1 2 sum; ",
+        ),
+        (
+            "ask q a 0 0 1 \t sum by (a)  (up{a=\"x  y\",b='\t\u{e9} '}) \t \r\nanswer q",
+            "1 ask q a 0 0 1 sum by (a)  (up{a=\"x  y\",b='\t\u{e9} '}); 2 answer q 1; ",
+        ),
+        (
+            "delete a 0 1 {a = \" b \"}\t\n",
+            "1 delete a 0 1 {a = \" b \"}; ",
+        ),
+        ("ask q a 0 0 1 \r", "1 ask q a 0 0 1 \r; "),
     ] {
         let text = told(alloc, script.as_bytes())?;
         assert_eq!(rt; text.as_str(), want, "of {script}");
@@ -129,15 +144,19 @@ fn refuses_scripts(rt: HostRuntime) -> Result<(), Fail> {
         "ingest a/b f",
         "delete a 1 2",
         "delete a 1 up",
-        "delete a 1 2 up down",
-        "delete a 1 2 sum",
+        "delete a 1 2 ",
+        "delete a 1 2 \t \t",
+        "delete a 1 2\t\r\n",
         "delete .. 1 2 up",
         "delete a 9223372036854775808 2 up",
         "delete a 1 99999999999999999999999999 up",
         "delete a 1 18446744073709551616 up",
         "ask q a 1 2 up",
         "ask q a 1 2 x up",
+        "ask q a 1 2 1",
         "ask q a 1 2 1 ",
+        "ask q a 1 2 1\t  \t",
+        "ask q a 1 2 1 \t\r\nanswer q",
         "ask q- a 1 2 1 up",
         "ask q a/b 1 2 1 up",
         "ask a123456789_123456789_123456789_bc t 1 2 1 up",
@@ -172,7 +191,7 @@ fn refuses_what_is_no_text(rt: HostRuntime) -> Result<(), Fail> {
 }
 
 #[test]
-fn refuses_queries_of_other_forms(rt: HostRuntime) -> Result<(), Fail> {
+fn reads_queries_of_any_form(rt: HostRuntime) -> Result<(), Fail> {
     let alloc = rt.alloc();
     for query in [
         "{job=\"a\"}",
@@ -198,43 +217,59 @@ fn refuses_queries_of_other_forms(rt: HostRuntime) -> Result<(), Fail> {
         "SUM{job=\"a\"}",
         "sum(up)",
     ] {
-        let script = format!(in alloc; "ask q a 1 2 1 {query}")?;
+        let script = format!(in alloc; "ask q a 1 2 1 {query}\ndelete a 1 2 {query}")?;
+        let want = format!(in alloc; "1 ask q a 1 2 1 {query}; 2 delete a 1 2 {query}; ")?;
         let text = told(alloc, script.as_bytes())?;
-        assert_eq!(rt; text.as_str(), "NotBuilt", "of {query}");
+        assert_eq!(rt; text.as_str(), want.as_str(), "of {query}");
     }
     Ok(())
 }
 
-/// Whether the matchers of a script's first line accept a series `up` with a job.
-fn accepts(alloc: Global, script: &str, job: &str) -> Result<bool, Fail> {
-    let mut pairs = Vec::new(alloc);
-    pairs.push((Text::of(alloc, "__name__")?, Text::of(alloc, "up")?))?;
-    pairs.push((Text::of(alloc, "job")?, Text::of(alloc, job)?))?;
-    let labels = Labels::build(alloc, pairs)?;
+/// The query or the selector of a script's first line.
+fn first_text(alloc: Global, script: &str) -> Result<String, Fail> {
     let script = read_script(alloc, script.as_bytes())?;
     for line in &script.lines {
         match &line.line {
-            Line::Ask { matchers, .. } | Line::Delete { matchers, .. } => {
-                return Ok(matchers.accepts(&labels)?);
+            Line::Ask { query, .. } => return Ok(String::from_str(alloc, query.as_str())?),
+            Line::Delete { selector, .. } => {
+                return Ok(String::from_str(alloc, selector.as_str())?);
             }
             _ => {}
         }
     }
-    Ok(false)
+    Ok(String::new(alloc))
 }
 
 #[test]
-fn matchers_are_those_of_the_text(rt: HostRuntime) -> Result<(), Fail> {
+fn texts_are_those_of_the_line(rt: HostRuntime) -> Result<(), Fail> {
     let alloc = rt.alloc();
-    for (script, job, want) in [
-        ("ask q a 1 2 1 up", "api", true),
-        ("ask q a 1 2 1 up{job=\"api\"}", "api", true),
-        ("ask q a 1 2 1 up{job=\"api\"}", "ap", false),
-        ("ask q a 1 2 1 down{job=\"api\"}", "api", false),
-        ("delete a 1 2 up{job=\"api\"}", "api", true),
-        ("delete a 1 2 up{zone=\"api\"}", "api", false),
+    for (script, want) in [
+        ("ask q a 1 2 1 up", "up"),
+        ("ask q a 1 2 1 up{job=\"api\"}", "up{job=\"api\"}"),
+        ("ask q a 1 2 1 down{job=\"api\"} ", "down{job=\"api\"}"),
+        ("delete a 1 2 up{job=\"api\"}", "up{job=\"api\"}"),
+        ("delete a 1 2 up{zone=\"api\"}\t", "up{zone=\"api\"}"),
     ] {
-        assert_eq!(rt; accepts(alloc, script, job)?, want, "of {script} for {job}");
+        let text = first_text(alloc, script)?;
+        assert_eq!(rt; text.as_str(), want, "of {script}");
+    }
+    Ok(())
+}
+
+/// A text of one letter, this many times.
+fn long_text(alloc: Global, length: usize) -> Option<String> {
+    String::from_utf8(vec![in alloc; b'x'; length].ok()?).ok()
+}
+
+#[test]
+fn reads_long_queries_and_selectors(rt: HostRuntime) -> Result<(), Fail> {
+    let alloc = rt.alloc();
+    let long = long_text(alloc, 70_000).expect(&rt, "memory");
+    for verb in ["ask q a 1 2 1", "delete a 1 2"] {
+        let script = format!(in alloc; "{verb} {long} \t")?;
+        let text = first_text(alloc, script.as_str())?;
+        assert_eq!(rt; text.len(), 70_000, "of {verb}");
+        assert!(rt; text == long, "of {verb}");
     }
     Ok(())
 }

@@ -343,6 +343,116 @@ fn outstanding() -> Case {
     }
 }
 
+/// Queries that are refused, one of them by its grid first, and one in brackets that is not.
+fn queries() -> Case {
+    Case {
+        other: Other::None,
+        script: concat!(
+            "ingest acme a.prom\n",
+            "ask a acme 60000 60000 1000 sum(\n",
+            "ask b acme 60000 60000 1000 foo(x)\n",
+            "ask c acme 60000 60000 1000 1 < 2\n",
+            "ask d acme 60000 60000 1000 rate(x)\n",
+            "ask e acme 60000 60000 1000 {a!=\"b\"}\n",
+            "ask f acme 60000 60000 1000 \"text\"\n",
+            "ask g acme 60000 60000 1000 up[5m]\n",
+            "ask h acme 60000 60000 0 sum(\n",
+            "ask i acme 60000 60000 1000 ( up{job!=\"b\", x!='y'} offset 0s ) # by the tree \n",
+            "ask j acme 60000 60000 1000 up{a!=\"b\"} + {a!=\"b\"} + {a=~\"b\"}\n",
+            "answer a\n",
+            "answer b\n",
+            "answer c\n",
+            "answer d\n",
+            "answer e\n",
+            "answer f\n",
+            "answer g\n",
+            "answer h\n",
+            "answer i\n",
+            "answer j\n",
+        ),
+        pages: ["up{job=\"a\"} 1 60000\nup{job=\"b\"} 2 60000\n", ""],
+        status: 0,
+        report: concat!(
+            "client 0\n",
+            "1 ingest acme taken 2 repeated 0 refused 0 skipped 0 entry 1\n",
+            "2 ask a refused 400\n",
+            "3 ask b refused 400\n",
+            "4 ask c refused 400\n",
+            "5 ask d refused 400\n",
+            "6 ask e refused 400\n",
+            "7 ask f refused 400\n",
+            "8 ask g refused 400\n",
+            "9 ask h refused 400\n",
+            "10 ask i pin 1 place 1\n",
+            "11 ask j refused 400\n",
+            "12 answer a 400 cached 0 evaluated 0\n",
+            "{\"status\":\"error\",\"errorType\":\"bad_data\",\"error\":\"unexpected at 4\"}\n",
+            "13 answer b 400 cached 0 evaluated 0\n",
+            "{\"status\":\"error\",\"errorType\":\"bad_data\",\"error\":\"unknown function at 0\"}\n",
+            "14 answer c 400 cached 0 evaluated 0\n",
+            "{\"status\":\"error\",\"errorType\":\"bad_data\",\"error\":\"node 0: bool needed\"}\n",
+            "15 answer d 400 cached 0 evaluated 0\n",
+            "{\"status\":\"error\",\"errorType\":\"bad_data\",\"error\":\"node 0: wanted range vector, found instant vector\"}\n",
+            "16 answer e 400 cached 0 evaluated 0\n",
+            "{\"status\":\"error\",\"errorType\":\"bad_data\",\"error\":\"selector 0 is empty\"}\n",
+            "17 answer f 400 cached 0 evaluated 0\n",
+            "{\"status\":\"error\",\"errorType\":\"bad_data\",\"error\":\"node 0: wanted instant vector, found string\"}\n",
+            "18 answer g 400 cached 0 evaluated 0\n",
+            "{\"status\":\"error\",\"errorType\":\"bad_data\",\"error\":\"node 0: wanted instant vector, found range vector\"}\n",
+            "19 answer h 400 cached 0 evaluated 0\n",
+            "{\"status\":\"error\",\"errorType\":\"bad_data\",\"error\":\"zero step\"}\n",
+            "20 answer i 200 cached 0 evaluated 1\n",
+            "{\"status\":\"success\",\"data\":{\"resultType\":\"matrix\",\"result\":[{\"metric\":{\"__name__\":\"up\",\"job\":\"a\"},\"values\":[[60,\"1\"]]}]}}\n",
+            "21 answer j 400 cached 0 evaluated 0\n",
+            "{\"status\":\"error\",\"errorType\":\"bad_data\",\"error\":\"selector 1 is empty\"}\n",
+            "journal 3\n",
+            "0 client 0 line 1 append acme entry 1\n",
+            "1 client 0 line 10 ask acme pin 1 generation 0 floor 0\n",
+            "2 client 0 line 20 answer 1 200\n",
+        ),
+    }
+}
+
+/// Selectors of deletions: none, a range before its selector, and one with an offset of nothing.
+fn selectors() -> Case {
+    Case {
+        other: Other::None,
+        script: concat!(
+            "ingest acme a.prom\n",
+            "delete acme 9 0 sum(\n",
+            "delete acme 0 60000 sum(\n",
+            "delete acme 0 60000 rate(up[5m])\n",
+            "delete acme 0 60000 {a!=\"b\"}\n",
+            "delete acme 0 60000 up offset 1s\n",
+            "delete acme 0 60000 up @ 1\n",
+            "delete acme 0 60000 up{job!=\"a\"} offset 0s\n",
+            "ask q acme 60000 60000 1000 up\n",
+            "answer q\n",
+        ),
+        pages: ["up{job=\"a\"} 1 60000\nup{job=\"b\"} 2 60000\n", ""],
+        status: 0,
+        report: concat!(
+            "client 0\n",
+            "1 ingest acme taken 2 repeated 0 refused 0 skipped 0 entry 1\n",
+            "2 delete acme bad range\n",
+            "3 delete acme bad selector\n",
+            "4 delete acme bad selector\n",
+            "5 delete acme bad selector\n",
+            "6 delete acme bad selector\n",
+            "7 delete acme bad selector\n",
+            "8 delete acme generation 1 entry 2\n",
+            "9 ask q pin 2 place 2\n",
+            "10 answer q 200 cached 0 evaluated 1\n",
+            "{\"status\":\"success\",\"data\":{\"resultType\":\"matrix\",\"result\":[{\"metric\":{\"__name__\":\"up\",\"job\":\"a\"},\"values\":[[60,\"1\"]]}]}}\n",
+            "journal 4\n",
+            "0 client 0 line 1 append acme entry 1\n",
+            "1 client 0 line 8 delete acme entry 2 generation 1\n",
+            "2 client 0 line 9 ask acme pin 2 generation 1 floor 0\n",
+            "3 client 0 line 10 answer 2 200\n",
+        ),
+    }
+}
+
 /// What a case prints.
 fn replayed(alloc: Global, case: &Case) -> Result<Output, Fail> {
     let mut files = files(alloc, case.script.as_bytes(), case.pages, 99)?;
@@ -361,6 +471,8 @@ fn reports(rt: HostRuntime) -> Result<(), Fail> {
         pages(),
         verdicts(),
         outstanding(),
+        queries(),
+        selectors(),
     ] {
         let output = replayed(rt.alloc(), &case)?;
         let Case {
@@ -413,7 +525,7 @@ fn too_many_tenants(rt: HostRuntime) -> Result<(), Fail> {
 
 /// The script, the numbers of the read and of the write that fail, the greatest number of bytes that a write takes, 0 for
 /// no bound, the status, and what is written.
-const OUTSIDES: [(&str, u64, u64, usize, u8, &str); 10] = [
+const OUTSIDES: [(&str, u64, u64, usize, u8, &str); 21] = [
     ("", 9, 9, 0, 0, "client 0\njournal 0\n"),
     ("", 9, 99, 3, 0, "client 0\njournal 0\n"),
     ("ingest acme none\n", 9, 9, 0, 4, "refused: read none\n"),
@@ -424,6 +536,67 @@ const OUTSIDES: [(&str, u64, u64, usize, u8, &str); 10] = [
     ("ingest acme none\n", 9, 1, 10, 5, "refused: r"),
     ("answer q\n", 9, 9, 0, 9, "refused: not built\n"),
     ("answer q\n", 9, 0, 0, 5, ""),
+    (
+        "ask q acme 0 0 1 sum(\nanswer q\n",
+        9,
+        9,
+        0,
+        0,
+        concat!(
+            "client 0\n1 ask q refused 400\n2 answer q 400 cached 0 evaluated 0\n",
+            "{\"status\":\"error\",\"errorType\":\"bad_data\",\"error\":\"unexpected at 4\"}\njournal 0\n",
+        ),
+    ),
+    (
+        "ask q acme 0 0 1 foo(x)\nanswer q\n",
+        9,
+        9,
+        0,
+        0,
+        concat!(
+            "client 0\n1 ask q refused 400\n2 answer q 400 cached 0 evaluated 0\n",
+            "{\"status\":\"error\",\"errorType\":\"bad_data\",\"error\":\"unknown function at 0\"}\njournal 0\n",
+        ),
+    ),
+    (
+        "ask q acme 0 0 1 1 < 2\nanswer q\n",
+        9,
+        9,
+        0,
+        0,
+        concat!(
+            "client 0\n1 ask q refused 400\n2 answer q 400 cached 0 evaluated 0\n",
+            "{\"status\":\"error\",\"errorType\":\"bad_data\",\"error\":\"node 0: bool needed\"}\njournal 0\n",
+        ),
+    ),
+    (
+        "ask q acme 0 0 1 rate(x)\nanswer q\n",
+        9,
+        9,
+        0,
+        0,
+        concat!(
+            "client 0\n1 ask q refused 400\n2 answer q 400 cached 0 evaluated 0\n",
+            "{\"status\":\"error\",\"errorType\":\"bad_data\",\"error\":\"node 0: wanted range vector, found instant vector\"}\njournal 0\n",
+        ),
+    ),
+    (
+        "ask q acme 0 0 1 {a!=\"b\"}\nanswer q\n",
+        9,
+        9,
+        0,
+        0,
+        concat!(
+            "client 0\n1 ask q refused 400\n2 answer q 400 cached 0 evaluated 0\n",
+            "{\"status\":\"error\",\"errorType\":\"bad_data\",\"error\":\"selector 0 is empty\"}\njournal 0\n",
+        ),
+    ),
+    ("ask q acme 0 0 1 rate(up[5m])\n", 9, 9, 0, 9, "refused: not built\n"),
+    ("ask q acme 0 0 1 up offset 1s\n", 9, 9, 0, 9, "refused: not built\n"),
+    ("ask q acme 0 0 0 1\n", 9, 9, 0, 9, "refused: not built\n"),
+    ("delete acme 9 0 {a=~\"b\"}\n", 9, 9, 0, 9, "refused: not built\n"),
+    ("ask q acme 0 0 1 up{a=~\"b\"}\n", 9, 9, 0, 9, "refused: not built\n"),
+    ("ask q acme 0 0 1 1\ningest acme none\n", 9, 9, 0, 4, "refused: read none\n"),
 ];
 
 #[test]

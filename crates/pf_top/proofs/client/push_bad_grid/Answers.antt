@@ -1,9 +1,11 @@
-use Rattle.std.proofs.Common.{ap, ◌∙◌, ◌++◌, List, ℕ, codes}
+use Rattle.std.proofs.Common.{rules, ap, ◌≡◌, ◌∙◌, ◌++◌, List, ℕ, codes}
+use Rattle.pf_model.specs.ErrorTexts.{grid_text}
 use Rattle.pf_model.specs.Json.{error_text}
 use Rattle.pf_model.specs.Report.{answered}
 use Rattle.pf_top.proofs.client.push_bad_grid.Goals as goal
 
 pub returns : goal.returns
 returns c =
+    let message : c.as_str.result.now ≡ grid_text c.args.error = search rules in
     c.in_ok-push_error_answer.ensures
-    ∙ ap (λ (t : List ℕ). c.args.out.now.items ++ answered c.args.number c.args.id.now (codes "400") 0 0 (error_text (codes "bad_data") t)) c.grid_message-message.ensures
+    ∙ ap (λ (t : List ℕ). c.args.out.now.items ++ answered c.args.number c.args.id.now (codes "400") 0 0 (error_text (codes "bad_data") t)) message

@@ -6,5 +6,5 @@ use Rattle.pf_top.proofs.drive.run_lines.Given as goal
 abbrev pub invariant-loop-line : goal.invariant-loop-line
 invariant-loop-line l = record {
   counted : l.ran ≡ l.line-index;
-  going : IsGoing l.fn.client.session.limits l.files (lines_of l.script) (take l.line-index (lines_of l.script)) l.client;
+  going : IsGoing l.fn.client.session.limits l.loaded (lines_of l.script) (take l.line-index (lines_of l.script)) l.client;
 }

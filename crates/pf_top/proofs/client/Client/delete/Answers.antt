@@ -1,25 +1,23 @@
-use Rattle.std.proofs.Common.{rules, ◌≤◌, refl, None}
-use Rattle.std.specs.Arc.{arc_value}
-use Rattle.pf_model.specs.Machine.{no_tenant}
-use Rattle.pf_top.proofs.Steps.{step_entered, same_entered, step_deleted, same_deleted}
+use Rattle.std.proofs.Common.{rules, inr, None}
+use Rattle.pf_top.proofs.Steps.{if_ok_map, step_excepted}
+use Rattle.pf_top.proofs.TextReads.{selects_found, selects_other, selects_refused}
 use Rattle.pf_top.proofs.client.Client.delete.Goals as goal
 
-pub returns-in_ok-push_deleted-in-Ok-clause-runs : goal.returns-in_ok-push_deleted-in-Ok-clause-runs
-returns-in_ok-push_deleted-in-Ok-clause-runs c told =
-    step_deleted told c.args.self.now _ c.by.result c.args.number c.args.tenant.now c.args.from c.args.to c.args.selector.now (arc_value c.args.matchers.now) c.in-Ok.deleted
-    (search rules) (search rules) (search rules) (search rules) (search rules) (search rules) (search rules)
+pub returns-in_ok-try_clone-in-Some-Selector-clause-runs : goal.returns-in_ok-try_clone-in-Some-Selector-clause-runs
+returns-in_ok-try_clone-in-Some-Selector-clause-runs c =
+    if_ok_map _ _ c.delete_selected.result
+    (λ r run told. run told c.args.selector.now
+    (selects_found c.args.queries.now c.args.selector.now c.in-Some-Selector.matchers _ c.requires.right (search rules) (search rules)))
+    c.delete_selected.ensures.runs
 
-pub returns-in_ok-push_deleted-in-Ok-clause-same : goal.returns-in_ok-push_deleted-in-Ok-clause-same
-returns-in_ok-push_deleted-in-Ok-clause-same c =
-    same_deleted c.args.self.now _ c.by.result c.args.tenant.now c.args.from c.args.to (arc_value c.args.matchers.now) c.in-Ok.deleted (search rules) refl
+pub returns-in_ok-refuse_delete-in-Some-Refused-clause-runs : goal.returns-in_ok-refuse_delete-in-Some-Refused-clause-runs
+returns-in_ok-refuse_delete-in-Some-Refused-clause-runs c told =
+    step_excepted told c.args.self.now c.refuse_delete-in-Some-Refused.new.self _ None None None c.requires.stands (search rules)
+    (inr (inr (selects_refused c.args.queries.now c.args.selector.now c.in-Some-Refused._error c.requires.right (search rules))))
+    (search rules)
 
-pub returns-in_ok-push_reply-in-Err-TooManyTenants-clause-runs : goal.returns-in_ok-push_reply-in-Err-TooManyTenants-clause-runs
-returns-in_ok-push_reply-in-Err-TooManyTenants-clause-runs c told =
-    let forward : c.args.from ≤ c.args.to = search rules in
-    let within : c.args.to ≤ 4398046511103 = search rules in
-    step_entered told c.args.self.now _ c.by.result _ (no_tenant c.args.tenant.now) None None (search rules) (search rules) (search rules)
-    (refl, ((forward, within), (arc_value c.args.matchers.now, c.requires.read))) (search rules)
-
-pub returns-in_ok-push_reply-in-Err-TooManyTenants-clause-same : goal.returns-in_ok-push_reply-in-Err-TooManyTenants-clause-same
-returns-in_ok-push_reply-in-Err-TooManyTenants-clause-same c =
-    same_entered c.args.self.now _ c.by.result (no_tenant c.args.tenant.now) (search rules) refl refl
+pub returns-in_ok-refuse_delete-in-Some-Other-clause-runs : goal.returns-in_ok-refuse_delete-in-Some-Other-clause-runs
+returns-in_ok-refuse_delete-in-Some-Other-clause-runs c told =
+    step_excepted told c.args.self.now c.refuse_delete-in-Some-Other.new.self _ None None None c.requires.stands (search rules)
+    (inr (inr (selects_other c.args.queries.now c.args.selector.now c.requires.right (search rules))))
+    (search rules)

@@ -11,13 +11,13 @@ pub returns-in-Batch-clause-runs : goal.returns-in-Batch-clause-runs
 returns-in-Batch-clause-runs c =
     if_ok_map _ _ c.take_in.result
     (λ r run told held. run told
-    (subst (IsFileRead (told c.args.file.now) c.args.time) c.in-Batch.is
-    (c.in_ok-batch.ensures.read (told c.args.file.now) (held c.args.file.now c.in-Some.content.now (search rules)))))
+    (subst (IsFileRead (told.files c.args.file.now) c.args.time) c.in-Batch.is
+    (c.in_ok-batch.ensures.read (told.files c.args.file.now) (held c.args.file.now c.in-Some.content.now (search rules)))))
     c.take_in.ensures.runs
 
 pub returns-in_ok-push_refusal-in-Refused-clause-runs : goal.returns-in_ok-push_refusal-in-Refused-clause-runs
 returns-in_ok-push_refusal-in-Refused-clause-runs c told held =
     step_excepted told c.args.self.now _ _ (Some (refusal_in c.in-Refused.fault)) None None c.requires.stands refl
-    (subst (IsFileRead (told c.args.file.now) c.args.time) c.in-Refused.is
-    (c.in_ok-batch.ensures.read (told c.args.file.now) (held c.args.file.now c.in-Some.content.now (search rules))))
+    (subst (IsFileRead (told.files c.args.file.now) c.args.time) c.in-Refused.is
+    (c.in_ok-batch.ensures.read (told.files c.args.file.now) (held c.args.file.now c.in-Some.content.now (search rules))))
     (search rules)

@@ -1,6 +1,6 @@
 use Rattle.std.proofs.Common.{rules, refl}
 use Rattle.std.proofs.lemmas.Option.{slice_get_read}
-use Rattle.pf_top.proofs.Queries.{answered, known_tenant, some_open}
+use Rattle.pf_top.proofs.OpenQueries.{answered, known_tenant, some_open}
 use Rattle.pf_top.proofs.session.Session.answer.Goals as goal
 
 pub index-outstanding-requires : goal.index-outstanding-requires

@@ -2,7 +2,7 @@ use Rattle.std.proofs.Common.{rules, ◌≡◌, refl, length, nat_le, ◌+◌, �
 use Rattle.pf_top.proofs.Entered.{is_full, no_tenant_entered}
 use Rattle.std.proofs.lemmas.Option.{slice_get_read}
 use Rattle.pf_top.specs.Sessions.{IsAdmitted}
-use Rattle.pf_top.proofs.Queries.{asked, filled, fits, inside}
+use Rattle.pf_top.proofs.OpenQueries.{asked, filled, fits, inside}
 use Rattle.pf_top.proofs.session.Session.ask.Goals as goal
 
 pub returns-then-not-has_room-clause-err : goal.returns-then-not-has_room-clause-err
