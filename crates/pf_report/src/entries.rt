@@ -1,6 +1,6 @@
 //! The lines of the journal's entries.
 
-ghost use Rattle.std.specs.Prelude.{◌≡◌, ◌∷◌, ◌++◌, codes, decimal, map, OnOk};
+ghost use Rattle.std.specs.Prelude.{◌≡◌, ◌∷◌, ◌++◌, codes, decimal, map, OnOk, take, vec_len};
 ghost use Rattle.pf_model.specs.Report.{line_text};
 ghost use Rattle.pf_report.specs.Words.{word_text};
 
@@ -16,8 +16,9 @@ pub fn push_entry(
     line: u32,
     words: &[Word<'_>],
 ) -> Result<(), OutOfMemory>
-    ensures { OnOk result (out.new.items ≡ out.old.items
+    ensures ok { OnOk result (out.new.items ≡ out.old.items
         ++ line_text (decimal place ∷ codes "client" ∷ decimal client ∷ codes "line" ∷ decimal line ∷ map word_text words.now)) }
+    ensures kept { take (vec_len out.old) out.new.items ≡ out.old.items }
 {
     let first = [
         Word::Number(place),

@@ -1,6 +1,6 @@
 //! The JSON of an error.
 
-ghost use Rattle.std.specs.Prelude.{◌≡◌, ◌∷◌, ◌++◌, [], codes, IfOk, OnOk};
+ghost use Rattle.std.specs.Prelude.{◌≡◌, ◌∷◌, ◌++◌, [], codes, IfOk, OnOk, take, vec_len};
 ghost use Rattle.json.specs.Token.{key, string};
 ghost use Rattle.pf_model.specs.Json.{error_text};
 ghost use Rattle.pf_report.specs.ErrorTokens.{error_members};
@@ -46,7 +46,8 @@ pub fn push_error(
     kind: &str,
     message: &str,
 ) -> Result<(), OutOfMemory>
-    ensures { OnOk result (out.new.items ≡ out.old.items ++ error_text kind.now message.now) }
+    ensures ok { OnOk result (out.new.items ≡ out.old.items ++ error_text kind.now message.now) }
+    ensures kept { take (vec_len out.old) out.new.items ≡ out.old.items }
 {
     let body = error_json(alloc, kind, message)?;
     out.extend_from_slice(&body)?;

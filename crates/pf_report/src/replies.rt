@@ -1,6 +1,6 @@
 //! The replies to the lines of a script.
 
-ghost use Rattle.std.specs.Prelude.{◌≡◌, ◌++◌, codes, decimal, map, OnOk};
+ghost use Rattle.std.specs.Prelude.{◌≡◌, ◌++◌, codes, decimal, map, OnOk, take, vec_len};
 ghost use Rattle.pf_model.specs.Json.{error_text, matrix_text};
 ghost use Rattle.pf_model.specs.Report.{answered, ingested, reply_line};
 ghost use Rattle.pf_report.specs.Replies.{answer_line, ingest_line};
@@ -24,7 +24,8 @@ pub fn push_reply<'a>(
     name: &'a str,
     words: &[Word<'_>],
 ) -> Result<(), OutOfMemory>
-    ensures { OnOk result (out.new.items ≡ out.old.items ++ reply_line number verb.now name.now (map word_text words.now)) }
+    ensures ok { OnOk result (out.new.items ≡ out.old.items ++ reply_line number verb.now name.now (map word_text words.now)) }
+    ensures kept { take (vec_len out.old) out.new.items ≡ out.old.items }
 {
     let first = [
         Word::Number(u64::from(number)),
@@ -42,7 +43,8 @@ fn push_counts(
     skipped: u64,
     verdicts: &Verdicts,
 ) -> Result<(), OutOfMemory>
-    ensures { OnOk result (out.new.items ≡ out.old.items ++ ingest_line number tenant.now skipped verdicts.now.list verdicts.now.entry) }
+    ensures ok { OnOk result (out.new.items ≡ out.old.items ++ ingest_line number tenant.now skipped verdicts.now.list verdicts.now.entry) }
+    ensures kept { take (vec_len out.old) out.new.items ≡ out.old.items }
 {
     let counts = Counts::of(&verdicts.list);
     let words = [
@@ -69,7 +71,8 @@ pub fn push_ingested(
     skipped: u64,
     verdicts: &Verdicts,
 ) -> Result<(), OutOfMemory>
-    ensures { OnOk result (out.new.items ≡ out.old.items ++ ingested number tenant.now skipped verdicts.now.list verdicts.now.entry) }
+    ensures ok { OnOk result (out.new.items ≡ out.old.items ++ ingested number tenant.now skipped verdicts.now.list verdicts.now.entry) }
+    ensures kept { take (vec_len out.old) out.new.items ≡ out.old.items }
 {
     push_counts(out, number, tenant, skipped, verdicts)?;
     push_refused_rows(out, &verdicts.list)
@@ -84,7 +87,8 @@ fn push_answer(
     cached: u32,
     evaluated: u32,
 ) -> Result<(), OutOfMemory>
-    ensures { OnOk result (out.new.items ≡ out.old.items ++ answer_line number id.now (word_text code.entry) cached evaluated) }
+    ensures ok { OnOk result (out.new.items ≡ out.old.items ++ answer_line number id.now (word_text code.entry) cached evaluated) }
+    ensures kept { take (vec_len out.old) out.new.items ≡ out.old.items }
 {
     let words = [
         code,
@@ -107,7 +111,8 @@ pub fn push_matrix_answer(
     evaluated: u32,
     matrix: &Matrix,
 ) -> Result<(), OutOfMemory>
-    ensures { OnOk result (out.new.items ≡ out.old.items ++ answered number id.now (decimal 200) cached evaluated (matrix_text matrix.now)) }
+    ensures ok { OnOk result (out.new.items ≡ out.old.items ++ answered number id.now (decimal 200) cached evaluated (matrix_text matrix.now)) }
+    ensures kept { take (vec_len out.old) out.new.items ≡ out.old.items }
 {
     push_answer(out, number, id, Word::Number(200), cached, evaluated)?;
     push_matrix(alloc, out, &matrix.rows)?;
@@ -125,7 +130,8 @@ pub fn push_error_answer(
     kind: &str,
     message: &str,
 ) -> Result<(), OutOfMemory>
-    ensures { OnOk result (out.new.items ≡ out.old.items ++ answered number id.now code.now 0 0 (error_text kind.now message.now)) }
+    ensures ok { OnOk result (out.new.items ≡ out.old.items ++ answered number id.now code.now 0 0 (error_text kind.now message.now)) }
+    ensures kept { take (vec_len out.old) out.new.items ≡ out.old.items }
 {
     push_answer(out, number, id, Word::Text(code), 0, 0)?;
     push_error(alloc, out, kind, message)?;

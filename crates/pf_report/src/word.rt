@@ -77,7 +77,8 @@ pub fn push_line_of(
     further: &[Word<'_>],
 ) -> Result<(), OutOfMemory>
     requires { 0 < length first.now }
-    ensures { OnOk result (out.new.items ≡ out.old.items ++ line_text (map word_text first.now ++ map word_text further.now)) }
+    ensures ok { OnOk result (out.new.items ≡ out.old.items ++ line_text (map word_text first.now ++ map word_text further.now)) }
+    ensures kept { take (vec_len out.old) out.new.items ≡ out.old.items }
 {
     push_words(out, first)?;
     push_more_words(out, further)?;
@@ -86,7 +87,8 @@ pub fn push_line_of(
 }
 
 fn push_next_value(out: &mut Vec<u8>, value: Value) -> Result<(), OutOfMemory>
-    ensures { OnOk result (out.new.items ≡ out.old.items ++ 32 ∷ value_text value) }
+    ensures ok { OnOk result (out.new.items ≡ out.old.items ++ 32 ∷ value_text value) }
+    ensures kept { take (vec_len out.old) out.new.items ≡ out.old.items }
 {
     out.push(b' ')?;
     push_value(out, value)
@@ -100,10 +102,14 @@ pub fn push_line_with_value(
     value: Value,
 ) -> Result<(), OutOfMemory>
     requires { 0 < length words.now }
-    ensures { OnOk result (out.new.items ≡ out.old.items ++ line_text (map word_text words.now ++ value_text value ∷ [])) }
+    ensures ok { OnOk result (out.new.items ≡ out.old.items ++ line_text (map word_text words.now ++ value_text value ∷ [])) }
+    ensures kept { take (vec_len out.old) out.new.items ≡ out.old.items }
 {
     push_words(out, words)?;
     push_next_value(out, value)?;
     out.push(b'\n')?;
     Ok(())
 }
+
+#[cfg(test)]
+mod tests;

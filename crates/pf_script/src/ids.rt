@@ -1,6 +1,6 @@
 //! The IDs that a script issued.
 
-ghost use Rattle.std.specs.Prelude.{◌≡◌, ◌∷◌, [], MatchOption, None, Some, false, OnOk};
+ghost use Rattle.std.specs.Prelude.{◌≡◌, ◌∷◌, [], MatchOption, None, Some, false, OnErr, OnOk};
 ghost use Rattle.pf_model.specs.Scripts.{answer, answer_with, answered_as, is_new, issued_as};
 ghost use Rattle.pf_script.specs.IdLists.{Alike, issued_in};
 
@@ -38,9 +38,10 @@ impl<'a> Ids<'a> {
         !self.asked.contains_key(id)
     }
 
-    /// A line that asks under an ID.
+    /// A line that asks under an ID. Where memory ran out, it issued none.
     pub fn issue(&mut self, id: &'a [u8], line: u32) -> Result<(), OutOfMemory>
-        ensures { OnOk result (Alike (record { id = id.now; line = line; answered = false } ∷ issued_in self.old) (issued_in self.new)) }
+        ensures ok { OnOk result (Alike (record { id = id.now; line = line; answered = false } ∷ issued_in self.old) (issued_in self.new)) }
+        ensures err { OnErr result (issued_in self.new ≡ issued_in self.old) }
     {
         self.asked.insert(
             id,
