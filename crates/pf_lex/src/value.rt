@@ -1,6 +1,6 @@
 //! What tokens say.
 
-ghost use Rattle.std.specs.Prelude.{◌≡◌, ◌++◌, [], encode_utf8, unwrap_or, zero, IfOk, OnOk};
+ghost use Rattle.std.specs.Prelude.{◌≡◌, ◌++◌, [], encode_utf8, unwrap_or, zero, IfOk, OnErr, OnOk};
 ghost use Rattle.std.specs.Str.{IsUtf8};
 ghost use Rattle.pf_model.specs.Tokens.{raw_from, string_from};
 ghost use Rattle.pf_lex.specs.Quotes.{bytes_of};
@@ -20,7 +20,8 @@ pub fn token_text<'a>(text: &'a str, token: &Token) -> &'a str
 }
 
 fn push_character(out: &mut Vec<u8>, character: char) -> Result<(), OutOfMemory>
-    ensures { OnOk result (out.new.items ≡ out.old.items ++ encode_utf8 character) }
+    ensures ok { OnOk result (out.new.items ≡ out.old.items ++ encode_utf8 character) }
+    ensures err { OnErr result (out.new.items ≡ out.old.items) }
 {
     let mut buffer = [0; 4];
     out.extend_from_slice(character.encode_utf8(&mut buffer).as_bytes())?;
@@ -28,7 +29,8 @@ fn push_character(out: &mut Vec<u8>, character: char) -> Result<(), OutOfMemory>
 }
 
 fn push_written(out: &mut Vec<u8>, written: Written) -> Result<(), OutOfMemory>
-    ensures { OnOk result (out.new.items ≡ out.old.items ++ bytes_of written) }
+    ensures ok { OnOk result (out.new.items ≡ out.old.items ++ bytes_of written) }
+    ensures err { OnErr result (out.new.items ≡ out.old.items) }
 {
     match written {
         Written::Byte(byte) => Ok(out.push(byte)?),

@@ -1,6 +1,6 @@
 //! A text as it is written.
 
-ghost use Rattle.std.specs.Prelude.{◌≡◌, ◌++◌, ◌<◌, ◌*◌, pos, [], OnOk, IfOk};
+ghost use Rattle.std.specs.Prelude.{◌≡◌, ◌++◌, ◌<◌, ◌*◌, pos, [], OnErr, OnOk, IfOk};
 ghost use Rattle.std.specs.Fmt.{decimal};
 ghost use Rattle.std.specs.Str.{IsUtf8};
 ghost use Rattle.std.specs.String.{string_bytes};
@@ -93,7 +93,8 @@ pub fn push_value(alloc: Global, out: &mut Output, value: Value) -> Result<(), O
 }
 
 fn push_escaped(out: &mut Vec<u8>, byte: u8) -> Result<(), OutOfMemory>
-    ensures { OnOk result (out.new.items ≡ out.old.items ++ string_byte byte) }
+    ensures ok { OnOk result (out.new.items ≡ out.old.items ++ string_byte byte) }
+    ensures err { OnErr result (out.new.items ≡ out.old.items) }
 {
     match byte {
         b'\\' => Ok(out.extend_from_slice(b"\\\\")?),

@@ -1,9 +1,10 @@
 //! Queries read from texts.
 
-ghost use Rattle.std.specs.Prelude.{IfErr, IfOk, ◌≤◌};
+ghost use Rattle.std.specs.Prelude.{◌≡◌, ◌<◌, ◌≤◌, length, Err, IfErr, IfOk};
 ghost use Rattle.pf_model.specs.Parsing.{Parses};
 ghost use Rattle.pf_model.specs.Trees.{Tree, size, tree_of};
 ghost use Rattle.pf_parse.specs.Refusals.{IsAnswered, IsRefused};
+ghost use Rattle.pf_parse.specs.declared.error.ParseError.TheVariants.{TooLong};
 
 #[cfg(test)]
 mod tests;
@@ -20,6 +21,7 @@ fn parse_text(alloc: Global, text: &str) -> Result<Expr, ParseError>
     ensures parses { IfOk result (λ e. Parses text.now (tree_of e)) }
     ensures small { IfOk result (λ e. size (tree_of e) ≤ 65536) }
     ensures refuses { IfErr result (IsRefused text.now) }
+    ensures long { 65536 < length text.now → result ≡ Err TooLong }
 {
     let tokens = match tokens(alloc, text) {
         Ok(tokens) => tokens,
@@ -53,6 +55,7 @@ pub fn parse(alloc: Global, text: &str) -> Result<Expr, ParseError>
     ensures small { IfOk result (λ e. size (tree_of e) ≤ 65536) }
     ensures refuses { IfErr result (IsRefused text.now) }
     ensures exact { (t : Tree) → Parses text.now t → IsAnswered t result }
+    ensures long { 65536 < length text.now → result ≡ Err TooLong }
 {
     parse_text(alloc, text)
 }

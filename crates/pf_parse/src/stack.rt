@@ -1,6 +1,6 @@
 //! What is open, the last opened first.
 
-ghost use Rattle.std.specs.Prelude.{◌≡◌, ◌∷◌, [], IfOk, List};
+ghost use Rattle.std.specs.Prelude.{◌≡◌, ◌∷◌, [], OnErr, OnOk, List};
 ghost use Rattle.pf_parse.specs.Stacks.{Popped, takes};
 
 use crate::mode::Frame;
@@ -38,7 +38,8 @@ impl Stack {
 
     #[tactic(auto, using(crate::proofs::Tops::top))]
     pub fn push(&mut self, frame: Frame) -> Result<(), OutOfMemory>
-        ensures { IfOk result (λ _. self.new ≡ frame ∷ self.old) }
+        ensures ok { OnOk result (self.new ≡ frame ∷ self.old) }
+        ensures err { OnErr result (self.new ≡ self.old) }
     {
         Ok(self.frames.push(frame)?)
     }

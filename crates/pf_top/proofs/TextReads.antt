@@ -41,7 +41,7 @@ use Rattle.pf_types.specs.Errors.{IsFaultFor, query_fault, words_of_error}
 use Rattle.pf_types.specs.declared.query.QueryError.{QueryError}
 use Rattle.pf_types.specs.declared.query.QueryError.TheVariants as query_error
 use Rattle.pf_top.specs.Correct.{HasUnbuilt, IsBuiltLine, IsUnbuiltLine}
-use Rattle.pf_top.specs.Queries.{AreReadAs, IsKeptFor, IsLineRead, IsReadAs, IsReadIn, IsTextRead, Queries, StayRead, is_query_built, is_selector_built, reading_in, readings_in}
+use Rattle.pf_top.specs.Queries.{AreReadAs, IsKeptFor, IsLineRead, IsReadAs, IsTextRead, Queries, StayRead, is_query_built, is_selector_built, reading_in, readings_in}
 use Rattle.pf_top.specs.declared.queries.QueryRead.{QueryRead}
 use Rattle.pf_top.specs.declared.queries.QueryRead.TheVariants.{Selector, Refused, Other, Pattern}
 use Rattle.pf_top.proofs.Machines.{bool_cases}
@@ -149,26 +149,6 @@ select_plain e s range mods is h = (ap tree_of is ∙ select_tree s range mods) 
 
 -- ---- what a text is read as
 
-pub selector_right : (words : List ℕ) (t : Tree) (ms : List Matcher) → t ≡ instant ms → obstacle_of t ≡ None → IsQuery words t
-    → IsReading words (lawful (instant ms)) × IsSelector words ms
-selector_right words t ms is none q =
-    let there : IsQuery words (instant ms) = subst (IsQuery words) is q in
-    let clear : obstacle_of (instant ms) ≡ None = subst (λ (x : Tree). obstacle_of x ≡ None) is none in
-    ((there, clear), (instant ms, (there.parses, own_selecting ms ∙ ap (selecting_by ms) clear)))
-
-pub matchers_right : (words : List ℕ) (t : Tree) (m : Arc Matchers Global) (ms : List Matcher) → t ≡ instant ms → arc_value m ≡ ms → obstacle_of t ≡ None → IsQuery words t
-    → IsReadAs words (Selector m)
-matchers_right words t m ms is same none q =
-    subst (λ (x : List Matcher). IsReading words (lawful (instant x)) × IsSelector words x) (sym same) (selector_right words t ms is none q)
-
--- a lawful query of another form
-pub other_right : (words : List ℕ) (t : Tree) → is_plain t ≡ false → obstacle_of t ≡ None → IsQuery words t → IsReadAs words Other
-other_right words t plain none q =
-    ((t, (q, unbuilt (obstacle_of t) none)), inr (t, (q.parses, other_tree t plain))) where
-      unbuilt : (o : Option Obstacle) → o ≡ None → is_unbuilt o t ≡ true
-      unbuilt None e = rw plain refl
-      unbuilt (Some x) e = cc
-
 unbuilt_pattern : (t : Tree) (o : Option Obstacle) → o ≡ Some pattern → is_unbuilt o t ≡ true
 unbuilt_pattern t o e = ap (λ (x : Option Obstacle). is_unbuilt x t) e
 
@@ -176,16 +156,6 @@ unbuilt_pattern t o e = ap (λ (x : Option Obstacle). is_unbuilt x t) e
 pub pattern_inside : (words : List ℕ) (t : Tree) → is_plain t ≡ false → obstacle_of t ≡ Some pattern → IsQuery words t → IsReadAs words Other
 pattern_inside words t plain some q =
     ((t, (q, unbuilt_pattern t (obstacle_of t) some)), inr (t, (q.parses, other_tree t plain)))
-
--- a selector with patterns
-pub pattern_right : (words : List ℕ) (t : Tree) (ms : List Matcher) → t ≡ instant ms → obstacle_of t ≡ Some pattern → IsQuery words t → IsReadAs words Pattern
-pattern_right words t ms is some q =
-    let there : IsQuery words (instant ms) = subst (IsQuery words) is q in
-    let clear : obstacle_of (instant ms) ≡ Some pattern = subst (λ (x : Tree). obstacle_of x ≡ Some pattern) is some in
-    (
-      (instant ms, (there, unbuilt_pattern (instant ms) (obstacle_of (instant ms)) clear)),
-      (instant ms, (there.parses, own_selecting ms ∙ ap (selecting_by ms) clear)),
-    )
 
 -- an empty selector
 pub empty_right : (words : List ℕ) (t : Tree) (n : ℕ) → obstacle_of t ≡ Some (empty n) → IsQuery words t
@@ -349,10 +319,6 @@ read_new old new words q right is absent there others = record {
 
 pub read_before : (kept : Queries) (words : List ℕ) (q : QueryRead) → AreReadAs kept → get_by_text kept words ≡ Some q → IsTextRead kept words kept
 read_before kept words q right there = record { right = right; read = q; there = there; still = λ other p g. g }
-
-pub read_in : (is_built : QueryRead → Bool) (old new : Queries) (words : List ℕ) (q : QueryRead) → IsTextRead old words new → get_by_text new words ≡ Some q → is_built q ≡ true
-    → IsReadIn is_built old words new
-read_in is_built old new words q r there b = record { right = r.right; kept = record { read = q; there = there; built = b }; still = r.still }
 
 kept_still : (old new : Queries) → StayRead old new → (l : Line) → IsKeptFor old l → IsKeptFor new l
 kept_still old new still (ingest tenant file time) k = tt

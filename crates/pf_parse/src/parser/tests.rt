@@ -479,6 +479,8 @@ fn limits_are_kept(rt: HostRuntime) -> Result<(), Fail> {
     assert_eq!(rt; tall.as_str(), "TooTall");
     let many = answer(alloc, sums(alloc, 30_000)?.as_str())?;
     assert_eq!(rt; many.as_str(), "TooTall");
+    let long = answer(alloc, signs(alloc, 65_536)?.as_str())?;
+    assert_eq!(rt; long.as_str(), "TooLong");
     let deep = answer(alloc, brackets(alloc, 65)?.as_str())?;
     assert_eq!(rt; deep.as_str(), "TooDeep 64");
     let low = answer(alloc, brackets(alloc, 64)?.as_str())?;
