@@ -1,6 +1,6 @@
 //! Vectors: label sets in order, and elements in label order.
 
-ghost use Rattle.std.specs.Prelude.{◌≡◌, ◌≤◌, length, IfOk, MatchOption, OnOk};
+ghost use Rattle.std.specs.Prelude.{◌≡◌, ◌≤◌, length, IfOk, MatchOption, OnErr, OnOk};
 ghost use Rattle.std.specs.List.{insert, list_any};
 ghost use Rattle.pf_model.specs.Cells.{cell_of, distinct, has_equal, in_label_order, labels_of, put};
 ghost use Rattle.pf_model.specs.Selection.{same_labels};
@@ -62,9 +62,10 @@ fn place_of(sets: &[Labels], labels: &Labels) -> Option<usize>
     Some(sets.len())
 }
 
-/// Puts a label set into a list in label order, where it isn't there yet.
+/// Puts a label set into a list in label order, where it isn't there yet. The list is unchanged on an error.
 fn put(sets: &mut Vec<Labels>, labels: Labels) -> Result<(), OutOfMemory>
-    ensures { OnOk result (sets.new.items ≡ put labels sets.old.items) }
+    ensures ok { OnOk result (sets.new.items ≡ put labels sets.old.items) }
+    ensures err { OnErr result (sets.new.items ≡ sets.old.items) }
 {
     if let Some(place) = place_of(sets, &labels) {
         sets.insert(place, labels)?;

@@ -1,6 +1,6 @@
 //! The functions of each element by itself.
 
-ghost use Rattle.std.specs.Prelude.{◌≡◌, ◌++◌, ◌≤◌, ◌≤ℤ◌, ◌<ℤ◌, ◌+ℤ◌, ◌*ℤ◌, pos, unsigned_abs, true, false, IfOk, OnOk, MatchOption, Some};
+ghost use Rattle.std.specs.Prelude.{◌≡◌, ◌++◌, ◌≤◌, ◌≤ℤ◌, ◌<ℤ◌, ◌+ℤ◌, ◌*ℤ◌, pos, unsigned_abs, true, false, IfOk, OnErr, OnOk, MatchOption, Some};
 ghost use Rattle.std.specs.Int.{int_div_euclid};
 ghost use Rattle.pf_model.specs.Cells.{element, without_name};
 ghost use Rattle.pf_model.specs.InstantFunctions.{bounded, ceil, clamp_by, each_value, first_scalar, floor, round_by, rounded, sign_of};
@@ -209,7 +209,8 @@ fn push_value(
     from: &Element,
     value: Option<Value>,
 ) -> Result<(), OutOfMemory>
-    ensures { OnOk result (found.new.items ≡ found.old.items ++ element (without_name from.now.labels) value) }
+    ensures ok { OnOk result (found.new.items ≡ found.old.items ++ element (without_name from.now.labels) value) }
+    ensures err { OnErr result (found.new.items ≡ found.old.items) }
 {
     if let Some(value) = value {
         found.push(Element {

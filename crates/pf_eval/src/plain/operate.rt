@@ -1,6 +1,6 @@
 //! Signs and binary operators at one value, and beside a scalar.
 
-ghost use Rattle.std.specs.Prelude.{◌≡◌, ◌++◌, neg_ℤ, pos, cond, Some, IfOk, OnOk};
+ghost use Rattle.std.specs.Prelude.{◌≡◌, ◌++◌, neg_ℤ, pos, cond, Some, IfOk, OnErr, OnOk};
 ghost use Rattle.pf_model.specs.Cells.{element, without_name};
 ghost use Rattle.pf_model.specs.InstantFunctions.{each_value};
 ghost use Rattle.pf_model.specs.Micros.{one};
@@ -105,14 +105,15 @@ pub(super) fn of_scalars(op: BinaryOp, a: Option<Value>, b: Option<Value>) -> Op
     }
 }
 
-/// Pushes an element with these labels, as the result of an operator, where there is a value.
+/// Pushes an element with these labels, as the result of an operator, where there is a value. Pushes nothing on an error.
 pub(super) fn push_result(
     found: &mut Vec<Element>,
     op: BinaryOp,
     labels: &Labels,
     value: Option<Value>,
 ) -> Result<(), OutOfMemory>
-    ensures { OnOk result (found.new.items ≡ found.old.items ++ element (result_labels op labels.now) value) }
+    ensures ok { OnOk result (found.new.items ≡ found.old.items ++ element (result_labels op labels.now) value) }
+    ensures err { OnErr result (found.new.items ≡ found.old.items) }
 {
     if let Some(value) = value {
         let labels = result_labels(op, labels)?;

@@ -1,6 +1,6 @@
 //! What an instant selector gives.
 
-ghost use Rattle.std.specs.Prelude.{◌≡◌, ◌≤ℤ◌, ◌^◌, pos, negsuc, ◌++◌, map, filter, IfOk, OnOk, Some};
+ghost use Rattle.std.specs.Prelude.{◌≡◌, ◌≤ℤ◌, ◌^◌, pos, negsuc, ◌++◌, map, filter, IfOk, OnErr, OnOk, Some};
 ghost use Rattle.std.specs.Option.{option_copied};
 ghost use Rattle.pf_model.specs.Evaluation.{element_of, fixed_time, label_sets, read_time, selected, vector};
 ghost use Rattle.pf_model.specs.Selection.{accepts, is_read, last_row, later, same_labels};
@@ -109,9 +109,10 @@ fn label_sets(alloc: Global, rows: &[Row]) -> Result<Vec<Labels>, OutOfMemory>
     distinct(alloc, &sets)
 }
 
-/// Pushes the row of greatest time among those of a label set.
+/// Pushes the row of greatest time among those of a label set. Pushes nothing on an error.
 fn push_last(found: &mut Vec<Element>, rows: &[Row], labels: &Labels) -> Result<(), OutOfMemory>
-    ensures { OnOk result (found.new.items ≡ found.old.items ++ element_of (last_row (filter (λ r. same_labels r.labels labels.now) rows.now))) }
+    ensures ok { OnOk result (found.new.items ≡ found.old.items ++ element_of (last_row (filter (λ r. same_labels r.labels labels.now) rows.now))) }
+    ensures err { OnErr result (found.new.items ≡ found.old.items) }
 {
     if let Some(row) = last_row(rows, labels) {
         found.push(Element {

@@ -83,19 +83,57 @@ fn operated(alloc: Global, sign: Sign, left: Expr, right: Expr) -> Result<Expr, 
     })
 }
 
-/// An aggregation by the label `s`, or of all.
-fn aggregated(alloc: Global, op: AggOp, by_s: bool, arg: Expr) -> Result<Expr, Fail> {
-    let mut labels = Vec::new(alloc);
-    if by_s {
-        labels.push(Text::of(alloc, "s")?)?;
+/// The texts that a list names, as in `a,b`.
+fn texts(alloc: Global, list: &str) -> Result<Vec<Text>, Fail> {
+    let mut found = Vec::new(alloc);
+    for text in list.split(',') {
+        if !text.is_empty() {
+            found.push(Text::of(alloc, text)?)?;
+        }
     }
+    Ok(found)
+}
+
+/// An operator of two metrics, which match by `on` or `ignoring` of labels.
+fn matched(
+    alloc: Global,
+    (left, sign, right): (&str, Sign, &str),
+    on: bool,
+    labels: &str,
+    side: Side,
+    include: &str,
+) -> Result<Expr, Fail> {
+    Ok(Expr::Binary {
+        op: BinaryOp {
+            sign,
+            with_bool: false,
+        },
+        matching: Matching {
+            on,
+            labels: texts(alloc, labels)?,
+            side,
+            include: texts(alloc, include)?,
+        },
+        left: Box::new(alloc, metric(alloc, left)?)?,
+        right: Box::new(alloc, metric(alloc, right)?)?,
+    })
+}
+
+/// An aggregation by labels, or without them.
+fn aggregated(
+    alloc: Global,
+    op: AggOp,
+    without: bool,
+    labels: &str,
+    arg: Expr,
+) -> Result<Expr, Fail> {
     let mut args = Vec::new(alloc);
     args.push(arg)?;
     Ok(Expr::Aggregate {
         op,
         grouping: Grouping {
-            without: false,
-            labels,
+            without,
+            labels: texts(alloc, labels)?,
         },
         args,
     })
@@ -174,14 +212,6 @@ fn evaluates_operators(rt: HostRuntime) -> Result<(), Fail> {
             )?,
             "a=1 ",
         ),
-        (
-            aggregated(alloc, AggOp::Sum, false, metric(alloc, "m")?)?,
-            "=3 ",
-        ),
-        (
-            aggregated(alloc, AggOp::Sum, true, metric(alloc, "m")?)?,
-            "a=1 b=2 ",
-        ),
     ] {
         assert_eq!(rt; answer(rt, query)?.as_str(), wanted);
     }
@@ -237,10 +267,97 @@ fn evaluates_aggregations(rt: HostRuntime) -> Result<(), Fail> {
     ] {
         let all = selector(alloc, MatchSign::Like, "m|n")?;
         assert_eq!(rt;
-            answer(rt, aggregated(alloc, op, false, all)?)?.as_str(),
+            answer(rt, aggregated(alloc, op, false, "", all)?)?.as_str(),
             wanted,
             "{op:?}"
         );
+    }
+    Ok(())
+}
+
+#[test]
+fn groups_by_and_without(rt: HostRuntime) -> Result<(), Fail> {
+    let alloc = rt.alloc();
+    for (without, labels, wanted) in [
+        (false, "", "=3 "),
+        (false, "s", "a=1 b=2 "),
+        (true, "", "a=1 b=2 "),
+        (true, "s", "=3 "),
+    ] {
+        let query = aggregated(alloc, AggOp::Sum, without, labels, metric(alloc, "m")?)?;
+        assert_eq!(rt; answer(rt, query)?.as_str(), wanted, "{without}");
+    }
+    Ok(())
+}
+
+#[test]
+fn matches_by_labels(rt: HostRuntime) -> Result<(), Fail> {
+    let alloc = rt.alloc();
+    for (both, on, labels, wanted) in [
+        (("m", Sign::And, "n"), false, "", "b=2 "),
+        (("m", Sign::Or, "n"), false, "", "a=1 b=2 "),
+        (("n", Sign::Or, "m"), false, "", "a=1 b=10 "),
+        (("m", Sign::Add, "n"), true, "s", "b=12 "),
+        (("n", Sign::Add, "n"), false, "s", "=20 "),
+        (("m", Sign::Add, "n"), true, "", "ManyToMany"),
+        (("n", Sign::Add, "m"), true, "", "DoubleOnOneSide"),
+    ] {
+        let query = matched(alloc, both, on, labels, Side::One, "")?;
+        assert_eq!(rt; answer(rt, query)?.as_str(), wanted);
+    }
+    Ok(())
+}
+
+#[test]
+fn takes_labels_of_the_one_side(rt: HostRuntime) -> Result<(), Fail> {
+    let alloc = rt.alloc();
+    for (both, side, include, wanted) in [
+        (("m", Sign::Mul, "n"), Side::Left, "", "a=10 b=20 "),
+        (("n", Sign::Sub, "m"), Side::Right, "", "a=9 b=8 "),
+        (("m", Sign::Mul, "n"), Side::Left, "s", "GroupingNotUnique"),
+        (("m", Sign::Mul, "n"), Side::Right, "", "DoubleOnOneSide"),
+        (("m", Sign::Mul, "n"), Side::Left, "0", "NotBuilt"),
+    ] {
+        let query = matched(alloc, both, true, "", side, include)?;
+        assert_eq!(rt; answer(rt, query)?.as_str(), wanted);
+    }
+    Ok(())
+}
+
+/// Two elements whose labels are equal once they lose their metric names.
+fn doubled(alloc: Global) -> Result<Expr, Fail> {
+    minus(alloc, selector(alloc, MatchSign::Like, "m|n")?)
+}
+
+#[test]
+fn passes_errors_on(rt: HostRuntime) -> Result<(), Fail> {
+    let alloc = rt.alloc();
+    for query in [
+        minus(alloc, doubled(alloc)?)?,
+        operated(alloc, Sign::Add, doubled(alloc)?, number(1))?,
+        operated(alloc, Sign::Add, number(1), doubled(alloc)?)?,
+        called(alloc, InstantFn::Abs, doubled(alloc)?, &[])?,
+        aggregated(alloc, AggOp::Sum, false, "", doubled(alloc)?)?,
+    ] {
+        assert_eq!(rt; answer(rt, query)?.as_str(), "DoubleLabels");
+    }
+    Ok(())
+}
+
+/// 1 / 0, which has no value.
+fn nothing(alloc: Global) -> Result<Expr, Fail> {
+    operated(alloc, Sign::Div, number(1), number(0))
+}
+
+#[test]
+fn passes_scalars_without_a_value_on(rt: HostRuntime) -> Result<(), Fail> {
+    let alloc = rt.alloc();
+    for query in [
+        minus(alloc, nothing(alloc)?)?,
+        operated(alloc, Sign::Add, nothing(alloc)?, metric(alloc, "m")?)?,
+        operated(alloc, Sign::Add, metric(alloc, "m")?, nothing(alloc)?)?,
+    ] {
+        assert_eq!(rt; answer(rt, query)?.as_str(), "");
     }
     Ok(())
 }
