@@ -144,6 +144,75 @@ fn full_journal() -> Case {
     }
 }
 
+/// The journal has no room for a further file.
+fn full_for_an_ingest() -> Case {
+    Case {
+        other: Other::Journal,
+        script: concat!(
+            "ask q acme 0 0 1000 up\n",
+            "answer q\n",
+            "ingest acme a.prom\n",
+            "ingest acme a.prom\n",
+        ),
+        pages: ["up 1 60000\n", ""],
+        status: 8,
+        report: concat!(
+            "client 0\n",
+            "1 ask q pin 0 place 0\n",
+            "2 answer q 200 cached 0 evaluated 1\n",
+            "{\"status\":\"success\",\"data\":{\"resultType\":\"matrix\",\"result\":[]}}\n",
+            "3 ingest acme taken 1 repeated 0 refused 0 skipped 0 entry 1\n",
+            "4 ingest acme journal full\n",
+            "journal 3\n",
+            "0 client 0 line 1 ask acme pin 0 generation 0 floor none\n",
+            "1 client 0 line 2 answer 0 200\n",
+            "2 client 0 line 3 append acme entry 1\n",
+        ),
+    }
+}
+
+/// The journal has no room for a deletion.
+fn full_for_a_deletion() -> Case {
+    Case {
+        other: Other::Journal,
+        script: concat!(
+            "ask q acme 0 0 1000 up\n",
+            "answer q\n",
+            "ingest acme a.prom\n",
+            "delete acme 0 60000 up\n",
+        ),
+        pages: ["up 1 60000\n", ""],
+        status: 8,
+        report: concat!(
+            "client 0\n",
+            "1 ask q pin 0 place 0\n",
+            "2 answer q 200 cached 0 evaluated 1\n",
+            "{\"status\":\"success\",\"data\":{\"resultType\":\"matrix\",\"result\":[]}}\n",
+            "3 ingest acme taken 1 repeated 0 refused 0 skipped 0 entry 1\n",
+            "4 delete acme journal full\n",
+            "journal 3\n",
+            "0 client 0 line 1 ask acme pin 0 generation 0 floor none\n",
+            "1 client 0 line 2 answer 0 200\n",
+            "2 client 0 line 3 append acme entry 1\n",
+        ),
+    }
+}
+
+/// A page with a time past the greatest.
+fn late_page() -> Case {
+    Case {
+        other: Other::None,
+        script: "ingest acme a.prom\n",
+        pages: ["up 1 4398046511104\n", ""],
+        status: 0,
+        report: concat!(
+            "client 0\n",
+            "1 ingest acme time too large line 1\n",
+            "journal 0\n",
+        ),
+    }
+}
+
 /// A deletion changes what is asked behind it, and no query that is open.
 fn deleted() -> Case {
     Case {
@@ -466,9 +535,12 @@ fn reports(rt: HostRuntime) -> Result<(), Fail> {
         empty(),
         asked(),
         full_journal(),
+        full_for_an_ingest(),
+        full_for_a_deletion(),
         deleted(),
         grids(),
         pages(),
+        late_page(),
         verdicts(),
         outstanding(),
         queries(),
@@ -487,13 +559,13 @@ fn reports(rt: HostRuntime) -> Result<(), Fail> {
     Ok(())
 }
 
-/// An ask of each of the tenants, the last of which is one too many, and the answer of the last.
+/// An ask of each of the tenants, the last of which is one too many, the answer of the last, and two further tenants.
 fn crowd(alloc: Global) -> Result<String, Fail> {
     let mut script = String::new(alloc);
     for tenant in 0..TENANTS {
         write!(script, "ask q{tenant} t{tenant} 0 0 1000 up\n")?;
     }
-    script.push_str("answer q1024\n")?;
+    script.push_str("answer q1024\ningest x a.prom\ndelete y 0 1 up\n")?;
     Ok(script)
 }
 
@@ -514,11 +586,17 @@ fn too_many_tenants(rt: HostRuntime) -> Result<(), Fail> {
         "1025 ask q1024 refused 503",
         "1026 answer q1024 503 cached 0 evaluated 0",
         "{\"status\":\"error\",\"errorType\":\"unavailable\",\"error\":\"too many tenants\"}",
-        "journal 1025",
+        "1027 ingest x too many tenants",
+        "1028 delete y too many tenants",
+        "journal 1027",
     ] {
         assert_eq!(rt; lines.next(), Some(line.as_bytes()));
     }
-    let last = "\n1024 client 0 line 1025 tenants full t1024\n";
+    let last = concat!(
+        "\n1024 client 0 line 1025 tenants full t1024\n",
+        "1025 client 0 line 1027 tenants full x\n",
+        "1026 client 0 line 1028 tenants full y\n",
+    );
     assert!(rt; output.text.as_slice().ends_with(last.as_bytes()));
     Ok(())
 }
