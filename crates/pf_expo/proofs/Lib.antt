@@ -5,7 +5,6 @@ pub mod Faults
 pub mod Files
 pub mod FirstBytes
 pub mod Fronts
-pub mod Lines
 pub mod Pairs
 pub mod Quoted
 pub mod Samples

@@ -155,17 +155,3 @@ scan default line = do
 abbrev pub skips : List ℕ → Bool
 skips [] = true
 skips (b ∷ bs) = nat_eq b 35
-
--- the bytes before the first line feed and those behind it
-abbrev pub onto_front : ℕ → Option Cut → Option Cut
-onto_front b None = None
-onto_front b (Some c) = Some (b ∷ c.0, c.1)
-
-abbrev pub line_cut : List ℕ → Option Cut
-line_cut [] = None
-line_cut (b ∷ bs) = cond (nat_eq b 10) (Some ([], bs)) (onto_front b (line_cut bs))
-
--- a line without one carriage return at its end
-abbrev pub without_return : List ℕ → List ℕ
-without_return [] = []
-without_return (b ∷ bs) = cond (is_empty bs && nat_eq b 13) [] (b ∷ without_return bs)

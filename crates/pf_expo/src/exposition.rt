@@ -1,13 +1,12 @@
 //! Whole files.
 
-ghost use Rattle.std.specs.Prelude.{◌≡◌, ◌<◌, ◌≤◌, ◌∷◌, [], length, IfSome, MatchOption, nat_eq, position};
-ghost use Rattle.pf_model.specs.Exposition.{file_lines};
+ghost use Rattle.std.specs.Prelude.{◌<◌, ◌≤◌, length};
 ghost use Rattle.pf_expo.specs.Answers.{Adds, Answers, taken_of};
-ghost use Rattle.pf_expo.specs.Scans.{line_cut, without_return};
 
 use crate::fault::{ExpoError, ReadFault};
 use crate::line::{LineRead, read_line};
 use pf_base::{Batch, Row};
+use pf_model::next_line;
 use std::alloc::Global;
 
 /// The greatest number of rows of a file.
@@ -18,38 +17,6 @@ const MOST_ROWS: usize = 2_000_000;
 struct Taken {
     rows: Vec<Row>,
     skipped: u64,
-}
-
-fn first_line_feed(bytes: &[u8]) -> Option<usize>
-    ensures place { result ≡ position (λ b. nat_eq b 10) bytes.now }
-    ensures within { IfSome result (λ n. n < length bytes.now) }
-{
-    bytes.iter().position(|byte| *byte == b'\n')
-}
-
-/// The line without one carriage return at its end.
-#[tactic(auto, using(crate::proofs::Lines::return_rules))]
-fn without_return(line: &[u8]) -> &[u8]
-    ensures { result.now ≡ without_return line.now }
-{
-    let Some((last, front)) = line.split_last() else {
-        return line
-    };
-    if *last == b'\r' { front } else { line }
-}
-
-/// The first line of a file, and what follows it. None for a file without a line.
-fn next_line(bytes: &[u8]) -> Option<(&[u8], &[u8])>
-    ensures lines { MatchOption result (file_lines bytes.now ≡ []) (λ c. file_lines bytes.now ≡ c.0.now ∷ file_lines c.1.now) }
-    ensures shorter { IfSome result (λ c. length c.1.now < length bytes.now) }
-{
-    if bytes.is_empty() {
-        return None;
-    }
-    let Some(end) = first_line_feed(bytes) else {
-        return Some((bytes, &[]))
-    };
-    Some((without_return(&bytes[..end]), &bytes[end + 1..]))
 }
 
 /// Adds what a line gives.

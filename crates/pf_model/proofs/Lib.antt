@@ -1,3 +1,4 @@
+pub mod FirstLines
 mod Fitting
 mod Folds
 mod GridPieces
@@ -8,6 +9,7 @@ pub mod MergeQuery
 mod MergedParts
 pub mod OneAnswer
 pub mod OnePlace
+pub mod Places
 mod SelectorLabels
 mod ShardSteps
 mod ShardedCells

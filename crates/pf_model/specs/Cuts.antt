@@ -1,5 +1,5 @@
 -- Bytes that are cut in two, and steps that may fail.
-use Rattle.std.specs.Prelude.{ℕ, Bool, Option, Some, None, option_and_then, cond, List, [], ◌∷◌, nat_eq}
+use Rattle.std.specs.Prelude.{ℕ, Bool, Option, Some, None, option_and_then, cond, List}
 
 infixl 10 ◌>>=◌
 abbrev pub ◌>>=◌ : {A B : Type 0} → Option A → (A → Option B) → Option B
@@ -13,12 +13,3 @@ kept b x = cond b (Some x) None
 pub record Cut : Type 0 where
   pub front : List ℕ
   pub behind : List ℕ
-
-abbrev pub with_front : ℕ → Option Cut → Option Cut
-with_front x None = None
-with_front x (Some c) = Some (record { front = x ∷ c.front; behind = c.behind })
-
--- what stands before the first byte b, and what behind it
-abbrev pub cut_at : ℕ → List ℕ → Option Cut
-cut_at b [] = None
-cut_at b (x ∷ xs) = cond (nat_eq x b) (Some (record { front = []; behind = xs })) (with_front x (cut_at b xs))

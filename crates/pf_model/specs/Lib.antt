@@ -12,6 +12,7 @@ pub mod InstantFunctions
 pub mod Json
 pub mod Legal
 pub mod Legs
+pub mod LineEnds
 pub mod Lists
 pub mod Log
 pub mod Machine

@@ -1,9 +1,10 @@
-//! The tree of a query, and the definitions of what the query frontend answers.
+//! The tree of a query, the lines of a text, and the definitions of what the query frontend answers.
 #![tactic(auto)]
 
 mod cell;
 mod expr;
 mod functions;
+mod lines;
 mod matchers;
 
 pub use cell::{Cell, Element, ErrorKind, StepCell};
@@ -12,4 +13,5 @@ pub use expr::{
     Side,
 };
 pub use functions::{AggOp, InstantFn, RangeFn, Sign};
+pub use lines::next_line;
 pub use matchers::{MatchError, Matchers};

@@ -8,10 +8,10 @@ use Rattle.std.proofs.lemmas.Str.{IsCharBoundary-after_ascii, IsCharBoundary-bef
 use Rattle.std.specs.List.{position, slice_range}
 use Rattle.std.specs.Str.{IsCharBoundary, IsUtf8}
 use Rattle.pf_base.specs.LabelSets.{is_empty}
+use Rattle.pf_model.proofs.Places.{place, position_is}
 use Rattle.pf_model.specs.Cuts.{Cut, kept}
 use Rattle.pf_model.specs.Exposition.{are_blanks, is_blank}
 use Rattle.pf_model.specs.Scripts.{next_word, past_blanks, text_of, without_blanks, word_cut}
-use Rattle.pf_script.proofs.Places.{place, position_is}
 
 -- ---- blanks in front
 

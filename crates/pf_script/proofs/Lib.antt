@@ -1,10 +1,7 @@
 pub mod Alike
 pub mod Blanks
-pub mod ByteCuts
 pub mod Digits
-pub mod FileLines
 pub mod Follows
 pub mod Going
 pub mod IdLists
 pub mod LineTexts
-pub mod Places

@@ -1,10 +1,8 @@
 //! The reader of scripts.
 
-ghost use Rattle.std.specs.Prelude.{◌≡◌, ◌<◌, ◌∷◌, map, [], Err, IfOk, IfSome, MatchOption, None, OnOk, length};
-ghost use Rattle.pf_model.specs.Exposition.{file_lines};
+ghost use Rattle.std.specs.Prelude.{◌≡◌, map, [], Err, IfOk, None, OnOk};
 ghost use Rattle.pf_model.specs.Lists.{Each};
 ghost use Rattle.pf_model.specs.Scripts.{script_of};
-ghost use Rattle.pf_script.specs.Cuts.{without_return};
 ghost use Rattle.pf_script.specs.IdLists.{issued_in};
 ghost use Rattle.pf_script.specs.LineCuts.{Adds, read_of};
 ghost use Rattle.pf_script.specs.Lines.{AllFollow, IsRead, Reads, lines_of, numbered_of};
@@ -14,37 +12,11 @@ use crate::fault::ScriptError;
 use crate::ids::Ids;
 use crate::lines::read_line;
 use crate::script::{NumberedLine, Script};
-use crate::words::cut_at;
+use pf_model::next_line;
 use std::alloc::Global;
 
 /// The greatest length of a script, in bytes.
 const MOST_BYTES: usize = 67_108_864;
-
-/// The line without one carriage return at its end.
-#[tactic(auto, using(crate::proofs::FileLines::return_rules))]
-fn without_return(line: &[u8]) -> &[u8]
-    ensures { result.now ≡ without_return line.now }
-{
-    let Some((last, front)) = line.split_last() else {
-        return line
-    };
-    if *last == b'\r' { front } else { line }
-}
-
-/// The first line of a script, and what follows it. None for a script without a line.
-#[tactic(auto, using(crate::proofs::FileLines::line_rules))]
-fn next_line(bytes: &[u8]) -> Option<(&[u8], &[u8])>
-    ensures lines { MatchOption result (file_lines bytes.now ≡ []) (λ c. file_lines bytes.now ≡ c.0.now ∷ file_lines c.1.now) }
-    ensures shorter { IfSome result (λ c. length c.1.now < length bytes.now) }
-{
-    if bytes.is_empty() {
-        return None;
-    }
-    let Some((line, behind)) = cut_at(b'\n', bytes) else {
-        return Some((bytes, &[]))
-    };
-    Some((without_return(line), behind))
-}
 
 /// Adds what is read of a line.
 fn add_line<'a>(

@@ -1,29 +1,13 @@
-//! Cuts at a byte, words of a line, and numbers.
+//! Words of a line, and numbers.
 
-ghost use Rattle.std.specs.Prelude.{◌≡◌, ◌<◌, IfSome, length, nat_eq, not, position};
+ghost use Rattle.std.specs.Prelude.{◌≡◌, ◌<◌, IfSome, length, not, position};
 ghost use Rattle.std.specs.List.{list_all};
-ghost use Rattle.pf_model.specs.Cuts.{cut_at};
 ghost use Rattle.pf_model.specs.Exposition.{is_blank, is_no_blank, is_word};
 ghost use Rattle.pf_model.specs.Scripts.{behind_word, next_word, number_of, past_blanks, text_of, without_blanks};
 ghost use Rattle.pf_script.specs.Cuts.{Finds};
 
 /// The first number that is too large.
 const TOO_LARGE: u64 = 1 << 63;
-
-fn place_of(byte: u8, bytes: &[u8]) -> Option<usize>
-    ensures { result ≡ position (λ b. nat_eq b byte) bytes.now }
-{
-    bytes.iter().position(|b| *b == byte)
-}
-
-/// What stands before the first such byte, and what behind it.
-#[tactic(auto, using(crate::proofs::ByteCuts::cut_rules))]
-pub fn cut_at(byte: u8, bytes: &[u8]) -> Option<(&[u8], &[u8])>
-    ensures { Finds (λ c. record { front = c.0.now; behind = c.1.now }) result (cut_at byte bytes.now) }
-{
-    let place = place_of(byte, bytes)?;
-    Some((&bytes[..place], &bytes[place + 1..]))
-}
 
 fn is_blank(byte: u8) -> bool
     ensures { result ≡ is_blank byte }

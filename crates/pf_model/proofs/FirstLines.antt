@@ -1,10 +1,11 @@
--- Lines of a script.
-use Rattle.std.proofs.Common.{◌≡◌, ◌∙◌, ℕ, ◌<◌, Bool, true, false, ◌&&◌, cond, Option, Some, None, List, [], ◌∷◌, ◌++◌, length, nat_eq, refl, sym, ap, subst, arith}
+-- The lines of a text.
+use Rattle.std.proofs.Common.{◌≡◌, ◌∙◌, ℕ, suc, ◌+◌, ◌-◌, Bool, true, false, ◌&&◌, cond, Option, Some, None, option_map, List, [], ◌∷◌, ◌++◌, length, take, drop, nat_eq, refl, sym, ap, subst, add-one, arith}
 use Rattle.std.proofs.lemmas.Bool.Decides.{nat_tests}
+use Rattle.std.specs.List.{position}
 use Rattle.pf_base.specs.LabelSets.{is_empty}
-use Rattle.pf_model.specs.Cuts.{Cut, cut_at, with_front}
+use Rattle.pf_model.proofs.Places.{place, position_is, rest_taken}
 use Rattle.pf_model.specs.Exposition.{begins_with, file_lines, onto_first}
-use Rattle.pf_script.specs.Cuts.{without_return}
+use Rattle.pf_model.specs.LineEnds.{without_return}
 
 -- ---- a carriage return at the end
 
@@ -32,14 +33,14 @@ empty_kept (x ∷ xs) h = absurd (omega arith)
 
 pub ruleset return_rules = (returned, not_returned, empty_kept)
 
--- ---- lines by what the first line feed cuts
+-- ---- lines by the place of the first line feed
 
 abbrev alone : List ℕ → List (List ℕ)
 alone [] = []
 alone (x ∷ xs) = (x ∷ xs) ∷ []
 
-abbrev LinesBy : List ℕ → List (List ℕ) → Bool → Option Cut → Type 0
-LinesBy xs ls t (Some c) = (ls ≡ without_return c.front ∷ file_lines c.behind) × (t ≡ is_empty c.front) × (length c.behind < length xs)
+abbrev LinesBy : List ℕ → List (List ℕ) → Bool → Option ℕ → Type 0
+LinesBy xs ls t (Some n) = (ls ≡ without_return (take n xs) ∷ file_lines (drop (suc n) xs)) × (t ≡ is_empty (take n xs))
 LinesBy xs ls t None = (ls ≡ alone xs) × (t ≡ false)
 
 onto_alone : (x : ℕ) (xs : List ℕ) → onto_first x (alone xs) ≡ (x ∷ xs) ∷ []
@@ -59,29 +60,25 @@ none_by x xs ls r true e h = cc
 none_by x xs ls true false e h = ap (onto_first x) e ∙ onto_alone x xs
 none_by x xs ls false false e h = ap (onto_first x) e ∙ onto_alone x xs
 
-lines_step : (x : ℕ) (xs : List ℕ) (t s : Bool) (o : Option Cut) → LinesBy xs (file_lines xs) s o
-    → LinesBy (x ∷ xs) (cond t ([] ∷ file_lines xs) (cond (nat_eq x 13 && s) (file_lines xs) (onto_first x (file_lines xs)))) t
-    (cond t (Some (record { front = []; behind = xs })) (with_front x o))
-lines_step x xs true s o l = (refl, refl, omega arith)
-lines_step x xs false s (Some c) l =
-    (ap (λ b. cond (nat_eq x 13 && b) (file_lines xs) (onto_first x (file_lines xs))) l.1 ∙ kept_by x c.front c.behind (file_lines xs) (nat_eq x 13) l.0, refl, omega (arith, l.2))
+lines_step : (x : ℕ) (xs : List ℕ) (t s : Bool) (o : Option ℕ) → LinesBy xs (file_lines xs) s o
+    → LinesBy (x ∷ xs) (cond t ([] ∷ file_lines xs) (cond (nat_eq x 13 && s) (file_lines xs) (onto_first x (file_lines xs)))) t (cond t (Some 0) (option_map suc o))
+lines_step x xs true s o l = (refl, refl)
+lines_step x xs false s (Some n) l =
+    (ap (λ b. cond (nat_eq x 13 && b) (file_lines xs) (onto_first x (file_lines xs))) l.1 ∙ kept_by x (take n xs) (drop (suc n) xs) (file_lines xs) (nat_eq x 13) l.0, refl)
 lines_step x xs false s None l = (none_by x xs (file_lines xs) (nat_eq x 13) s l.0 l.1, refl)
 
-lines_by : (xs : List ℕ) → LinesBy xs (file_lines xs) (begins_with 10 xs) (cut_at 10 xs)
+lines_by : (xs : List ℕ) → LinesBy xs (file_lines xs) (begins_with 10 xs) (place (λ y. nat_eq y 10) xs)
 lines_by [] = (refl, refl)
-lines_by (x ∷ xs) = lines_step x xs (nat_eq x 10) (begins_with 10 xs) (cut_at 10 xs) (lines_by xs)
+lines_by (x ∷ xs) = lines_step x xs (nat_eq x 10) (begins_with 10 xs) (place (λ y. nat_eq y 10) xs) (lines_by xs)
 
-lines_at : (xs : List ℕ) (o : Option Cut) → cut_at 10 xs ≡ o → LinesBy xs (file_lines xs) (begins_with 10 xs) o
-lines_at xs o e = let P : Option Cut → Type 0 = λ p. LinesBy xs (file_lines xs) (begins_with 10 xs) p in subst P e (lines_by xs)
+lines_at : (xs : List ℕ) (o : Option ℕ) → o ≡ position (λ y. nat_eq y 10) xs → LinesBy xs (file_lines xs) (begins_with 10 xs) o
+lines_at xs o e = let P : Option ℕ → Type 0 = λ p. LinesBy xs (file_lines xs) (begins_with 10 xs) p in subst P (sym (e ∙ position_is (λ y. nat_eq y 10) xs)) (lines_by xs)
 
-pub line_there : (xs front behind line : List ℕ) → cut_at 10 xs ≡ Some (record { front = front; behind = behind }) → line ≡ without_return front → file_lines xs ≡ line ∷ file_lines behind
-line_there xs front behind line e made = (lines_at xs _ e).0 ∙ ap (λ l. l ∷ file_lines behind) (sym made)
-
-pub line_shorter : (xs front behind : List ℕ) → cut_at 10 xs ≡ Some (record { front = front; behind = behind }) → length behind < length xs
-line_shorter xs front behind e = (lines_at xs _ e).2
-
-pub last_line : (xs : List ℕ) → cut_at 10 xs ≡ None → (length xs ≡ 0 → ⊥) → file_lines xs ≡ xs ∷ []
+pub last_line : (xs : List ℕ) → None ≡ position (λ y. nat_eq y 10) xs → (length xs ≡ 0 → ⊥) → file_lines xs ≡ xs ∷ []
 last_line [] e h = absurd (h refl)
 last_line (x ∷ xs) e h = (lines_at (x ∷ xs) None e).0
 
-pub ruleset line_rules = (line_there, line_shorter, last_line)
+pub line_there : (xs : List ℕ) (n : ℕ) (line : List ℕ) → Some n ≡ position (λ y. nat_eq y 10) xs → line ≡ without_return (take n xs)
+    → file_lines xs ≡ line ∷ file_lines (take (length xs - (n + 1)) (drop (n + 1) xs))
+line_there xs n line e made = (lines_at xs (Some n) e).0 ∙ ap (λ l. l ∷ file_lines (drop (suc n) xs)) (sym made)
+    ∙ ap (λ ys. line ∷ file_lines ys) (ap (λ m. drop m xs) (sym (add-one n)) ∙ sym (rest_taken xs (n + 1)))
