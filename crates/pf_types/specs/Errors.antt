@@ -1,9 +1,11 @@
 -- Why a text is no query, as plain data, and the words of it: this project's own.
-use Rattle.std.specs.Prelude.{ℕ, List, Option, None, Some}
+use Rattle.std.specs.Prelude.{◌≡◌, ℕ, List, Option, None, Some, Result, Ok, Err}
 use Rattle.std.specs.Option.{option_map, option_map_or}
 use Rattle.pf_model.specs.ErrorTexts.{QueryFault, of_grammar, of_kinds, refused_pattern, empty_selector, memory_text, query_text}
 use Rattle.pf_model.specs.Parsing.{Refusal, too_long, bad_token, too_deep, unexpected, unknown_name, time_too_large, too_tall}
 use Rattle.pf_model.specs.Queries.{IsFaultOf}
+use Rattle.pf_model.specs.Trees.{Tree, tree_of}
+use Rattle.pf_model.specs.declared.expr.Expr.{Expr}
 use Rattle.pf_parse.specs.declared.error.ParseError.{ParseError}
 use Rattle.pf_parse.specs.declared.error.ParseError.TheVariants as grammar
 use Rattle.pf_types.specs.Faults.{fault_of}
@@ -33,6 +35,11 @@ query_fault query.OutOfMemory = None
 abbrev pub IsFaultFor : List ℕ → Option QueryFault → Type 0
 IsFaultFor text None = Unit {0}
 IsFaultFor text (Some fault) = IsFaultOf text fault
+
+-- a query of this tree is answered with it, unless memory ran out
+abbrev pub IsAnsweredWith : Tree → Result Expr QueryError → Type 0
+IsAnsweredWith t (Ok e) = tree_of e ≡ t
+IsAnsweredWith t (Err e) = e ≡ query.OutOfMemory
 
 -- a parser's error as that of a query
 abbrev pub unparsed : ParseError → QueryError

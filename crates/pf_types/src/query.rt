@@ -2,9 +2,9 @@
 
 ghost use Rattle.std.specs.Prelude.{◌≡◌, ◌≤◌, IfErr, IfOk};
 ghost use Rattle.pf_model.specs.Queries.{IsQuery};
-ghost use Rattle.pf_model.specs.Trees.{size, tree_of};
+ghost use Rattle.pf_model.specs.Trees.{Tree, size, tree_of};
 ghost use Rattle.pf_model.specs.Typing.{asked_fault, scalar_or_instant};
-ghost use Rattle.pf_types.specs.Errors.{IsFaultFor, query_fault};
+ghost use Rattle.pf_types.specs.Errors.{IsAnsweredWith, IsFaultFor, query_fault};
 ghost use Rattle.pf_types.specs.Faults.{fault_in};
 ghost use Rattle.pf_types.specs.Rules.{operand_fault};
 
@@ -88,6 +88,7 @@ pub fn read_query(alloc: Global, text: &str) -> Result<Expr, QueryError>
     ensures query { IfOk result (λ e. IsQuery text.now (tree_of e)) }
     ensures small { IfOk result (λ e. size (tree_of e) ≤ 65536) }
     ensures refused { IfErr result (λ e. IsFaultFor text.now (query_fault e)) }
+    ensures exact { (t : Tree) → IsQuery text.now t → IsAnsweredWith t result }
 {
     let expr = parse(alloc, text)?;
     asked(&expr)?;
