@@ -397,9 +397,12 @@ fn answer(alloc: Global, text: &str) -> Result<String, Fail> {
 }
 
 #[test]
-fn texts_are_read(rt: HostRuntime) -> Result<(), Fail> {
-    for line in FIRST_TEXTS.lines() {
-        if let Some((text, wanted)) = line.split_once(" => ") {
+fn texts_are_read_or_refused(rt: HostRuntime) -> Result<(), Fail> {
+    for table in [FIRST_TEXTS, MORE_TEXTS, FIRST_REFUSALS, MORE_REFUSALS] {
+        for line in table.lines() {
+            let Some((text, wanted)) = line.split_once(" => ") else {
+                panic!(rt; "no row: {line}")
+            };
             let found = answer(rt.alloc(), text)?;
             assert_eq!(rt; found.as_str(), wanted, "{text}");
         }
@@ -407,67 +410,15 @@ fn texts_are_read(rt: HostRuntime) -> Result<(), Fail> {
     Ok(())
 }
 
-#[test]
-fn more_texts_are_read(rt: HostRuntime) -> Result<(), Fail> {
-    for line in MORE_TEXTS.lines() {
-        if let Some((text, wanted)) = line.split_once(" => ") {
-            let found = answer(rt.alloc(), text)?;
-            assert_eq!(rt; found.as_str(), wanted, "{text}");
-        }
-    }
-    Ok(())
-}
-
-#[test]
-fn texts_are_refused(rt: HostRuntime) -> Result<(), Fail> {
-    for line in FIRST_REFUSALS.lines() {
-        if let Some((text, wanted)) = line.split_once(" => ") {
-            let found = answer(rt.alloc(), text)?;
-            assert_eq!(rt; found.as_str(), wanted, "{text}");
-        }
-    }
-    Ok(())
-}
-
-#[test]
-fn more_texts_are_refused(rt: HostRuntime) -> Result<(), Fail> {
-    for line in MORE_REFUSALS.lines() {
-        if let Some((text, wanted)) = line.split_once(" => ") {
-            let found = answer(rt.alloc(), text)?;
-            assert_eq!(rt; found.as_str(), wanted, "{text}");
-        }
-    }
-    Ok(())
-}
-
-/// A text of so many signs before a name.
-fn signs(alloc: Global, count: usize) -> Result<String, Fail> {
+/// A part so many times, a text behind them, and as many ends.
+fn nested(alloc: Global, count: usize, [part, inner, end]: [&str; 3]) -> Result<String, Fail> {
     let mut text = String::new(alloc);
     for _ in 0..count {
-        text.push_str("-")?;
+        text.push_str(part)?;
     }
-    text.push_str("x")?;
-    Ok(text)
-}
-
-/// A text of so many operators in a row.
-fn sums(alloc: Global, count: usize) -> Result<String, Fail> {
-    let mut text = String::from_str(alloc, "1")?;
+    text.push_str(inner)?;
     for _ in 0..count {
-        text.push_str("+1")?;
-    }
-    Ok(text)
-}
-
-/// A name in so many brackets.
-fn brackets(alloc: Global, count: usize) -> Result<String, Fail> {
-    let mut text = String::new(alloc);
-    for _ in 0..count {
-        text.push_str("(")?;
-    }
-    text.push_str("x")?;
-    for _ in 0..count {
-        text.push_str(")")?;
+        text.push_str(end)?;
     }
     Ok(text)
 }
@@ -475,15 +426,37 @@ fn brackets(alloc: Global, count: usize) -> Result<String, Fail> {
 #[test]
 fn limits_are_kept(rt: HostRuntime) -> Result<(), Fail> {
     let alloc = rt.alloc();
-    let tall = answer(alloc, signs(alloc, 30_000)?.as_str())?;
-    assert_eq!(rt; tall.as_str(), "TooTall");
-    let many = answer(alloc, sums(alloc, 30_000)?.as_str())?;
-    assert_eq!(rt; many.as_str(), "TooTall");
-    let long = answer(alloc, signs(alloc, 65_536)?.as_str())?;
-    assert_eq!(rt; long.as_str(), "TooLong");
-    let deep = answer(alloc, brackets(alloc, 65)?.as_str())?;
-    assert_eq!(rt; deep.as_str(), "TooDeep 64");
-    let low = answer(alloc, brackets(alloc, 64)?.as_str())?;
-    assert_eq!(rt; low.as_str(), "{__name__=\"x\"}");
+    for (count, parts, wanted) in [
+        (30_000, ["-", "x", ""], "TooTall"),
+        (30_000, ["1+", "1", ""], "TooTall"),
+        (64, ["-", "x", ""], "TooTall"),
+        (64, ["1+", "1", ""], "TooTall"),
+        (64, ["(", "x", ")"], "{__name__=\"x\"}"),
+        (65, ["(", "x", ")"], "TooDeep 64"),
+        (30_000, ["(", "", ""], "TooDeep 64"),
+        (65_535, ["1", "1", ""], "BadToken 0"),
+        (65_535, ["-", "x", ""], "TooTall"),
+        (65_536, ["-", "x", ""], "TooLong"),
+        (65_535, [" ", "x", ""], "{__name__=\"x\"}"),
+        (65_536, [" ", "x", ""], "TooLong"),
+    ] {
+        let found = answer(alloc, nested(alloc, count, parts)?.as_str())?;
+        assert_eq!(rt; found.as_str(), wanted, "{count} of {}", parts[0]);
+    }
+    Ok(())
+}
+
+/// Trees of 64 levels.
+#[test]
+fn tall_trees_are_read(rt: HostRuntime) -> Result<(), Fail> {
+    let alloc = rt.alloc();
+    for (parts, printed) in [
+        (["-", "x", ""], ["-(", "{__name__=\"x\"}", ")"]),
+        (["1*", "1", ""], ["(", "1", ") * (1)"]),
+    ] {
+        let found = answer(alloc, nested(alloc, 63, parts)?.as_str())?;
+        let wanted = nested(alloc, 63, printed)?;
+        assert_eq!(rt; found.as_str(), wanted.as_str(), "{}", parts[0]);
+    }
     Ok(())
 }

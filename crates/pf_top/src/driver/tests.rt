@@ -1,6 +1,7 @@
 ghost use Rattle.std.specs.Prelude.{◌≡◌, ◌≤◌, IfOk, vec_len};
 
 use super::*;
+use crate::client::{FileFault, push_refusal};
 use pf_io::{MemDoors, MemFiles, MemSink, OpenGate, SteadyHop};
 use std::fmt::Write;
 use std::test::Fail;
@@ -119,6 +120,38 @@ fn asked() -> Case {
             "0 client 0 line 1 append acme entry 1\n",
             "1 client 0 line 2 ask acme pin 1 generation 0 floor 0\n",
             "2 client 0 line 3 answer 1 200\n",
+        ),
+    }
+}
+
+/// A sample is read up to its time and five minutes, this end left out, and by its own tenant alone.
+fn look_back() -> Case {
+    Case {
+        other: Other::None,
+        script: concat!(
+            "ingest acme a.prom\n",
+            "ask a acme 359999 360000 1 up\n",
+            "ask b beta 359999 360000 1 up\n",
+            "answer a\n",
+            "answer b\n",
+        ),
+        pages: ["up{job=\"a\"} 1 60000\n", ""],
+        status: 0,
+        report: concat!(
+            "client 0\n",
+            "1 ingest acme taken 1 repeated 0 refused 0 skipped 0 entry 1\n",
+            "2 ask a pin 1 place 1\n",
+            "3 ask b pin 0 place 2\n",
+            "4 answer a 200 cached 0 evaluated 2\n",
+            "{\"status\":\"success\",\"data\":{\"resultType\":\"matrix\",\"result\":[{\"metric\":{\"__name__\":\"up\",\"job\":\"a\"},\"values\":[[359.999,\"1\"]]}]}}\n",
+            "5 answer b 200 cached 0 evaluated 2\n",
+            "{\"status\":\"success\",\"data\":{\"resultType\":\"matrix\",\"result\":[]}}\n",
+            "journal 5\n",
+            "0 client 0 line 1 append acme entry 1\n",
+            "1 client 0 line 2 ask acme pin 1 generation 0 floor 0\n",
+            "2 client 0 line 3 ask beta pin 0 generation 0 floor none\n",
+            "3 client 0 line 4 answer 1 200\n",
+            "4 client 0 line 5 answer 2 200\n",
         ),
     }
 }
@@ -534,6 +567,7 @@ fn reports(rt: HostRuntime) -> Result<(), Fail> {
     for case in [
         empty(),
         asked(),
+        look_back(),
         full_journal(),
         full_for_an_ingest(),
         full_for_a_deletion(),
@@ -601,14 +635,44 @@ fn too_many_tenants(rt: HostRuntime) -> Result<(), Fail> {
     Ok(())
 }
 
+#[test]
+fn refused_files(rt: HostRuntime) -> Result<(), Fail> {
+    let alloc = rt.alloc();
+    for (fault, reply) in [
+        (FileFault::BadLine(10), "7 ingest acme bad line 10\n"),
+        (
+            FileFault::TimeTooLarge(1),
+            "7 ingest acme time too large line 1\n",
+        ),
+        (
+            FileFault::TooMany(2_000_001),
+            "7 ingest acme too many samples\n",
+        ),
+        (FileFault::TooLong, "7 ingest acme file too long\n"),
+    ] {
+        let mut out = Vec::new(alloc);
+        push_refusal(&mut out, 7, "acme", fault)?;
+        assert_eq!(rt; out.as_slice(), reply.as_bytes());
+    }
+    Ok(())
+}
+
 /// The script, the numbers of the read and of the write that fail, the greatest number of bytes that a write takes, 0 for
 /// no bound, the status, and what is written.
-const OUTSIDES: [(&str, u64, u64, usize, u8, &str); 21] = [
+const OUTSIDES: [(&str, u64, u64, usize, u8, &str); 22] = [
     ("", 9, 9, 0, 0, "client 0\njournal 0\n"),
     ("", 9, 99, 3, 0, "client 0\njournal 0\n"),
     ("ingest acme none\n", 9, 9, 0, 4, "refused: read none\n"),
     ("ingest acme a.prom\n", 0, 9, 0, 4, "refused: read first\n"),
     ("ingest acme a.prom\n", 1, 9, 0, 4, "refused: read a.prom\n"),
+    (
+        "ingest acme a.prom\ningest acme b.prom\n",
+        2,
+        9,
+        0,
+        4,
+        "refused: read b.prom\n",
+    ),
     ("", 9, 0, 0, 5, ""),
     ("", 9, 2, 7, 5, "client 0\njourn"),
     ("ingest acme none\n", 9, 1, 10, 5, "refused: r"),
