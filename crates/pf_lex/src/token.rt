@@ -79,7 +79,7 @@ pub struct Token {
 pub enum LexError {
     /// It has more than 65,536 bytes.
     TooLong,
-    /// At this byte, the first such, a token should begin and none does.
+    /// At this byte, the first such, a token should begin and none does: 2 in `x & y`.
     BadToken { at: u32 },
     OutOfMemory,
 }

@@ -11,17 +11,17 @@ use pf_lex::LexError;
 pub enum ParseError {
     /// It has more than 65,536 bytes.
     TooLong,
-    /// The first place where no token begins.
+    /// The first place where no token begins: 2 in `x & y`.
     BadToken { at: u32 },
-    /// The first opening bracket with 64 open before it.
+    /// The first opening bracket with 64 open before it: 64 in 65 opening brackets.
     TooDeep { at: u32 },
-    /// The first token, or the end, with which no query begins.
+    /// The first token, or the end, with which no query begins: 2 in `x y`, and 4 in `sum(`.
     Unexpected { at: u32 },
-    /// The first called name that is no function.
+    /// The first called name that is no function: 0 in `foo(x)`.
     UnknownName { at: u32 },
-    /// The first duration, or time of an `@`, that is over 4,398,046,511,103 milliseconds.
+    /// The first duration, or time of an `@`, that is over 4,398,046,511,103 milliseconds: 2 in `x[99999999999d]`.
     TimeTooLarge { at: u32 },
-    /// A tree of more than 64 levels.
+    /// A tree of more than 64 levels, as of 64 signs before a name.
     TooTall,
     OutOfMemory,
 }

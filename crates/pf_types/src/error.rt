@@ -12,18 +12,18 @@ use pf_model::Kind;
 /// What is wrong with a query. `at` is a node's number in preorder, from 0 on; past the greatest `u32` it is that one.
 #[derive(Clone, Copy, Debug, PartialEq, Eq)]
 pub enum TypeError {
-    /// Too few or too many arguments.
+    /// Too few or too many arguments: 0 in `abs()`.
     ArgCount { at: u32 },
-    /// An operand's kind is not the one that is wanted. Where a scalar is as welcome as an instant vector, the latter is
-    /// named.
+    /// An operand's kind is not the one that is wanted: 0 in `rate(x)`. Where a scalar is as welcome as an instant vector,
+    /// the latter is named.
     Wrong { at: u32, wanted: Kind, found: Kind },
-    /// A text that is to name a label is no label's name.
+    /// A text that is to name a label is no label's name: 0 in `label_join(x, "a-b", ",", "c")`.
     BadName { at: u32 },
-    /// A comparison of two scalars without `bool`.
+    /// A comparison of two scalars without `bool`: 0 in `1 < 2`.
     BoolNeeded { at: u32 },
-    /// A clause on labels that this operator can't have between these operands.
+    /// A clause on labels that this operator can't have between these operands: 0 in `x + on (job) 1`.
     BadMatching { at: u32 },
-    /// A subquery's range is over 11,000 resolutions.
+    /// A subquery's range is over 11,000 resolutions: 0 in `x[11001s:1s]`.
     SubqueryTooFine { at: u32 },
 }
 
