@@ -1,4 +1,4 @@
--- What an exposition file gives.
+-- What an exposition file gives: this project's own.
 use Rattle.std.specs.Prelude.{List, ℕ}
 use Rattle.pf_base.specs.declared.plain.Row.{Row}
 

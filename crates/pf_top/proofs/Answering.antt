@@ -25,6 +25,7 @@ use Rattle.pf_top.specs.declared.session.Query.{Query}
 use Rattle.pf_top.specs.declared.session.Session.{Session}
 use Rattle.pf_top.specs.declared.slots.Slot.{Slot}
 use Rattle.pf_top.specs.declared.slots.Slot.TheVariants as slot
+use Rattle.pf_top.proofs.Lists.{some_is}
 use Rattle.pf_top.proofs.Machines.{open_at_closed}
 use Rattle.pf_top.proofs.OpenQueries.{machine_behind}
 use Rattle.pf_top.proofs.Steps.{step_entered, step_excepted}
@@ -32,9 +33,6 @@ use Rattle.pf_top.proofs.Steps.{step_entered, step_excepted}
 many_times : (t step n : ℕ) → length (times_from t step n) ≡ n
 many_times t step zero = refl
 many_times t step (suc n) = ap suc (many_times (t + step) step n)
-
-some_is : (o p : Open) → Some o ≡ Some p → o ≡ p
-some_is o p e = cc
 
 -- the matrix over the pinned snapshot is the query's answer
 pub answer_is : (l : Limits) (m : Machine) (q : Query) (rows : List MatrixRow) (k : IsQuery l.window m q)

@@ -44,10 +44,8 @@ use Rattle.pf_top.specs.Correct.{HasUnbuilt, IsBuiltLine, IsUnbuiltLine}
 use Rattle.pf_top.specs.Queries.{AreReadAs, IsKeptFor, IsLineRead, IsReadAs, IsTextRead, Queries, StayRead, is_query_built, is_selector_built, reading_in, readings_in}
 use Rattle.pf_top.specs.declared.queries.QueryRead.{QueryRead}
 use Rattle.pf_top.specs.declared.queries.QueryRead.TheVariants.{Selector, Refused, Other, Pattern}
+use Rattle.pf_top.proofs.Lists.{map_push, some_is}
 use Rattle.pf_top.proofs.Machines.{bool_cases}
-
-some_is : {X : Type 0} (x y : X) → Some x ≡ Some y → x ≡ y
-some_is x y e = cc
 
 -- ---- trees as selectors
 
@@ -333,10 +331,6 @@ lines_still old new still (l ∷ ls) h = (kept_still old new still l.line h.0, l
 each_push : {X : Type 0} (P : X → Type 0) (xs : List X) (y : X) → Each P xs → P y → Each P (xs ++ y ∷ [])
 each_push P [] y h p = (p, tt)
 each_push P (x ∷ xs) y h p = (h.0, each_push P xs y h.1 p)
-
-map_push : {X Y : Type 0} (f : X → Y) (xs : List X) (x : X) → map f (xs ++ x ∷ []) ≡ map f xs ++ f x ∷ []
-map_push f [] x = refl
-map_push f (y ∷ xs) x = ap (λ (ys : List _). f y ∷ ys) (map_push f xs x)
 
 -- the text of a further line
 pub read_more : (ls : List NumberedLine) (i : ℕ) (l : NumberedLine) (old new : Queries) → i < length ls → l ≡ get_or ls i l

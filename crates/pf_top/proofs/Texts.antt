@@ -20,6 +20,7 @@ use Rattle.pf_top.specs.declared.loaded.LoadError.{LoadError}
 use Rattle.pf_top.specs.declared.loaded.LoadError.TheVariants.{Unread, OutOfMemory}
 use Rattle.pf_top.specs.declared.loaded.Content.{Content}
 use Rattle.pf_top.specs.declared.loaded.Content.TheVariants.{Bytes, TooLong}
+use Rattle.pf_top.proofs.Lists.{map_push, some_is}
 use Rattle.pf_top.proofs.Machines.{bool_cases}
 
 -- an insertion leaves what stands under other texts
@@ -38,9 +39,7 @@ pub held_short : (told : List ℕ → Option (List ℕ)) (kept : Contents) (name
 held_short told kept name content h g = short_by (told name) content (h name content g)
 
 pub kept_short : (kept : Contents) (name : List ℕ) (content : Content) → IsKept kept name → get_by_text kept name ≡ Some content → IsShort content
-kept_short kept name content k g = subst IsShort (some_is k.content content (sym k.there ∙ g)) k.short where
-  some_is : (c d : Content) → Some c ≡ Some d → c ≡ d
-  some_is c d e = cc
+kept_short kept name content k g = subst IsShort (some_is k.content content (sym k.there ∙ g)) k.short
 
 pub loaded_there : (told : List ℕ → Option (List ℕ)) (kept : Contents) (name : List ℕ) (content : Content) → AreHeld told kept → get_by_text kept name ≡ Some content → IsLoaded told kept name kept
 loaded_there told kept name content h g =
@@ -72,9 +71,7 @@ loaded_new told old new name content h holds there others = record {
         let differ : other ≢ name = λ s. let u = (bytes_eq-Decides other name).1 s in let v = rw t at u in cc in
         record { content = k.content; there = others other differ ∙ k.there; short = k.short }
   ];
-} where
-  some_is : (c d : Content) → Some c ≡ Some d → c ≡ d
-  some_is c d e = cc
+}
 
 names_push : (ls : List Numbered) (l : Numbered) (name : List ℕ) → NamesFile (ls ++ l ∷ []) name → NamesFile ls name ⊎ LineNames l.line name
 names_push [] l name (inl h) = inr h
@@ -94,10 +91,6 @@ get_or_map : {X Y : Type 0} (f : X → Y) (xs : List X) (i : ℕ) (d : X) → i 
 get_or_map f [] i d p = absurd (omega (arith, p))
 get_or_map f (x ∷ xs) zero d p = refl
 get_or_map f (x ∷ xs) (suc i) d p = get_or_map f xs i d (omega (arith, p))
-
-map_push : {X Y : Type 0} (f : X → Y) (xs : List X) (x : X) → map f (xs ++ x ∷ []) ≡ map f xs ++ f x ∷ []
-map_push f [] x = refl
-map_push f (y ∷ xs) x = ap (λ (ys : List _). f y ∷ ys) (map_push f xs x)
 
 length_map : {X Y : Type 0} (f : X → Y) (xs : List X) → length (map f xs) ≡ length xs
 length_map f [] = refl
