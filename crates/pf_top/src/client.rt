@@ -28,6 +28,9 @@ ghost use Rattle.pf_model.specs.Json.{error_text};
 ghost use Rattle.pf_model.specs.Legal.{Moment};
 ghost use Rattle.pf_top.specs.Sessions.{IsQuery, Stands, machine_of};
 
+#[cfg(test)]
+mod tests;
+
 use crate::entry::Asked;
 use crate::loaded::{Content, Contents, Loaded, content_of};
 use crate::queries::{Queries, QueryRead, query_of};

@@ -1,7 +1,6 @@
 ghost use Rattle.std.specs.Prelude.{◌≡◌, ◌≤◌, IfOk, vec_len};
 
 use super::*;
-use crate::client::{FileFault, push_refusal};
 use pf_io::{MemDoors, MemFiles, MemSink, OpenGate, SteadyHop};
 use std::fmt::Write;
 use std::test::Fail;
@@ -632,28 +631,6 @@ fn too_many_tenants(rt: HostRuntime) -> Result<(), Fail> {
         "1026 client 0 line 1028 tenants full y\n",
     );
     assert!(rt; output.text.as_slice().ends_with(last.as_bytes()));
-    Ok(())
-}
-
-#[test]
-fn refused_files(rt: HostRuntime) -> Result<(), Fail> {
-    let alloc = rt.alloc();
-    for (fault, reply) in [
-        (FileFault::BadLine(10), "7 ingest acme bad line 10\n"),
-        (
-            FileFault::TimeTooLarge(1),
-            "7 ingest acme time too large line 1\n",
-        ),
-        (
-            FileFault::TooMany(2_000_001),
-            "7 ingest acme too many samples\n",
-        ),
-        (FileFault::TooLong, "7 ingest acme file too long\n"),
-    ] {
-        let mut out = Vec::new(alloc);
-        push_refusal(&mut out, 7, "acme", fault)?;
-        assert_eq!(rt; out.as_slice(), reply.as_bytes());
-    }
     Ok(())
 }
 
