@@ -44,7 +44,7 @@ use Rattle.pf_top.specs.Correct.{HasUnbuilt, IsBuiltLine, IsUnbuiltLine}
 use Rattle.pf_top.specs.Queries.{AreReadAs, IsKeptFor, IsLineRead, IsReadAs, IsTextRead, Queries, StayRead, is_query_built, is_selector_built, reading_in, readings_in}
 use Rattle.pf_top.specs.declared.queries.QueryRead.{QueryRead}
 use Rattle.pf_top.specs.declared.queries.QueryRead.TheVariants.{Selector, Refused, Other, Pattern}
-use Rattle.pf_top.proofs.Lists.{map_push, some_is}
+use Rattle.pf_top.proofs.Lists.{each_push, map_push, some_is}
 use Rattle.pf_top.proofs.Machines.{bool_cases}
 
 -- ---- trees as selectors
@@ -327,10 +327,6 @@ kept_still old new still (answer id asked) k = tt
 lines_still : (old new : Queries) → StayRead old new → (ls : List Numbered) → Each (λ l. IsKeptFor old l.line) ls → Each (λ l. IsKeptFor new l.line) ls
 lines_still old new still [] h = tt
 lines_still old new still (l ∷ ls) h = (kept_still old new still l.line h.0, lines_still old new still ls h.1)
-
-each_push : {X : Type 0} (P : X → Type 0) (xs : List X) (y : X) → Each P xs → P y → Each P (xs ++ y ∷ [])
-each_push P [] y h p = (p, tt)
-each_push P (x ∷ xs) y h p = (h.0, each_push P xs y h.1 p)
 
 -- the text of a further line
 pub read_more : (ls : List NumberedLine) (i : ℕ) (l : NumberedLine) (old new : Queries) → i < length ls → l ≡ get_or ls i l

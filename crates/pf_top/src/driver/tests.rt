@@ -123,7 +123,7 @@ fn asked() -> Case {
     }
 }
 
-/// A sample is read up to its time and five minutes, this end left out, and by its own tenant alone.
+/// A sample is read from its time on, until five minutes later, this end left out, and by its own tenant alone.
 fn look_back() -> Case {
     Case {
         other: Other::None,
