@@ -17,4 +17,4 @@ mod word;
 pub use canonical::canonical_texts_are_cut;
 pub use lexer::tokens;
 pub use token::{LexError, Mark, Token, TokenSort};
-pub use value::{string_value, token_text};
+pub use value::{string_value, token_text, unquoted};

@@ -90,11 +90,18 @@ fn text_of(bytes: Vec<u8>) -> Text
     }
 }
 
+/// What the text of a string stands for, with its escapes undone. It is empty for a text that is no string's.
+pub fn unquoted(alloc: Global, quoted: &str) -> Result<Text, OutOfMemory>
+    ensures { IfOk result (λ t. t ≡ written quoted.now) }
+{
+    let value = value_of(alloc, quoted.as_bytes())?;
+    Ok(text_of(value))
+}
+
 /// What a string stands for, with its escapes undone. It is empty for a token of another sort.
 pub fn string_value(alloc: Global, text: &str, token: &Token) -> Result<Text, OutOfMemory>
     requires { IsTokenOf text.now token.now }
     ensures { IfOk result (λ t. t ≡ written (text_of text.now token.now)) }
 {
-    let value = value_of(alloc, token_text(text, token).as_bytes())?;
-    Ok(text_of(value))
+    unquoted(alloc, token_text(text, token))
 }
