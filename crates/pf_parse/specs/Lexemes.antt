@@ -4,6 +4,7 @@ use Rattle.std.specs.Str.{bytes_eq, str_to_ascii_lowercase}
 use Rattle.pf_base.specs.Grids.{maxt}
 use Rattle.pf_lex.specs.declared.token.Mark.{Mark}
 use Rattle.pf_lex.specs.declared.token.Mark.TheVariants as mark
+use Rattle.pf_lex.specs.Seen.{written}
 pub use Rattle.pf_lex.specs.Seen.{mark_text}
 use Rattle.pf_model.specs.declared.expr.MatchSign.{MatchSign}
 use Rattle.pf_model.specs.declared.expr.MatchSign.TheVariants as match
@@ -127,7 +128,7 @@ abbrev pub seen : Shown → Lexeme
 seen (shown.Word k text) = word k text.now
 seen (shown.Number n) = number n.now
 seen (shown.Duration d) = duration d
-seen (shown.Text bytes) = string bytes
+seen (shown.Text quoted) = string (written quoted.now)
 seen (shown.Mark m) = sign (Some m)
 
 -- a duration is within the limit

@@ -14,7 +14,7 @@ use std::marker::Model;
 const MOST_LEVELS: u64 = 64;
 
 /// A tree and its height, at most 64 levels.
-#[derive(Debug, Drop)]
+#[derive(Drop)]
 pub struct Measured {
     pub expr: Box<Expr>,
     pub levels: u64,
@@ -35,7 +35,7 @@ impl Model for Measured {
 }
 
 /// Arguments and the height of the tallest.
-#[derive(Debug, Drop)]
+#[derive(Drop)]
 pub struct Arguments {
     pub exprs: Vec<Expr>,
     pub levels: u64,
@@ -57,7 +57,7 @@ impl Model for Arguments {
 }
 
 /// What modifiers stand behind. Milliseconds.
-#[derive(Debug, Drop)]
+#[derive(Drop)]
 pub enum Target {
     Selector {
         selector: Selector,
@@ -71,7 +71,7 @@ pub enum Target {
 }
 
 /// The modifiers that were read, each none where its time is past the greatest.
-#[derive(Clone, Copy, Debug, PartialEq, Eq)]
+#[derive(Clone, Copy)]
 pub struct ModifiersRead {
     pub offset: Option<Option<i64>>,
     pub at: Option<Option<At>>,

@@ -3,7 +3,7 @@
 use pf_model::{AggOp, Sign};
 
 /// A keyword, in any case of letters.
-#[derive(Clone, Copy, Debug, PartialEq, Eq)]
+#[derive(Clone, Copy)]
 pub enum Keyword {
     /// `and`, `or`, `unless`
     Operator { sign: Sign },

@@ -5,11 +5,11 @@ ghost use Rattle.pf_parse.specs.Lexemes.{follow_of, seen, sign};
 
 use crate::keyword::Keyword;
 use crate::words::operator_mark;
-use pf_base::{Text, Value};
+use pf_base::Value;
 use pf_lex::Mark;
 use pf_model::Sign;
 
-#[derive(Debug, Drop)]
+#[derive(Clone, Copy)]
 pub enum Lexeme<'a> {
     Word {
         keyword: Option<Keyword>,
@@ -22,8 +22,9 @@ pub enum Lexeme<'a> {
     Duration {
         millis: Option<u64>,
     },
+    /// A string, with its quotes.
     Text {
-        text: Text,
+        quoted: &'a str,
     },
     Mark {
         mark: Mark,
@@ -31,7 +32,7 @@ pub enum Lexeme<'a> {
 }
 
 /// What goes on behind a whole operand.
-#[derive(Clone, Copy, Debug, PartialEq, Eq)]
+#[derive(Clone, Copy)]
 pub enum Follow {
     /// A binary operator.
     Operates { sign: Sign },

@@ -6,7 +6,7 @@ use pf_model::{AggOp, At, BinaryOp, Function, Grouping, MatchSign, Matching, Sel
 use std::marker::Model;
 
 /// Whose arguments are read.
-#[derive(Debug, Drop)]
+#[derive(Drop)]
 pub enum Callee {
     /// Of a called name that is no function's, none.
     Function {
@@ -20,7 +20,7 @@ pub enum Callee {
 }
 
 /// What is open.
-#[derive(Debug, Drop)]
+#[derive(Drop)]
 pub enum Frame {
     Signed {
         minus: bool,
@@ -40,7 +40,7 @@ pub enum Frame {
 }
 
 /// Labels in order.
-#[derive(Debug, Drop)]
+#[derive(Drop)]
 pub struct LabelList {
     pub labels: Vec<Text>,
 }
@@ -54,7 +54,7 @@ impl Model for LabelList {
 }
 
 /// Whose labels are read.
-#[derive(Debug, Drop)]
+#[derive(Drop)]
 pub enum Purpose {
     /// An aggregation's, before its arguments.
     GroupsNext {
@@ -82,7 +82,7 @@ pub enum Purpose {
 }
 
 /// What stands before a square bracket.
-#[derive(Debug, Drop)]
+#[derive(Drop)]
 pub enum Base {
     /// A selector without a range and without modifiers.
     Matchers { selector: Selector },
@@ -90,21 +90,21 @@ pub enum Base {
 }
 
 /// A selector's matchers so far, behind a name or not.
-#[derive(Debug, Drop)]
+#[derive(Drop)]
 pub struct Selecting {
     pub has_name: bool,
     pub selector: Selector,
 }
 
 /// A selector or a subquery, with the modifiers read so far.
-#[derive(Debug, Drop)]
+#[derive(Drop)]
 pub struct Modifying {
     pub target: Option<Target>,
     pub read: ModifiersRead,
 }
 
 /// A binary operator with its labels and its left operand.
-#[derive(Debug, Drop)]
+#[derive(Drop)]
 pub struct Operation {
     pub op: BinaryOp,
     pub matching: Matching,
@@ -112,14 +112,14 @@ pub struct Operation {
 }
 
 /// Labels so far, and whose they are.
-#[derive(Debug, Drop)]
+#[derive(Drop)]
 pub struct Labelling {
     pub purpose: Purpose,
     pub labels: LabelList,
 }
 
 /// What was read last. Times are in milliseconds, none where they are past the greatest.
-#[derive(Debug, Drop)]
+#[derive(Drop)]
 pub enum Mode {
     /// An operand is due.
     Due,

@@ -15,7 +15,7 @@ use crate::mode::{Base, Callee, Frame, Mode, Selecting};
 use crate::stack::Stack;
 use crate::words::level_of;
 use pf_base::{OutOfMemory, Text};
-use pf_lex::Mark;
+use pf_lex::{Mark, unquoted};
 use pf_model::{BinaryOp, Function, Selector};
 use std::alloc::Global;
 
@@ -59,8 +59,8 @@ pub fn due_step(
         Lexeme::Number { value } => Ok(Some(Mode::Whole {
             arg: Some(number(alloc, *value)?),
         })),
-        Lexeme::Text { text: bytes } => Ok(Some(Mode::Whole {
-            arg: Some(text(alloc, bytes)?),
+        Lexeme::Text { quoted } => Ok(Some(Mode::Whole {
+            arg: Some(text(alloc, unquoted(alloc, quoted)?)?),
         })),
         Lexeme::Word {
             keyword: Some(Keyword::Aggregation { op }),

@@ -13,7 +13,7 @@ use std::alloc::Global;
 use std::marker::Model;
 use std::string::String;
 
-#[derive(Debug, Drop)]
+#[derive(Drop)]
 pub struct Output {
     text: String,
 }
@@ -104,7 +104,6 @@ fn push_escaped(out: &mut Vec<u8>, byte: u8) -> Result<(), OutOfMemory>
     }
 }
 
-#[tactic(auto, using(crate::proofs::Escapes::escaped_next, crate::proofs::Escapes::escaped_all))]
 fn escaped_bytes(alloc: Global, text: &str) -> Result<Vec<u8>, OutOfMemory>
     ensures { IfOk result (λ v. v.items ≡ string_bytes_of text.now) }
 {

@@ -6,9 +6,6 @@ ghost use Rattle.pf_model.specs.Trees.{Tree, size, tree_of};
 ghost use Rattle.pf_parse.specs.Refusals.{IsAnswered, IsRefused};
 ghost use Rattle.pf_parse.specs.declared.error.ParseError.TheVariants.{TooLong};
 
-#[cfg(test)]
-mod tests;
-
 use crate::error::{ParseError, lexed};
 use crate::reader::read;
 use crate::scans::{place_at, too_deep_at, too_large_at, unknown_at};

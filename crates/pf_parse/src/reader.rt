@@ -27,7 +27,7 @@ use crate::selectors::{label_step, matched_step, metric, sign_step, text_step};
 use crate::stack::Stack;
 use crate::words::{function_of, keyword_of};
 use pf_base::{OutOfMemory, Text};
-use pf_lex::{Mark, Token, TokenSort, string_value, token_text};
+use pf_lex::{Mark, Token, TokenSort, token_text};
 use pf_model::Selector;
 use std::alloc::Global;
 
@@ -101,7 +101,7 @@ fn step(
             selecting: s,
             label,
             sign,
-        } => text_step(s.has_name, s.selector, label, sign, stack, lexeme),
+        } => text_step(alloc, s.has_name, s.selector, label, sign, stack, lexeme),
         Mode::Matched(s) => Ok(matched_step(s.has_name, s.selector, stack, lexeme)),
         Mode::Modified(m) => modified_step(alloc, m.target, m.read, stack, lexeme),
         Mode::OffsetDue(m) => Ok(offset_step(m.target, m.read, stack, lexeme)),
@@ -158,30 +158,29 @@ fn ends(
         Mode::Aggregated { op, args } => {
             let arg = aggregate(alloc, op, by_none(alloc), args)?;
             whole_end(alloc, arg, stack)
-        },
-        _ => Ok(None),
+        }
+        unfinished => {
+            drop(unfinished);
+            Ok(None)
+        }
     }
 }
 
-fn lexeme_of<'a>(alloc: Global, text: &'a str, token: &'a Token) -> Result<Lexeme<'a>, OutOfMemory>
+fn lexeme_of<'a>(text: &'a str, token: &'a Token) -> Lexeme<'a>
     requires { IsTokenOf text.now token.now }
-    ensures lexeme { IfOk result (λ x. seen x ≡ lexeme_at text.now token.now) }
-    ensures timely { IfOk result (λ x. IsTimely (seen x)) }
+    ensures lexeme { seen result ≡ lexeme_at text.now token.now }
+    ensures timely { IsTimely (seen result) }
 {
+    let text = token_text(text, token);
     match &token.sort {
-        TokenSort::Word => {
-            let text = token_text(text, token);
-            Ok(Lexeme::Word {
-                keyword: keyword_of(text),
-                text,
-            })
-        }
-        TokenSort::Number(value) => Ok(Lexeme::Number { value }),
-        TokenSort::Duration(millis) => Ok(Lexeme::Duration { millis: *millis }),
-        TokenSort::String => Ok(Lexeme::Text {
-            text: string_value(alloc, text, token)?,
-        }),
-        TokenSort::Mark(mark) => Ok(Lexeme::Mark { mark: *mark }),
+        TokenSort::Word => Lexeme::Word {
+            keyword: keyword_of(text),
+            text,
+        },
+        TokenSort::Number(value) => Lexeme::Number { value },
+        TokenSort::Duration(millis) => Lexeme::Duration { millis: *millis },
+        TokenSort::String => Lexeme::Text { quoted: text },
+        TokenSort::Mark(mark) => Lexeme::Mark { mark: *mark },
     }
 }
 
@@ -195,8 +194,7 @@ fn step_at(
     requires { IsTokenOf text.now token.now }
     ensures { IfOk result (λ m. Leads m stack.new (step (mode_of mode) stack.old (lexeme_at text.now token.now))) }
 {
-    let lexeme = lexeme_of(alloc, text, token)?;
-    step(alloc, mode, stack, lexeme)
+    step(alloc, mode, stack, lexeme_of(text, token))
 }
 
 /// What is held of a query's tokens, or the number of tokens before the first that is unexpected.

@@ -104,7 +104,6 @@ fn is_at(sort: &TokenSort) -> bool
 }
 
 /// The place of the first called name that is no function.
-#[tactic(auto, using(crate::proofs::Scanning::lost_found, crate::proofs::Scanning::lost_passed))]
 pub fn unknown_at(text: &str, tokens: &[Token]) -> Option<u32>
     requires { All (IsTokenOf text.now) tokens.now }
     ensures { result ≡ lost_at text.now false tokens.now }

@@ -13,7 +13,7 @@ use crate::mode::{Mode, Modifying, Selecting};
 use crate::stack::Stack;
 use crate::words::match_mark;
 use pf_base::{OutOfMemory, Text};
-use pf_lex::Mark;
+use pf_lex::{Mark, unquoted};
 use pf_model::{MatchSign, Matcher, Selector};
 use std::alloc::Global;
 
@@ -109,6 +109,7 @@ pub fn sign_step(
 }
 
 pub fn text_step(
+    alloc: Global,
     has_name: bool,
     selector: Selector,
     label: Text,
@@ -118,9 +119,10 @@ pub fn text_step(
 ) -> Result<Option<Mode>, OutOfMemory>
     ensures { IfOk result (λ m. Leads m stack.now (text_step has_name selector label sign stack.now (seen lexeme.entry))) }
 {
-    let Lexeme::Text { text } = lexeme else {
+    let Lexeme::Text { quoted } = lexeme else {
         return Ok(None);
     };
+    let text = unquoted(alloc, quoted)?;
     let mut matchers = selector.matchers;
     matchers.push(Matcher { label, sign, text })?;
     Ok(Some(Mode::Matched(Selecting {

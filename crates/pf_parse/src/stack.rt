@@ -9,7 +9,7 @@ use pf_base::OutOfMemory;
 use std::alloc::Global;
 use std::marker::Model;
 
-#[derive(Debug, Drop)]
+#[derive(Drop)]
 pub struct Stack {
     frames: Vec<Frame>,
 }
