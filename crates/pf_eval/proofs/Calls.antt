@@ -1,27 +1,22 @@
 -- Calls and aggregations, from their arguments.
-use Rattle.std.proofs.Common.{◌≡◌, ℤ, Bool, true, ◌&&◌, List, [], ◌∷◌, map, Option, None, Some, refl, sym, ap, ◌∙◌}
-use Rattle.std.specs.Prelude.{Vec}
+use Rattle.std.proofs.Common.{◌≡◌, ℤ, List, [], ◌∷◌, Option, None, Some, refl, sym, ap, ◌∙◌}
 use Rattle.pf_base.specs.declared.plain.Row.{Row}
 use Rattle.pf_model.specs.declared.cell.Element.{Element}
 use Rattle.pf_model.specs.declared.cell.ErrorKind.{ErrorKind}
-use Rattle.pf_model.specs.declared.expr.Expr.{Expr}
-use Rattle.pf_model.specs.declared.expr.Expr.TheVariants as expr
 use Rattle.pf_model.specs.declared.expr.Function.{Function}
 use Rattle.pf_model.specs.declared.expr.Function.TheVariants as function
 use Rattle.pf_model.specs.declared.functions.AggOp.{AggOp}
 use Rattle.pf_model.specs.Aggregation.{aggregate}
 use Rattle.pf_model.specs.Clauses.{Grouped}
-use Rattle.pf_model.specs.Evaluation.{called, no_meaning, outcome, outcomes}
+use Rattle.pf_model.specs.Evaluation.{called, no_meaning}
 use Rattle.pf_model.specs.Outcomes.{Outcome, scalar, elements, ranges, text, bad, aggregation, first_bad, vector_of}
-use Rattle.pf_model.specs.Trees.{Trees, tree_of, trees_of}
-use Rattle.pf_model.proofs.TreeOf.{call_tree}
-use Rattle.pf_eval.specs.Built.{are_built, is_built}
+use Rattle.pf_model.specs.Trees.{Trees}
 use Rattle.pf_eval.specs.declared.plain.aggregate.EachGroup.{EachGroup}
 use Rattle.pf_eval.specs.declared.plain.aggregate.EachGroup.TheVariants as group
 use Rattle.pf_eval.specs.GroupValues.{operator}
 use Rattle.pf_eval.specs.declared.plain.elementwise.Elementwise.{Elementwise}
 use Rattle.pf_eval.specs.declared.plain.elementwise.Elementwise.TheVariants as each
-use Rattle.pf_eval.specs.Elementwise.{elementwise_call, instant_of, is_elementwise_call}
+use Rattle.pf_eval.specs.Elementwise.{elementwise_call, instant_of}
 use Rattle.pf_eval.specs.Seen.{first_kind}
 
 pub call_is : (samples : List Row) (e : Elementwise) (args : Trees) (os : List Outcome) (t : ℤ)
@@ -51,24 +46,11 @@ call_of_good (ranges from to ss ∷ os) o h = call_of_good os o h
 call_of_good (text bytes ∷ os) o h = call_of_good os o h
 call_of_good (bad k ∷ os) o h = cc
 
-both : (a b : Bool) → a ≡ true → b ≡ true → (a && b) ≡ true
-both a b h k = ap (λ x. x && b) h ∙ k
-
--- the value of a call, and that it is built
-pub call_value : (samples : List Row) (e : Elementwise) (f : Function) (v : Vec Expr _) (q : Expr) (os : List Outcome) (o : Outcome) (t : ℤ)
-    → q ≡ expr.Call f v → function.Instant (instant_of e) ≡ f → is_elementwise_call f ≡ true → o ≡ elementwise_call e os
-    → os ≡ outcomes no_meaning samples (trees_of (map tree_of v.items)) t → are_built (trees_of (map tree_of v.items)) ≡ true
-    → (o ≡ outcome no_meaning samples (tree_of q) t) × (is_built (tree_of q) ≡ true)
-call_value samples e f v q os o t is name lawful value args built =
-    let trees = trees_of (map tree_of v.items) in
-    let tree = ap tree_of is ∙ call_tree f v in (
-      value
-          ∙ call_is samples e trees os t
-          ∙ ap (λ g. called no_meaning samples g trees os t) name
-          ∙ ap (λ zs. called no_meaning samples f trees zs t) args
-          ∙ sym (ap (λ x. outcome no_meaning samples x t) tree),
-      ap is_built tree ∙ both (is_elementwise_call f) (are_built trees) lawful built,
-    )
+-- what a call is, by the function that it names
+pub known_call_is : (e : Elementwise) (f : Function) (o : Outcome) (os : List Outcome) → function.Instant (instant_of e) ≡ f → o ≡ elementwise_call e os
+    → (samples : List Row) (trees : Trees) (t : ℤ) → o ≡ called no_meaning samples f trees os t
+known_call_is e f o os name value samples trees t =
+    value ∙ call_is samples e trees os t ∙ ap (λ g. called no_meaning samples g trees os t) name
 
 -- an aggregation with a value for each group has no parameter
 no_parameter : (op : EachGroup) (g : Grouped) (param : Option ℤ) (es : List Element) → aggregate (operator op) g.without g.labels None es ≡ aggregate (operator op) g.without g.labels param es

@@ -25,13 +25,31 @@ euclid_within z (pos d) m h k =
     omega (arith, small, h)
 euclid_within z (negsuc d) m h k = absurd (omega (arith, ints, k))
 
-pub rounded_is : (s : ℕ) (v : ℤ) → (s ≡ 0 → ⊥) → Some (clamp (int_div_euclid (pos 2 *ℤ v +ℤ pos s) (pos 2 *ℤ pos s) *ℤ pos s)) ≡ rounded s v
+rounded_is : (s : ℕ) (v : ℤ) → (s ≡ 0 → ⊥) → Some (clamp (int_div_euclid (pos 2 *ℤ v +ℤ pos s) (pos 2 *ℤ pos s) *ℤ pos s)) ≡ rounded s v
 rounded_is s v h =
     ap (λ z. Some (clamp (z *ℤ pos s))) (cut_is (pos 2 *ℤ v +ℤ pos s) (2 * s))
     ∙ sym (ap (λ b. cond b None (Some (clamp (cut_down (pos 2 *ℤ v +ℤ pos s) (2 * s) *ℤ pos s)))) (not_zero s h)) where
       not_zero : (n : ℕ) → (n ≡ 0 → ⊥) → nat_eq n 0 ≡ false
       not_zero zero k = absurd (k refl)
       not_zero (suc n) k = grind arith
+
+-- as a number is passed on
+abbrev passed : ℤ → ℤ
+passed z = to_z w128 (of_z w128 z)
+
+-- the steps of rounding
+pub rounded_from : (s : ℕ) (v to sum quotient product : ℤ) → (of_z w128 to ≡ 0 → ⊥) → FitsSigned w128 to → FitsSigned w128 sum → FitsSigned w128 quotient → FitsSigned w128 product
+    → to ≡ pos s → sum ≡ pos 2 *ℤ v +ℤ passed to → quotient ≡ int_div_euclid (passed sum) (pos 2 *ℤ passed to) → product ≡ passed quotient *ℤ passed to
+    → Some (clamp (passed product)) ≡ rounded s v
+rounded_from s v to sum quotient product n to_fits sum_fits quotient_fits product_fits size made cut multiplied =
+    let is : passed to ≡ pos s = to_z-of_z w128 to to_fits ∙ size in
+    ap (λ z. Some (clamp z))
+    (to_z-of_z w128 product product_fits
+    ∙ multiplied
+    ∙ (λ i. (to_z-of_z w128 quotient quotient_fits ∙ cut) i *ℤ is i)
+    ∙ (λ i. int_div_euclid ((to_z-of_z w128 sum sum_fits ∙ made) i) (pos 2 *ℤ is i) *ℤ pos s)
+    ∙ ap (λ z. int_div_euclid (pos 2 *ℤ v +ℤ z) (pos 2 *ℤ pos s) *ℤ pos s) is)
+    ∙ rounded_is s v (λ e. n (ap (of_z w128) (size ∙ ap pos e)))
 
 pub multiple_fits : (a b : ℤ) → FitsSigned w128 a → FitsSigned w128 b → unsigned_abs a ≤ 3000000000000000000 → pos 0 <ℤ b → b ≤ℤ pos 1000000000000000000
     → FitsSigned w128 (to_z w128 (of_z w128 a) *ℤ to_z w128 (of_z w128 b))

@@ -14,6 +14,7 @@ pub mod Rows
 pub mod SelectorAnswer
 pub mod SeriesOrder
 pub mod Signs
+pub mod Sums
 pub mod Vectors
 pub mod Walks
 pub mod WorkedSelectors

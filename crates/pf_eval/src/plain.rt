@@ -2,16 +2,17 @@
 //! Querying basics. It goes over all samples for each selector and over all elements for each group, and keeps nothing
 //! from one time to the next.
 
-ghost use Rattle.std.specs.Prelude.{◌≡◌, map, [], Err, IfOk, None, true, false};
+ghost use Rattle.std.specs.Prelude.{◌≡◌, ℤ, List, map, [], Err, IfErr, IfOk, None, true, false};
 ghost use Rattle.std.specs.List.{list_all};
 ghost use Rattle.pf_base.specs.LabelSets.{is_label_name};
 ghost use Rattle.pf_model.specs.Cells.{element};
-ghost use Rattle.pf_model.specs.Evaluation.{eval, no_meaning, outcome, outcomes, selection};
+ghost use Rattle.pf_base.specs.declared.plain.Row.{Row};
+ghost use Rattle.pf_model.specs.Evaluation.{called, eval, no_meaning, outcome, outcomes, read_time, selection};
 ghost use Rattle.pf_model.specs.Outcomes.{aggregation, negated, operation, scalars_of, signed, step_cell, vector_of};
-ghost use Rattle.pf_model.specs.Trees.{tree_of, trees_of};
-ghost use Rattle.pf_eval.specs.GroupValues.{operator};
+ghost use Rattle.pf_model.specs.Trees.{Trees, tree_of, trees_of};
+ghost use Rattle.pf_eval.specs.GroupValues.{is_each_group, operator};
 ghost use Rattle.pf_eval.specs.Built.{are_built, is_built, gives_matchers};
-ghost use Rattle.pf_eval.specs.Elementwise.{elementwise_call};
+ghost use Rattle.pf_eval.specs.Elementwise.{elementwise_call, is_elementwise_call};
 ghost use Rattle.pf_eval.specs.Seen.{first_kind, seen};
 
 mod aggregate;
@@ -20,8 +21,6 @@ mod elementwise;
 mod join;
 mod operate;
 mod select;
-#[cfg(test)]
-mod tests;
 
 use aggregate::{EachGroup, each_group, each_group_of};
 use cells::cell_of;
@@ -30,8 +29,8 @@ use join::join;
 use operate::{all_negated, negated, of_scalars, scalar_left, scalar_right};
 use pf_base::{Labels, OutOfMemory, Row, Text, Value, is_label_name};
 use pf_model::{
-    BinaryOp, Cell, Element, ErrorKind, Expr, Grouping, MatchError, Matchers, Matching, Selector,
-    StepCell,
+    AggOp, BinaryOp, Cell, Element, ErrorKind, Expr, Function, Grouping, MatchError, Matchers,
+    Matching, Mods, Selector, StepCell,
 };
 use select::{read_time, selected};
 use std::alloc::{AllocError, AllocFailed, Global};
@@ -75,20 +74,21 @@ impl<T: Drop> From<AllocFailed<T>> for PlainError {
 }
 
 /// What a node is: a scalar, which may have no value, or a vector.
-#[derive(Debug, Drop)]
+#[derive(Drop)]
 enum Outcome {
     Scalar(Option<Value>),
     Vector(StepCell),
 }
 
 /// A signed node.
-fn signed(alloc: Global, minus: bool, arg: Outcome) -> Result<Outcome, OutOfMemory>
-    ensures { IfOk result (λ o. seen o ≡ signed minus (seen arg)) }
+fn signed(alloc: Global, minus: bool, arg: Outcome) -> Result<Outcome, PlainError>
+    ensures value { IfOk result (λ o. seen o ≡ signed minus (seen arg)) }
+    ensures built { IfErr result (λ e. e ≡ PlainError.OutOfMemory) }
 {
     if !minus {
         return Ok(arg);
     }
-    negation(alloc, arg)
+    Ok(negation(alloc, arg)?)
 }
 
 fn negation(alloc: Global, arg: Outcome) -> Result<Outcome, OutOfMemory>
@@ -135,6 +135,29 @@ fn operation(
     Ok(Outcome::Vector(cell))
 }
 
+fn are_label_names(names: &[Text]) -> bool
+    ensures { result ≡ list_all is_label_name names.now }
+{
+    names.iter().all(|name| is_label_name(name.as_str()))
+}
+
+/// A binary operator whose grouping takes labels' names from the one side.
+fn labelled_operation(
+    alloc: Global,
+    op: BinaryOp,
+    matching: &Matching,
+    left: Outcome,
+    right: Outcome,
+) -> Result<Outcome, PlainError>
+    ensures value { IfOk result (λ o. (seen o ≡ operation op matching.now (seen left) (seen right)) × (list_all is_label_name matching.now.include ≡ true)) }
+    ensures refused { result ≡ Err PlainError.NotBuilt → list_all is_label_name matching.now.include ≡ false }
+{
+    if !are_label_names(&matching.include) {
+        return Err(PlainError::NotBuilt);
+    }
+    Ok(operation(alloc, op, matching, &left, &right)?)
+}
+
 fn matchers_of(selector: &Selector) -> Result<Matchers, PlainError>
     ensures built { IfOk result (λ m. (m ≡ selector.now) × (gives_matchers selector.now ≡ true)) }
     ensures refused { result ≡ Err PlainError.NotBuilt → gives_matchers selector.now ≡ false }
@@ -151,20 +174,16 @@ fn selection(
     alloc: Global,
     samples: &[Row],
     selector: &Selector,
-    to: i128,
+    mods: &Mods,
+    time: i64,
 ) -> Result<Outcome, PlainError>
-    ensures built { IfOk result (λ o. (seen o ≡ selection samples.now selector.now None to) × (gives_matchers selector.now ≡ true)) }
+    ensures built { IfOk result (λ o. (seen o ≡ selection samples.now selector.now None (read_time mods.now time)) × (gives_matchers selector.now ≡ true)) }
     ensures refused { result ≡ Err PlainError.NotBuilt → gives_matchers selector.now ≡ false }
 {
     let matchers = matchers_of(selector)?;
+    let to = read_time(mods.at, mods.offset, time);
     let cell = selected(alloc, samples, &matchers, to)?;
     Ok(Outcome::Vector(StepCell::Good(cell)))
-}
-
-fn are_label_names(names: &[Text]) -> bool
-    ensures { result ≡ list_all is_label_name names.now }
-{
-    names.iter().all(|name| is_label_name(name.as_str()))
 }
 
 /// The error of the first that has one.
@@ -217,6 +236,18 @@ fn called(alloc: Global, function: Elementwise, args: &[Outcome]) -> Result<Outc
     Ok(Outcome::Vector(cell_of(alloc, elements)?))
 }
 
+/// A call of a function that the plain program has: what it is doesn't depend on the samples, the trees of its arguments and the
+/// time.
+fn known_call(alloc: Global, function: Function, args: Vec<Outcome>) -> Result<Outcome, PlainError>
+    ensures value { IfOk result (λ o. ((samples : List Row) (trees : Trees) (time : ℤ) → seen o ≡ called no_meaning samples function trees (map seen args.items) time) × (is_elementwise_call function ≡ true)) }
+    ensures refused { result ≡ Err PlainError.NotBuilt → is_elementwise_call function ≡ false }
+{
+    let Some(function) = called_function(function) else {
+        return Err(PlainError::NotBuilt);
+    };
+    Ok(called(alloc, function, &args)?)
+}
+
 /// An aggregation with a value for each group.
 #[tactic(auto, using(crate::proofs::Calls::aggregation_of_bad, crate::proofs::Calls::aggregation_of_good))]
 fn aggregated(
@@ -232,6 +263,22 @@ fn aggregated(
     }
     let cell = each_group(alloc, op, grouping, vector_of(args))?;
     Ok(Outcome::Vector(StepCell::Good(cell)))
+}
+
+/// An aggregation that the plain program has.
+fn known_aggregation(
+    alloc: Global,
+    op: AggOp,
+    grouping: &Grouping,
+    args: Vec<Outcome>,
+) -> Result<Outcome, PlainError>
+    ensures value { IfOk result (λ o. (seen o ≡ aggregation op grouping.now (map seen args.items)) × (is_each_group op ≡ true)) }
+    ensures refused { result ≡ Err PlainError.NotBuilt → is_each_group op ≡ false }
+{
+    let Some(op) = each_group_of(op) else {
+        return Err(PlainError::NotBuilt);
+    };
+    Ok(aggregated(alloc, op, grouping, &args)?)
 }
 
 /// What the arguments of a call are at a time.
@@ -262,7 +309,7 @@ fn value_of(alloc: Global, samples: &[Row], query: &Expr, time: i64) -> Result<O
         Expr::Number { value } => Ok(Outcome::Scalar(Some(*value))),
         Expr::Unary { minus, arg } => {
             let arg = value_of(alloc, samples, arg, time)?;
-            Ok(signed(alloc, *minus, arg)?)
+            signed(alloc, *minus, arg)
         }
         Expr::Binary {
             op,
@@ -270,37 +317,23 @@ fn value_of(alloc: Global, samples: &[Row], query: &Expr, time: i64) -> Result<O
             left,
             right,
         } => {
-            if !are_label_names(&matching.include) {
-                return Err(PlainError::NotBuilt);
-            }
             let left = value_of(alloc, samples, left, time)?;
             let right = value_of(alloc, samples, right, time)?;
-            Ok(operation(alloc, *op, matching, &left, &right)?)
+            labelled_operation(alloc, *op, matching, left, right)
         }
         Expr::Call { function, args } => {
-            let Some(function) = called_function(*function) else {
-                return Err(PlainError::NotBuilt);
-            };
             let args = values_of(alloc, samples, args, time)?;
-            Ok(called(alloc, function, &args)?)
+            known_call(alloc, *function, args)
         }
         Expr::Aggregate { op, grouping, args } => {
-            let Some(op) = each_group_of(*op) else {
-                return Err(PlainError::NotBuilt);
-            };
             let args = values_of(alloc, samples, args, time)?;
-            Ok(aggregated(alloc, op, grouping, &args)?)
+            known_aggregation(alloc, *op, grouping, args)
         }
         Expr::Select {
             selector,
             range: None,
             mods,
-        } => selection(
-            alloc,
-            samples,
-            selector,
-            read_time(mods.at, mods.offset, time),
-        ),
+        } => selection(alloc, samples, selector, mods, time),
         _ => Err(PlainError::NotBuilt),
     }
 }

@@ -11,9 +11,6 @@ ghost use Rattle.pf_model.specs.Direct.{direct, gathered};
 ghost use Rattle.pf_model.specs.Trees.{instant};
 ghost use Rattle.pf_store.specs.Standing.{StandsFor};
 
-#[cfg(test)]
-mod tests;
-
 use pf_base::{Grid, Labels, OutOfMemory, Sample};
 use pf_block::Snap;
 use pf_matrix::{Matrix, MatrixRow};

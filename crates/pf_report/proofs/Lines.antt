@@ -1,5 +1,6 @@
 -- Lines, word by word.
-use Rattle.std.proofs.Common.{◌≡◌, ℕ, ◌<◌, List, [], ◌∷◌, ◌++◌, length, map, refl, ap, sym, ◌∙◌, append_assoc, append-nil, arith}
+use Rattle.std.proofs.Common.{◌≡◌, ℕ, ◌+◌, ◌<◌, List, [], ◌∷◌, ◌++◌, length, get_or, drop, map, refl, ap, sym, ◌∙◌, append_assoc, append-nil, arith}
+use Rattle.std.proofs.lemmas.List.{drop_more}
 use Rattle.pf_model.specs.Report.{line_text}
 use Rattle.pf_report.specs.Words.{words_behind, words_joined}
 
@@ -47,3 +48,12 @@ line_with_last f xs a b c d w h p q r =
     ∙ ap (λ l. a ++ (words_joined (map f xs) ++ 32 ∷ l)) (sym (append-nil w))
     ∙ ap (λ l. a ++ l) (sym (joined_both f xs (w ∷ []) h)))
     r
+
+-- one more word behind a blank
+pub blank_step : {X : Type 0} (f : X → List ℕ) (xs : List X) (i : ℕ) (d : X) (a c z : List ℕ) → i < length xs
+    → c ≡ a ++ 32 ∷ f (get_or xs i d) → a ++ words_behind (map f (drop i xs)) ≡ z
+    → c ++ words_behind (map f (drop (i + 1) xs)) ≡ z
+blank_step f xs i d a c z h p inv =
+    ap (λ l. l ++ words_behind (map f (drop (i + 1) xs))) p
+    ∙ append_assoc a (32 ∷ f (get_or xs i d)) (words_behind (map f (drop (i + 1) xs)))
+    ∙ ap (λ l. a ++ words_behind (map f l)) (sym (drop_more xs i d h)) ∙ inv

@@ -7,7 +7,7 @@ ghost use Rattle.pf_store.specs.Verdicts.{verdict_of};
 use pf_store::Verdict;
 
 /// The numbers of rows that were taken, that repeat what is held, and that were refused.
-#[derive(Clone, Copy, Debug)]
+#[derive(Clone, Copy)]
 pub struct Counts {
     pub taken: u64,
     pub repeated: u64,

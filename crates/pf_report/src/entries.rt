@@ -29,6 +29,3 @@ pub fn push_entry(
     ];
     push_line_of(out, &first, words)
 }
-
-#[cfg(test)]
-mod tests;

@@ -211,6 +211,3 @@ pub fn push_matrix(alloc: Global, out: &mut Vec<u8>, rows: &[MatrixRow]) -> Resu
     out.extend_from_slice(b"]}}")?;
     Ok(())
 }
-
-#[cfg(test)]
-mod tests;

@@ -138,6 +138,3 @@ pub fn push_error_answer(
     out.push(b'\n')?;
     Ok(())
 }
-
-#[cfg(test)]
-mod tests;

@@ -110,6 +110,3 @@ pub fn push_line_with_value(
     out.push(b'\n')?;
     Ok(())
 }
-
-#[cfg(test)]
-mod tests;

@@ -15,7 +15,7 @@ use pf_model::{AggOp, Cell, Element, Grouping};
 use std::alloc::Global;
 
 /// An aggregation that has one value for each group.
-#[derive(Clone, Copy, Debug, PartialEq, Eq)]
+#[derive(Clone, Copy)]
 pub(super) enum EachGroup {
     Sum,
     Avg,

@@ -17,7 +17,7 @@ use std::alloc::Global;
 const ONE: i128 = 1_000_000;
 
 /// A function of each element by itself, other than `timestamp`.
-#[derive(Clone, Copy, Debug, PartialEq, Eq)]
+#[derive(Clone, Copy)]
 pub(super) enum Elementwise {
     Abs,
     Ceil,
@@ -133,7 +133,6 @@ fn multiple(count: i128, of: i128) -> i128
 }
 
 /// To the nearest multiple, ties upward. None of 0.
-#[tactic(auto, using(crate::proofs::Euclid::rounded_is))]
 fn rounded(to: Value, value: Value) -> Option<Value>
     ensures { result ≡ rounded (unsigned_abs to) value }
 {

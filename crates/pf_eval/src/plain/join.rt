@@ -17,7 +17,7 @@ use pf_model::{BinaryOp, Element, ErrorKind, Matching, Side, Sign, StepCell};
 use std::alloc::Global;
 
 /// What a pair gives: its labels, and its value where it has one.
-#[derive(Debug, Drop)]
+#[derive(Drop)]
 pub(super) struct Joined {
     labels: Labels,
     value: Option<Value>,

@@ -1,0 +1,10 @@
+use Rattle.std.proofs.Common.{◌++◌, ◌∷◌, [], ap, ◌∙◌}
+use Rattle.pf_eval.proofs.Joining.{mapped_next}
+use Rattle.pf_eval.proofs.plain.cells.labels_of.Goals as goal
+
+pub loop-element-preserved : goal.loop-element-preserved
+loop-element-preserved c =
+    mapped_next (λ e. e.labels) c.loop-element.found.items c.push.new.self.items c.args.elements.now c.loop-element.element-index c.element-item.result
+    c.loop-element-test.true c.element-item.is
+    (c.in_ok-push.ensures.items ∙ ap (λ y. c.loop-element.found.items ++ y ∷ []) c.in_ok-clone.ensures)
+    c.loop-element.invariant
