@@ -14,7 +14,7 @@ use Rattle.pf_top.specs.Correct.{ReadsAs, ReadsAsNone, AreScripts, IsUnbuilt, Na
 use Rattle.pf_top.specs.Drives.{AreShort, CanRun, IsReport}
 use Rattle.pf_top.specs.Files.{AreLoaded, Contents, HoldsContent, IsKept}
 use Rattle.pf_top.specs.Queries.{AreReadAs, IsKeptFor}
-use Rattle.pf_top.specs.Outputs.{IsRun, IsScriptOutput, IsWordsOutput, default_limits}
+use Rattle.pf_top.specs.Outputs.{IsRun, IsScriptOutput, IsWordsOutput}
 use Rattle.pf_top.specs.Refusals.{refused_read, refused_not_built}
 use Rattle.std.specs.declared.vec.Vec.{Vec}
 use Rattle.std.specs.declared.alloc.Global.{Global}
@@ -146,8 +146,8 @@ grows_none None = tt
 grows_none (Some bytes) = ap Some (sym (append-nil bytes))
 
 -- memory ran out before anything was written
-pub starved_run : (o : Outside) (words : List (List ℕ)) → o.new ≡ o.old → Correct default_limits o words 6
-starved_run o words same = record {
+pub starved_run : (limits : Limits) (o : Outside) (words : List (List ℕ)) → o.new ≡ o.old → Correct limits o words 6
+starved_run limits o words same = record {
   ended = λ e. absurd (omega (arith, e));
   unread = λ e. absurd (omega (arith, e));
   unwritten = λ e. absurd (omega (arith, e));
@@ -158,10 +158,10 @@ starved_run o words same = record {
 }
 
 -- all was written
-pub written_run : (o : Outside) (words : List (List ℕ)) (status : ℕ) (text : List ℕ)
-    → IsWordsOutput default_limits o.files o.files_before o.files_after words status text → Grows o.old o.new text
-    → Correct default_limits o words status
-written_run o words status text (inl (is, done)) grows = record {
+pub written_run : (limits : Limits) (o : Outside) (words : List (List ℕ)) (status : ℕ) (text : List ℕ)
+    → IsWordsOutput limits o.files o.files_before o.files_after words status text → Grows o.old o.new text
+    → Correct limits o words status
+written_run limits o words status text (inl (is, done)) grows = record {
   ended = λ _. (text, (done, grows));
   unread = λ e. absurd (omega (arith, is, e));
   unwritten = λ e. absurd (omega (arith, is, e));
@@ -170,7 +170,7 @@ written_run o words status text (inl (is, done)) grows = record {
   unbuilt = λ e. absurd (omega (arith, is, e));
   known = inl is;
 }
-written_run o words status text (inr (inl (is, done))) grows = record {
+written_run limits o words status text (inr (inl (is, done))) grows = record {
   ended = λ e. absurd (omega (arith, is, e));
   unread = λ e. absurd (omega (arith, is, e));
   unwritten = λ e. absurd (omega (arith, is, e));
@@ -179,7 +179,7 @@ written_run o words status text (inr (inl (is, done))) grows = record {
   unbuilt = λ e. absurd (omega (arith, is, e));
   known = inr (inr (inr (inr (inl is))));
 }
-written_run o words status text (inr (inr (inl (is, done)))) grows = record {
+written_run limits o words status text (inr (inr (inl (is, done)))) grows = record {
   ended = λ e. absurd (omega (arith, is, e));
   unread = λ _. (text, (done, grows));
   unwritten = λ e. absurd (omega (arith, is, e));
@@ -188,7 +188,7 @@ written_run o words status text (inr (inr (inl (is, done)))) grows = record {
   unbuilt = λ e. absurd (omega (arith, is, e));
   known = inr (inl is);
 }
-written_run o words status text (inr (inr (inr (is, done)))) grows = record {
+written_run limits o words status text (inr (inr (inr (is, done)))) grows = record {
   ended = λ e. absurd (omega (arith, is, e));
   unread = λ e. absurd (omega (arith, is, e));
   unwritten = λ e. absurd (omega (arith, is, e));
@@ -199,20 +199,20 @@ written_run o words status text (inr (inr (inr (is, done)))) grows = record {
 }
 
 -- what was to be written is what a run may print
-may_print : (o : Outside) (words : List (List ℕ)) (status : ℕ) (text : List ℕ)
-    → IsWordsOutput default_limits o.files o.files_before o.files_after words status text
-    → IsOutput default_limits o words text
-may_print o words status text (inl p) = inl (false, p.1)
-may_print o words status text (inr (inl p)) = inl (true, p.1)
-may_print o words status text (inr (inr (inl p))) = inr (inl p.1)
-may_print o words status text (inr (inr (inr p))) = inr (inr p.1)
+may_print : (limits : Limits) (o : Outside) (words : List (List ℕ)) (status : ℕ) (text : List ℕ)
+    → IsWordsOutput limits o.files o.files_before o.files_after words status text
+    → IsOutput limits o words text
+may_print limits o words status text (inl p) = inl (false, p.1)
+may_print limits o words status text (inr (inl p)) = inl (true, p.1)
+may_print limits o words status text (inr (inr (inl p))) = inr (inl p.1)
+may_print limits o words status text (inr (inr (inr p))) = inr (inr p.1)
 
 -- a front was written
-pub unwritten_run : (o : Outside) (words : List (List ℕ)) (status : ℕ) (text given : List ℕ)
-    → IsWordsOutput default_limits o.files o.files_before o.files_after words status text → given ≡ text
+pub unwritten_run : (limits : Limits) (o : Outside) (words : List (List ℕ)) (status : ℕ) (text given : List ℕ)
+    → IsWordsOutput limits o.files o.files_before o.files_after words status text → given ≡ text
     → Rose o.out_before o.out_after → (n : ℕ) → Grows o.old o.new (take n given)
-    → Correct default_limits o words 5
-unwritten_run o words status text given output same rose n part = record {
+    → Correct limits o words 5
+unwritten_run limits o words status text given output same rose n part = record {
   ended = λ e. absurd (omega (arith, e));
   unread = λ e. absurd (omega (arith, e));
   unwritten = λ _. (
@@ -220,7 +220,7 @@ unwritten_run o words status text given output same rose n part = record {
     (
       text,
       (
-        may_print o words status text output,
+        may_print limits o words status text output,
         (n, subst (λ (t : List ℕ). Grows o.old o.new (take n t)) same part),
       ),
     ),

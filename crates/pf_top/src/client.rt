@@ -28,9 +28,6 @@ ghost use Rattle.pf_model.specs.Json.{error_text};
 ghost use Rattle.pf_model.specs.Legal.{Moment};
 ghost use Rattle.pf_top.specs.Sessions.{IsQuery, Stands, machine_of};
 
-#[cfg(test)]
-mod tests;
-
 use crate::entry::Asked;
 use crate::loaded::{Content, Contents, Loaded, content_of};
 use crate::queries::{Queries, QueryRead, query_of};
@@ -57,14 +54,14 @@ pub struct Client {
 }
 
 /// Whether a line was run, or met the full journal.
-#[derive(Clone, Copy, Debug, PartialEq, Eq)]
+#[derive(Clone, Copy)]
 pub enum Ran {
     On,
     Full,
 }
 
 /// Why a file is refused. Lines count from 1.
-#[derive(Clone, Copy, Debug)]
+#[derive(Clone, Copy)]
 pub enum FileFault {
     BadLine(u32),
     TimeTooLarge(u32),

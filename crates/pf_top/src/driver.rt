@@ -26,7 +26,7 @@ use std::sync::Wait;
 use std::thread::Threads;
 
 /// The limits of a run without options: ten minutes of window, a day of interval.
-const DEFAULT_LIMITS: Limits = Limits {
+pub const DEFAULT_LIMITS: Limits = Limits {
     outstanding: 100,
     window: 600_000,
     interval: 86_400_000,
@@ -143,6 +143,28 @@ fn replay<F: Files>(
     }
 }
 
+/// What `run` does, within any limits: takes its words, reads the files, writes what it prints and answers its status.
+pub fn run_within<F: Files, O: Sink>(
+    alloc: Global,
+    limits: Limits,
+    words: &[Text],
+    files: &mut F,
+    out: &mut O,
+) -> u8
+    requires journal { limits.journal ≤ 4000000 }
+    requires some { 1 ≤ limits.outstanding }
+    ensures { let outside : Outside = record { files = F.told files.old; files_before = F.faults files.old; files_after = F.faults files.new; out_before = O.faults out.old; out_after = O.faults out.new; old = O.told out.old; new = O.told out.new } in
+        Correct limits outside words.now result }
+{
+    let Ok(output) = replay(alloc, limits, words, files) else {
+        return 6;
+    };
+    match put_all(out, output.text.as_slice()) {
+        Ok(()) => return output.status,
+        Err(_) => return 5,
+    }
+}
+
 /// Does all that the program does: takes its words, reads the files, writes what it prints and answers its status.
 ///
 /// Built are the words `replay SCRIPT`, and scripts of `ingest`, `delete`, `ask`, `answer`, empty and comment lines. Any text
@@ -166,14 +188,5 @@ where
     ensures { let outside : Outside = record { files = F.told files.old; files_before = F.faults files.old; files_after = F.faults files.new; out_before = O.faults out.old; out_after = O.faults out.new; old = O.told out.old; new = O.told out.new } in
         Correct default_limits outside words.now result }
 {
-    let Ok(output) = replay(alloc, DEFAULT_LIMITS, words, files) else {
-        return 6;
-    };
-    match put_all(out, output.text.as_slice()) {
-        Ok(()) => return output.status,
-        Err(_) => return 5,
-    }
+    run_within(alloc, DEFAULT_LIMITS, words, files, out)
 }
-
-#[cfg(test)]
-mod tests;

@@ -2,7 +2,8 @@
 //!
 //! What `prom_front` uses: `run` takes the words, files, output, hops, gate and doors that are handed in, and answers the
 //! status. Its contract is the program's whole promise, the record `Correct` of `specs/Correct.antt`: for example, with
-//! status 0 the bytes written are the report of a legal journal that is woven from the scripts which the words name.
+//! status 0 the bytes written are the report of a legal journal that is woven from the scripts which the words name. `run_within`
+//! does the same within any limits.
 #![tactic(auto)]
 
 mod client;
@@ -18,4 +19,4 @@ mod stop;
 mod tenants;
 mod words;
 
-pub use driver::run;
+pub use driver::{DEFAULT_LIMITS, run, run_within};

@@ -38,7 +38,7 @@ pub enum QueryRead {
 pub type Queries = BTreeMap<String, QueryRead>;
 
 /// A query or a selector is not built, or memory ran out.
-#[derive(Clone, Copy, Debug, PartialEq, Eq)]
+#[derive(Clone, Copy)]
 pub enum QueriesError {
     NotBuilt,
     OutOfMemory,

@@ -35,7 +35,7 @@ pub struct Session {
 
 /// Why a change was refused: the journal has no room for its entry, as many tenants are known as may be, or memory ran
 /// out.
-#[derive(Clone, Copy, Debug, PartialEq, Eq)]
+#[derive(Clone, Copy)]
 pub enum ChangeError {
     JournalFull,
     TooManyTenants,
@@ -74,7 +74,7 @@ impl<T: Drop> From<AllocFailed<T>> for ChangeError {
 
 /// Why an ask was refused: the journal has no room for its entry, its cancel and its answer, as many tenants are known as
 /// may be, the tenant has as many open queries as it may, or memory ran out.
-#[derive(Clone, Copy, Debug, PartialEq, Eq)]
+#[derive(Clone, Copy)]
 pub enum AskError {
     JournalFull,
     TooManyTenants,

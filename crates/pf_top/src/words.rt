@@ -25,6 +25,3 @@ pub fn script_name(words: &[Text]) -> Option<&str>
         None
     }
 }
-
-#[cfg(test)]
-mod tests;

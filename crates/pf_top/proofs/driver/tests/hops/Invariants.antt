@@ -1,6 +1,0 @@
--- One hop for each actor so far.
-use Rattle.std.proofs.Common.{◌≡◌, vec_len}
-use Rattle.pf_top.proofs.driver.tests.hops.Given as goal
-
-abbrev pub invariant-loop-actor : goal.invariant-loop-actor
-invariant-loop-actor l = vec_len l.hops ≡ l._actor
