@@ -1,6 +1,6 @@
 //! Durations as text.
 
-ghost use Rattle.std.specs.Prelude.{◌≡◌, ◌↔◌, ◌+◌, ◌<◌, ◌≤◌, ℕ, length, min, Result};
+ghost use Rattle.std.specs.Prelude.{◌≡◌, ◌↔◌, ◌+◌, ◌<◌, ◌≤◌, ℕ, min, Result};
 ghost use Rattle.pf_base.specs.DurationTexts.{ReadsDuration};
 ghost use Rattle.pf_base.specs.DurationScans.{duration_of, letters_in_front, part_of, past_letters, past_part};
 ghost use Rattle.pf_base.specs.declared.duration.DurationError.{DurationError};
@@ -71,64 +71,4 @@ fn split_letters(bytes: &[u8]) -> (&[u8], &[u8])
         }
     }
     bytes.split_at(bytes.len())
-}
-
-#[cfg(test)]
-mod tests {
-    use super::*;
-
-    #[test]
-    fn durations_are_read(rt: HostRuntime) {
-        for (text, millis) in [
-            ("0s", 0),
-            ("5ms", 5),
-            ("007s", 7000),
-            ("1m", 60_000),
-            ("1m1ms", 60_001),
-            ("1h30m", 5_400_000),
-            ("1d", 86_400_000),
-            ("2w3d", 1_468_800_000),
-            ("1y", 31_536_000_000),
-            ("1y2w3d4h5m6s7ms", 33_019_506_007),
-            ("139y", 4_383_504_000_000),
-            ("4398046511103ms", 4_398_046_511_103),
-        ] {
-            assert_eq!(rt; read_duration(text.as_bytes()), Ok(millis), "at {text}");
-        }
-        for text in [
-            "",
-            "5",
-            "m",
-            "5m5m",
-            "1s1h",
-            "1ms1s",
-            "1x",
-            "1H",
-            "1h ",
-            "-1s",
-            "1.5h",
-            "5mss",
-            "1h30",
-            "99999999999999999999x",
-        ] {
-            assert_eq!(rt;
-                read_duration(text.as_bytes()),
-                Err(DurationError::BadForm),
-                "at {text}"
-            );
-        }
-        for text in [
-            "4398046511104ms",
-            "140y",
-            "139y25w",
-            "99999999999999999999999y",
-            "0y99999999999999999999ms",
-        ] {
-            assert_eq!(rt;
-                read_duration(text.as_bytes()),
-                Err(DurationError::TooLarge),
-                "at {text}"
-            );
-        }
-    }
 }

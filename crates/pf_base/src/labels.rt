@@ -11,8 +11,6 @@ ghost use Rattle.pf_base.specs.LabelOrder.{labels_cmp, labels_eq, labels_total, 
 mod build;
 mod changes;
 mod shard;
-#[cfg(test)]
-mod tests;
 
 use crate::text::Text;
 pub use build::is_label_name;

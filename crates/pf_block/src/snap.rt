@@ -1,14 +1,11 @@
 //! A tenant's series and samples at a point of its log.
 
-ghost use Rattle.std.specs.Prelude.{◌≡◌, ℕ, ◌<◌, ◌≤◌, true, false, [], IfOk, length, vec_len, is_some, slice_index_or, slice_set, nat_le, nat_eq, pos};
+ghost use Rattle.std.specs.Prelude.{◌≡◌, ℕ, ◌<◌, true, false, [], IfOk, length, vec_len, is_some, slice_index_or, slice_set, nat_le, nat_eq, pos};
 ghost use Rattle.std.specs.List.{list_all, list_any};
 ghost use Rattle.std.specs.Arc.{arc_value};
 ghost use Rattle.pf_block.specs.Samples.{rises, is_series, value_at, put_sample, window_of, last_of};
 ghost use Rattle.pf_block.specs.SeriesIds.{id_of, ids_with};
 ghost use Rattle.pf_block.specs.Snaps.{IsSnap, empty_snap, labels_of, samples_of, held_at, with_rows, are_new, are_timed, without_rows, put_row, held_of, cut_marked};
-
-#[cfg(test)]
-mod tests;
 
 use crate::index::Index;
 use crate::samples::Series;

@@ -72,6 +72,3 @@ pub fn read_exposition(alloc: Global, bytes: &[u8], default_time: u64) -> Result
         skipped: taken.skipped,
     })
 }
-
-#[cfg(test)]
-mod tests;

@@ -16,7 +16,7 @@ pub enum ExpoError {
 }
 
 /// Why a line or a part of it was not read: it is of another form, its time is too large, or memory ran out.
-#[derive(Clone, Copy, Debug, PartialEq, Eq)]
+#[derive(Clone, Copy)]
 pub enum ReadFault {
     Bad,
     Late,

@@ -10,8 +10,6 @@ mod outside;
 mod put;
 mod standard;
 mod steady;
-#[cfg(test)]
-mod tests;
 
 pub use disk::DiskFiles;
 pub use doors::MemDoors;

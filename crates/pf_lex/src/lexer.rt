@@ -137,6 +137,3 @@ pub fn tokens(alloc: Global, text: &str) -> Result<Vec<Token>, LexError>
     }
     Ok(found)
 }
-
-#[cfg(test)]
-mod tests;

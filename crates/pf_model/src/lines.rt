@@ -4,9 +4,6 @@ ghost use Rattle.std.specs.Prelude.{◌≡◌, ◌<◌, ◌∷◌, [], length, I
 ghost use Rattle.pf_model.specs.Exposition.{file_lines};
 ghost use Rattle.pf_model.specs.LineEnds.{without_return};
 
-#[cfg(test)]
-mod tests;
-
 fn first_line_feed(bytes: &[u8]) -> Option<usize>
     ensures place { result ≡ position (λ b. nat_eq b 10) bytes.now }
     ensures within { IfSome result (λ n. n < length bytes.now) }

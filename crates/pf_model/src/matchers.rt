@@ -4,9 +4,6 @@ ghost use Rattle.std.specs.Prelude.{◌≡◌, ◌↔◌, IfOk, true, false};
 ghost use Rattle.pf_model.specs.Patterns.{is_like, is_plain, is_plain_byte};
 ghost use Rattle.pf_model.specs.Selection.{accepts, accepts_empty, all_plain, has_meaning, holds};
 
-#[cfg(test)]
-mod tests;
-
 use crate::expr::{MatchSign, Matcher, Selector};
 use pf_base::{Labels, OutOfMemory};
 use std::alloc::AllocError;

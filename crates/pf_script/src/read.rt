@@ -59,6 +59,3 @@ pub fn read_script(alloc: Global, bytes: &[u8]) -> Result<Script, ScriptError>
     }
     Ok(Script { lines })
 }
-
-#[cfg(test)]
-mod tests;

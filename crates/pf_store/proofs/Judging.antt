@@ -78,6 +78,3 @@ drop_at rows i r l e =
 
 pub map_more : {A B : Type 0} (f : A → B) (xs ys : List A) (x : A) → ys ≡ xs ++ x ∷ [] → map f ys ≡ map f xs ++ f x ∷ []
 map_more f xs ys x e = ap (map f) e ∙ map-append f xs (x ∷ [])
-
-pub timed_push : (xs ys : List Row) (r : Row) → ys ≡ xs ++ r ∷ [] → are_timed xs ≡ true → nat_le r.time 4398046511103 ≡ true → are_timed ys ≡ true
-timed_push xs ys r e h k = ap are_timed e ∙ all_more (λ r. nat_le r.time 4398046511103) xs r h k

@@ -5,9 +5,6 @@ ghost use Rattle.pf_block.specs.Snaps.{are_timed};
 ghost use Rattle.pf_model.specs.Log.{Change, floor_below, log_with, log_without, newest_with, verdicts_of};
 ghost use Rattle.pf_store.specs.Standing.{AreAccepted, IsLog, IsPin, deleted_after, verdicts_after};
 
-#[cfg(test)]
-mod tests;
-
 use crate::judged::judge_rows;
 use crate::verdict::Verdicts;
 use pf_base::{Batch, OutOfMemory, Row};

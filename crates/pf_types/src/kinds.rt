@@ -7,9 +7,6 @@ ghost use Rattle.pf_model.specs.Typing.{first_wrong, joint_kind, kind_of, only, 
 ghost use Rattle.pf_types.specs.Faults.{all_from, capped, capped_result, fault_from, fault_in, fault_of, seen};
 ghost use Rattle.pf_types.specs.Rules.{arguments_fault, operation_fault, wanted_kinds};
 
-#[cfg(test)]
-mod tests;
-
 use crate::arguments::{
     Wants, aggregation_wants, function_kind, function_wants, label_names, of_kind, wrong_argument,
 };

@@ -8,9 +8,6 @@ ghost use Rattle.pf_model.specs.Selection.{accepts_empty};
 ghost use Rattle.pf_model.specs.Trees.{size, sizes, tree_of, trees_of};
 ghost use Rattle.pf_types.specs.Obstacles.{answer, obstacle_in, passes_empty, walk, walk_all, walked};
 
-#[cfg(test)]
-mod tests;
-
 use pf_model::{Expr, Function, InstantFn, MatchSign, Matcher, Selector};
 
 /// What stands in the way of a query of lawful kinds.

@@ -8,9 +8,6 @@ ghost use Rattle.pf_types.specs.Errors.{IsAnsweredWith, IsFaultFor, query_fault}
 ghost use Rattle.pf_types.specs.Faults.{fault_in};
 ghost use Rattle.pf_types.specs.Rules.{operand_fault};
 
-#[cfg(test)]
-mod tests;
-
 use crate::error::TypeError;
 use crate::kinds::check;
 use pf_model::{Expr, Kind};

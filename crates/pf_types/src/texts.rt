@@ -9,9 +9,6 @@ ghost use Rattle.pf_types.specs.Errors.{words_of_error};
 ghost use Rattle.pf_types.specs.Faults.{fault_of};
 ghost use Rattle.pf_types.specs.declared.query.QueryError.TheVariants.{Parse};
 
-#[cfg(test)]
-mod tests;
-
 use crate::error::TypeError;
 use crate::query::QueryError;
 use itoa::Buffer;

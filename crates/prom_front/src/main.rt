@@ -1,9 +1,10 @@
 //! The program: the real files and the standard output, handed to the one call that does all.
 //!
-//! Built is `prom_front replay SCRIPT`. It runs the script's lines `ingest`, `delete`, `ask` and `answer`, whose queries and
-//! selectors are a metric name, or one with `{LABEL="VALUE"}`, and prints the replies and then the journal. For other words,
-//! and for a script with another line, it prints `refused: not built` and ends with status 9. `pf_top::run` says which
-//! status comes when.
+//! Built is `prom_front replay SCRIPT`. It runs the script's lines `ingest`, `delete`, `ask` and `answer`, and prints
+//! the replies and then the journal. Every query is read as PromQL, and one that is refused is answered so; instant
+//! selectors of `=` and `!=`, without `@` and offset, are evaluated. For other words, for a script with another line,
+//! and for a query that is not evaluated yet, it prints `refused: not built` and ends with status 9. `pf_top::run` says
+//! which status comes when.
 #![tactic(auto)]
 
 ghost use Rattle.std.specs.Prelude.{◌≡◌, IfOk, vec_len};

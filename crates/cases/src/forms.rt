@@ -1,0 +1,61 @@
+//! The forms of rows: for each kind of call, what is given and what is found, as texts.
+
+use crate::setting::Setting;
+use crate::trouble::Trouble;
+use crate::{base, evaluation, language, outside, reports, runs, stores};
+
+/// A form of rows, by what it is about.
+#[derive(Clone, Copy)]
+pub enum Form {
+    Base(base::Form),
+    Stores(stores::Form),
+    Language(language::Form),
+    Evaluation(evaluation::Form),
+    Reports(reports::Form),
+    Outside(outside::Form),
+    Runs(runs::Form),
+}
+
+impl Form {
+    /// The form of this name.
+    pub fn named(name: &str) -> Option<Form> {
+        if let Some(form) = base::Form::named(name) {
+            return Some(Form::Base(form));
+        }
+        if let Some(form) = stores::Form::named(name) {
+            return Some(Form::Stores(form));
+        }
+        if let Some(form) = language::Form::named(name) {
+            return Some(Form::Language(form));
+        }
+        if let Some(form) = evaluation::Form::named(name) {
+            return Some(Form::Evaluation(form));
+        }
+        if let Some(form) = reports::Form::named(name) {
+            return Some(Form::Reports(form));
+        }
+        if let Some(form) = outside::Form::named(name) {
+            return Some(Form::Outside(form));
+        }
+        Some(Form::Runs(runs::Form::named(name)?))
+    }
+}
+
+/// What is found of a row.
+pub fn answer(
+    rt: HostRuntime,
+    form: Form,
+    setting: &Setting,
+    given: &[u8],
+) -> Result<Vec<u8>, Trouble> {
+    let alloc = rt.alloc();
+    match form {
+        Form::Base(form) => form.answer(alloc, given),
+        Form::Stores(form) => form.answer(alloc, setting, given),
+        Form::Language(form) => form.answer(alloc, given),
+        Form::Evaluation(form) => form.answer(alloc, setting, given),
+        Form::Reports(form) => form.answer(alloc, setting, given),
+        Form::Outside(form) => form.answer(rt, setting, given),
+        Form::Runs(form) => form.answer(rt, setting, given),
+    }
+}
