@@ -1,7 +1,7 @@
-//! The outside as traits. Each that can fail has a count of faults that never falls, and answers `Failed` only where
-//! that count rose, or stands at its greatest value, 2^64 - 1.
+//! The outside as traits. Each that can fail has a count of faults that never falls: it rises, or stands at its greatest
+//! value, 2^64 - 1, where `Failed` is answered, and stays as it is with every other answer.
 
-ghost use Rattle.std.specs.Prelude.{◌≡◌, ℕ, ◌<◌, ◌≤◌, List, [], codes, Some, length, take, Option, IfOk, OnOk, OnErr, MatchOption};
+ghost use Rattle.std.specs.Prelude.{◌≡◌, ◌≢◌, ℕ, ◌<◌, ◌≤◌, List, [], codes, Some, length, take, Option, IfOk, OnOk, OnErr, MatchOption};
 ghost use Rattle.pf_io.specs.Errors.{read_error_text};
 ghost use Rattle.pf_io.specs.Outside.{Rose, UpByOne, Grows, Holds, LongerThan, WithinMost};
 ghost use Rattle.pf_io.specs.declared.outside.ReadError.TheVariants.{OutOfMemory};
@@ -79,6 +79,7 @@ pub trait Files {
         ensures within { OnOk result (length into.new.items ≤ most) }
         ensures too_long { result ≡ Err ReadError.TooLong → LongerThan (told self.old name.now) most }
         ensures failed { result ≡ Err ReadError.Failed → Rose (faults self.old) (faults self.new) }
+        ensures steady { result ≢ Err ReadError.Failed → faults self.new ≡ faults self.old }
         ensures counted { faults self.old ≤ faults self.new }
         ensures kept { (other : List ℕ) → told self.new other ≡ told self.old other };
 }
@@ -96,6 +97,7 @@ pub trait Sink {
         ensures some { 0 < length piece.now → IfOk result (λ taken. 0 < taken) }
         ensures written { IfOk result (λ taken. Grows (told self.old) (told self.new) (take taken piece.now)) }
         ensures failed { OnErr result (Rose (faults self.old) (faults self.new)) }
+        ensures steady { OnOk result (faults self.new ≡ faults self.old) }
         ensures unchanged { OnErr result (Grows (told self.old) (told self.new) []) }
         ensures counted { faults self.old ≤ faults self.new };
 }
@@ -110,6 +112,7 @@ pub trait Hop {
     /// Carries the job over.
     fn call(&mut self, head: &JobHead) -> Result<(), Failed>
         ensures failed { OnErr result (Rose (faults self.old) (faults self.new)) }
+        ensures steady { OnOk result (faults self.new ≡ faults self.old) }
         ensures counted { faults self.old ≤ faults self.new }
         ensures kept { most self.new ≡ most self.old };
 
@@ -138,6 +141,7 @@ pub trait Doors {
         ensures handed { IfOk result (λ io. MatchOption io (given self.new ≡ given self.old) (λ _. UpByOne (given self.old) (given self.new))) }
         ensures ended { IfOk result (λ io. MatchOption io (UpByOne (nones self.old) (nones self.new)) (λ _. nones self.new ≡ nones self.old)) }
         ensures failed { OnErr result (Rose (faults self.old) (faults self.new)) }
+        ensures steady { OnOk result (faults self.new ≡ faults self.old) }
         ensures none_given { OnErr result (given self.new ≡ given self.old) }
         ensures none_ended { OnErr result (nones self.new ≡ nones self.old) }
         ensures counted { faults self.old ≤ faults self.new }

@@ -221,6 +221,23 @@ WantsRoom known (script.delete tenant from to selector) n = (n ≡ 1) × (IsRang
 WantsRoom known (script.ask id tenant start end step query) n = (n ≡ 3) × IsAsked (asked_of known.readings start end step query)
 WantsRoom known (script.answer id line) n = ⊥
 
+-- the room that a line's entry found in the journal beside what open queries keep: an ask's is for its cancel and its answer
+-- too, and an answer has what its ask kept
+abbrev pub room_of : Line → ℕ
+room_of (script.ingest tenant file time) = 1
+room_of (script.delete tenant from to selector) = 1
+room_of (script.ask id tenant start end step query) = 3
+room_of (script.answer id line) = 0
+
+abbrev pub FoundRoom : Limits → Line → Option Moment → Type 0
+FoundRoom limits l None = Unit {0}
+FoundRoom limits l (Some x) = x.before.count + reserved x.before.queries + room_of l ≤ limits.journal
+
+-- until there is a cache, no step is answered from one
+abbrev pub IsUncached : What → Type 0
+IsUncached (answer query code cached evaluated) = cached ≡ 0
+IsUncached _ = Unit {0}
+
 -- a front of the journal that has all of a client's entries leaves too little room for a line
 pub record MetFull (known : Known) (limits : Limits) (journal : List Entry) (client : ℕ) (line : Line) : Type 0 where
   pub front : ℕ
@@ -242,6 +259,7 @@ pub record Woven (known : Known) (limits : Limits) (names : List (List ℕ)) (jo
   pub rising : Rises client 0 journal
   pub lined : Each (λ e. e.client ≡ client → IsLineOf (take stop.ran lines) e.line) journal
   pub each : Each (λ l. IsWoven known names (turn_of client (moments journal) stop.refused lines l)) (take stop.ran lines)
+  pub roomy : Each (λ l. FoundRoom limits l.line (moment_of client l.number (moments journal))) (take stop.ran lines)
   pub stops : StopsAt known limits journal client (slice_get lines stop.ran) stop.full
 
 -- the journal holds the entries of the scripts' lines and no others; a script is known by its place

@@ -25,6 +25,7 @@ use Rattle.pf_top.specs.declared.session.Query.{Query}
 use Rattle.pf_top.specs.declared.session.Session.{Session}
 use Rattle.pf_top.specs.declared.slots.Slot.{Slot}
 use Rattle.pf_top.specs.declared.slots.Slot.TheVariants as slot
+use Rattle.pf_top.proofs.Entered.{room_kept_for}
 use Rattle.pf_top.proofs.Lists.{some_is}
 use Rattle.pf_top.proofs.Machines.{open_at_closed}
 use Rattle.pf_top.proofs.OpenQueries.{machine_behind}
@@ -61,13 +62,13 @@ answers_right l m q rows k h o g =
 -- an open query is answered
 pub step_answered : (known : Known) (old new : Client) (now : Session) (by : By) (n : ℕ) (id : List ℕ) (line : ℕ) (asking : Option Line) (moment : Option Moment)
     (q : Query) (rows : List MatrixRow)
-    → new.session ≡ now
+    → new.session ≡ now → Stands old.session
     → IsEntered old.session by (answer q.place 200 0 (arc_value q.asked).grid.len) now → by.client ≡ 0 → by.line ≡ n
     → ((samples : List Row) → StandsFor q.pin.snap samples → direct samples (asked_in (arc_value q.asked)) ≡ gathered rows)
     → new.out.items ≡ old.out.items ++ answered n id (decimal 200) 0 (arc_value q.asked).grid.len (matrix_text rows)
     → SlotRight known.readings old.session.limits.window (machine_of old.session) asking moment (Some (slot.Open q))
     → IsStep known old (record { number = n; line = script.answer id line }) asking moment new
-step_answered known old new now by n id line asking moment q rows same e client is_line h told right =
+step_answered known old new now by n id line asking moment q rows same h_stands e client is_line h told right =
     let l = old.session.limits in
     let m = machine_of old.session in
     let k = right.1 in
@@ -76,6 +77,7 @@ step_answered known old new now by n id line asking moment q rows same e client 
     ap (body_of l) k.is_open ∙ ap (body_by l k.opened) k.uncancelled ∙ ap answer_text is in
     step_entered known old new by _ (answer q.place 200 0 (arc_value q.asked).grid.len) asking moment
     (subst (λ (s : Session). IsEntered old.session by (answer q.place 200 0 (arc_value q.asked).grid.len) s) (sym same) e) client is_line right.0
+    (room_kept_for old.session h_stands) refl
     (told ∙ ap (λ (b : List ℕ). old.out.items ++ answered n id (decimal 200) 0 (arc_value q.asked).grid.len b) (sym body))
 
 -- and leaves the others open

@@ -13,7 +13,7 @@ use Rattle.pf_store.specs.Standing.{IsLog, LogData, verdicts_after, deleted_afte
 use Rattle.pf_store.specs.Verdicts.{VerdictsData}
 use Rattle.pf_store.specs.declared.tenant_log.Deleted.{Deleted}
 use Rattle.pf_top.specs.Entries.{entry_of}
-use Rattle.pf_top.specs.Sessions.{Stands, AreTenants, AreWithin, IsAdmitted, IsStranger, IsEntered, IsAppended, IsDeleted, IsNoted, IsFull, IsTakenIn, IsCutOut, Keeps, KeepsLogs, KeepsCounts, machine_of, journal_of}
+use Rattle.pf_top.specs.Sessions.{Stands, AreTenants, AreWithin, IsAdmitted, IsStranger, IsEntered, IsAppended, IsDeleted, IsNoted, IsFull, HasRoomFor, IsTakenIn, IsCutOut, Keeps, KeepsLogs, KeepsCounts, machine_of, journal_of}
 use Rattle.pf_top.specs.declared.session.Session.{Session}
 use Rattle.pf_top.proofs.Keeping.{legal_push, logs_set, are_open_log, are_open_same}
 use Rattle.pf_top.proofs.Machines.{after_push, count_after, length_with_log, reserved_is}
@@ -39,6 +39,22 @@ is_full s n h t =
     let r = kept_room s h in
     let over : s.limits.journal < length s.journal.items + 2 * s.waiting + n = grind (arith, nat_tests, t) in
     omega (arith, c, r, over)
+
+-- where it succeeds, so many entries find room
+pub room_for : (s : Session) (n : ℕ) → Stands s → nat_le (length s.journal.items + 2 * s.waiting + n) s.limits.journal ≡ true → HasRoomFor s n
+room_for s n h t =
+    let c = counted s in
+    let r = kept_room s h in
+    let within : length s.journal.items + 2 * s.waiting + n ≤ s.limits.journal = grind (arith, nat_tests, t) in
+    omega (arith, c, r, within)
+
+-- what open queries keep has room
+pub room_kept_for : (s : Session) → Stands s → HasRoomFor s 0
+room_kept_for s h =
+    let c = counted s in
+    let r = kept_room s h in
+    let within = h.room in
+    omega (arith, c, r, within)
 
 -- an entry that is allowed, after which all is kept
 pub stands_with : (old new : Session) (by : By) (what : What) (more : List (List ℕ))

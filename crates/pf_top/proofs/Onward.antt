@@ -7,9 +7,9 @@ use Rattle.pf_model.specs.Lists.{Each, joined}
 use Rattle.pf_model.specs.Machine.{What, Entry, started}
 use Rattle.pf_model.specs.Report.{line_text, reply_of}
 use Rattle.pf_model.specs.Scripts.{Numbered}
-use Rattle.pf_model.specs.Weave.{Known, IsLineOf, IsMatched, IsWoven, Refusal, Refused, Rises, Turn, asked_of_line, asking_line, asking_of, line_at, turn_of}
+use Rattle.pf_model.specs.Weave.{Known, FoundRoom, IsLineOf, IsMatched, IsUncached, IsWoven, Refusal, Refused, Rises, Turn, asked_of_line, asking_line, asking_of, line_at, moment_of, turn_of}
 use Rattle.pf_script.specs.Lines.{Follows, IsAsk, NamesAsk}
-use Rattle.pf_top.specs.Clients.{IsStep, entries_by, moment_with, turn_with}
+use Rattle.pf_top.specs.Clients.{IsStep, IsUncachedBy, entries_by, moment_with, turn_with}
 use Rattle.pf_top.specs.Going.{HaveTurns, IsAmong}
 use Rattle.pf_top.specs.Sessions.{journal_of, machine_of}
 use Rattle.pf_top.specs.declared.client.Client.{Client}
@@ -37,6 +37,10 @@ each_four P Q R S (x ∷ xs) f p q r = (f x p.0 q.0 r.0, each_four P Q R S xs f 
 each_by : (P : Entry → Type 0) (J : List Entry) (n : ℕ) (w : Option What) → Each P J → ((what : What) → w ≡ Some what → P (record { client = 0; line = n; what = what })) → Each P (J ++ entries_by n w)
 each_by P J n None h f = subst (Each P) (sym (append-nil J)) h
 each_by P J n (Some what) h f = each_push P J _ h (f what refl)
+
+each_uncached : (J : List Entry) (n : ℕ) (w : Option What) → Each (λ (e : Entry). IsUncached e.what) J → IsUncachedBy w → Each (λ (e : Entry). IsUncached e.what) (J ++ entries_by n w)
+each_uncached J n None h u = subst (Each (λ (e : Entry). IsUncached e.what)) (sym (append-nil J)) h
+each_uncached J n (Some what) h u = each_push (λ (e : Entry). IsUncached e.what) J _ h u
 
 each_refused : (P : Refused → Type 0) (rs : List Refused) (n : ℕ) (r : Option Refusal) → Each P rs → ((x : Refusal) → P (record { line = n; refusal = x })) → Each P (rs ++ refused_by n r)
 each_refused P rs n None h f = subst (Each P) (sym (append-nil rs)) h
@@ -78,6 +82,14 @@ module _ (known : Known) (limits : Limits) (lines done : List Numbered) (old new
       subst (λ (t : Turn). IsMatched known names t t.mine) (sym newest)
       (subst (λ (ns : List (List ℕ)). IsMatched known ns (turn_with m l s.refused (asking_of lines (asking_line l.line)) (asked_of_line 0 xs (asking_line l.line)) s.entered)
       (moment_with m l.number s.entered)) s.grown s.woven) in
+      let roomy_before : Each (λ (d : Numbered). FoundRoom limits d.line (moment_of 0 d.number xs_new)) done =
+      each_four _ _ _ _ done
+      (λ (d : Numbered) (r : FoundRoom limits d.line (moment_of 0 d.number xs)) (p : d.number < l.number) (i : IsAmong done (asking_line d.line)).
+      subst (FoundRoom limits d.line) (sym (ap (λ (t : Turn). t.mine) (same d p i))) r)
+      h.roomy f.rising h.names in
+      let roomy_now : FoundRoom limits l.line (moment_of 0 l.number xs_new) =
+      subst (FoundRoom limits l.line) (sym (ap (λ (t : Turn). t.mine) newest))
+      (subst (λ (k : Limits). FoundRoom k l.line (moment_with m l.number s.entered)) limited s.roomy) in
       let told_before : joined (λ (d : Numbered). reply_of limits known.readings (turn_of 0 xs_new rs_new lines d)) done ≡ joined (λ (d : Numbered). reply_of limits known.readings (turn_of 0 xs rs lines d)) done =
       joined_same _ _ done (each_four _ _ _ _ done
       (λ (d : Numbered) (u : Unit {0}) (p : d.number < l.number) (i : IsAmong done (asking_line d.line)). ap (reply_of limits known.readings) (same d p i))
@@ -97,6 +109,9 @@ module _ (known : Known) (limits : Limits) (lines done : List Numbered) (old new
         woven = subst (λ (ns : List (List ℕ)). Each (λ (d : Numbered). IsWoven known ns (turn_of 0 (moments (journal_of new.session)) rs_new lines d)) (done ++ l ∷ [])) (sym s.grown)
             (subst (λ (ys : List Moment). Each (λ (d : Numbered). IsWoven known names (turn_of 0 ys rs_new lines d)) (done ++ l ∷ [])) (sym (behind s))
             (each_push _ done l woven_before woven_now));
+        roomy = subst (λ (ys : List Moment). Each (λ (d : Numbered). FoundRoom limits d.line (moment_of 0 d.number ys)) (done ++ l ∷ [])) (sym (behind s))
+            (each_push _ done l roomy_before roomy_now);
+        uncached = subst (Each (λ (e : Entry). IsUncached e.what)) (sym s.journal) (each_uncached J l.number s.entered h.uncached s.uncached);
         told = subst (λ (ys : List Moment). new.out.items ≡ head ++ joined (λ (d : Numbered). reply_of limits known.readings (turn_of 0 ys rs_new lines d)) (done ++ l ∷ [])) (sym (behind s)) told;
         entries = subst (Each (λ (e : Entry). (e.client ≡ 0) × IsLineOf (done ++ l ∷ []) e.line)) (sym s.journal)
             (each_by _ J l.number s.entered

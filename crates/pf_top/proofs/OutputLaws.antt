@@ -10,7 +10,7 @@ use Rattle.pf_model.specs.Scripts.{Numbered, script_of, script_word, most_bytes}
 use Rattle.pf_model.specs.Weave.{Files}
 use Rattle.pf_script.specs.Lines.{AllFollow, IsRead, lines_of}
 use Rattle.pf_script.specs.declared.script.Script.{Script}
-use Rattle.pf_top.specs.Correct.{ReadsAs, ReadsAsNone, AreScripts, IsUnbuilt, NamesFile, Reported, Outside, Correct, IsOutput}
+use Rattle.pf_top.specs.Correct.{ReadsAs, ReadsAsNone, AreScripts, IsUnbuilt, NamesFile, Reported, EndsWell, Outside, Correct, IsOutput}
 use Rattle.pf_top.specs.Drives.{AreShort, CanRun, IsReport}
 use Rattle.pf_top.specs.Files.{AreLoaded, Contents, HoldsContent, IsKept}
 use Rattle.pf_top.specs.Queries.{AreReadAs, IsKeptFor}
@@ -52,6 +52,7 @@ reported_by limits files words name lines full text word read r = record {
   legal = r.legal;
   known = r.known;
   woven = r.woven;
+  uncached = r.uncached;
   met = r.met;
   whole = r.whole;
 }
@@ -145,6 +146,11 @@ grows_none : (told : Option (List ℕ)) → Grows told told []
 grows_none None = tt
 grows_none (Some bytes) = ap Some (sym (append-nil bytes))
 
+ends_otherwise : (status : ℕ) → (status ≡ 0 → ⊥) → (status ≡ 8 → ⊥) → (status ≡ 9 → ⊥) → EndsWell status → ⊥
+ends_otherwise status a b c (inl e) = a e
+ends_otherwise status a b c (inr (inl e)) = b e
+ends_otherwise status a b c (inr (inr e)) = c e
+
 -- memory ran out before anything was written
 pub starved_run : (limits : Limits) (o : Outside) (words : List (List ℕ)) → o.new ≡ o.old → Correct limits o words 6
 starved_run limits o words same = record {
@@ -154,47 +160,53 @@ starved_run limits o words same = record {
   starved = λ _. subst (λ (t : Option (List ℕ)). Grows o.old t []) (sym same) (grows_none o.old);
   filled = λ e. absurd (omega (arith, e));
   unbuilt = λ e. absurd (omega (arith, e));
+  steady = λ e. absurd (ends_otherwise 6 (λ a. omega (arith, a)) (λ a. omega (arith, a)) (λ a. omega (arith, a)) e);
   known = inr (inr (inr (inl refl)));
 }
 
 -- all was written
 pub written_run : (limits : Limits) (o : Outside) (words : List (List ℕ)) (status : ℕ) (text : List ℕ)
     → IsWordsOutput limits o.files o.files_before o.files_after words status text → Grows o.old o.new text
+    → ((status ≡ 4 → ⊥) → o.files_after ≡ o.files_before) → o.out_after ≡ o.out_before
     → Correct limits o words status
-written_run limits o words status text (inl (is, done)) grows = record {
+written_run limits o words status text (inl (is, done)) grows files_steady out_steady = record {
   ended = λ _. (text, (done, grows));
   unread = λ e. absurd (omega (arith, is, e));
   unwritten = λ e. absurd (omega (arith, is, e));
   starved = λ e. absurd (omega (arith, is, e));
   filled = λ e. absurd (omega (arith, is, e));
   unbuilt = λ e. absurd (omega (arith, is, e));
+  steady = λ _. (files_steady (λ e. omega (arith, is, e)), out_steady);
   known = inl is;
 }
-written_run limits o words status text (inr (inl (is, done))) grows = record {
+written_run limits o words status text (inr (inl (is, done))) grows files_steady out_steady = record {
   ended = λ e. absurd (omega (arith, is, e));
   unread = λ e. absurd (omega (arith, is, e));
   unwritten = λ e. absurd (omega (arith, is, e));
   starved = λ e. absurd (omega (arith, is, e));
   filled = λ _. (text, (done, grows));
   unbuilt = λ e. absurd (omega (arith, is, e));
+  steady = λ _. (files_steady (λ e. omega (arith, is, e)), out_steady);
   known = inr (inr (inr (inr (inl is))));
 }
-written_run limits o words status text (inr (inr (inl (is, done)))) grows = record {
+written_run limits o words status text (inr (inr (inl (is, done)))) grows files_steady out_steady = record {
   ended = λ e. absurd (omega (arith, is, e));
   unread = λ _. (text, (done, grows));
   unwritten = λ e. absurd (omega (arith, is, e));
   starved = λ e. absurd (omega (arith, is, e));
   filled = λ e. absurd (omega (arith, is, e));
   unbuilt = λ e. absurd (omega (arith, is, e));
+  steady = λ e. absurd (ends_otherwise status (λ a. omega (arith, is, a)) (λ a. omega (arith, is, a)) (λ a. omega (arith, is, a)) e);
   known = inr (inl is);
 }
-written_run limits o words status text (inr (inr (inr (is, done)))) grows = record {
+written_run limits o words status text (inr (inr (inr (is, done)))) grows files_steady out_steady = record {
   ended = λ e. absurd (omega (arith, is, e));
   unread = λ e. absurd (omega (arith, is, e));
   unwritten = λ e. absurd (omega (arith, is, e));
   starved = λ e. absurd (omega (arith, is, e));
   filled = λ e. absurd (omega (arith, is, e));
   unbuilt = λ _. (text, (done, grows));
+  steady = λ _. (files_steady (λ e. omega (arith, is, e)), out_steady);
   known = inr (inr (inr (inr (inr is))));
 }
 
@@ -228,6 +240,7 @@ unwritten_run limits o words status text given output same rose n part = record 
   starved = λ e. absurd (omega (arith, e));
   filled = λ e. absurd (omega (arith, e));
   unbuilt = λ e. absurd (omega (arith, e));
+  steady = λ e. absurd (ends_otherwise 5 (λ a. omega (arith, a)) (λ a. omega (arith, a)) (λ a. omega (arith, a)) e);
   known = inr (inr (inl refl));
 }
 

@@ -70,6 +70,7 @@ reported limits loaded lines n c full text told files_held right built r met pri
       rising = t.rising;
       lined = each_map _ (λ (e : Entry). e.client ≡ 0 → IsLineOf (take n lines) e.line) (λ (e : Entry) (p : (e.client ≡ 0) × IsLineOf (take n lines) e.line). λ k. p.1) J t.entries;
       each = t.woven;
+      roomy = t.roomy;
       stops = subst (λ (l : Limits). StopsAt known l J 0 (slice_get lines n) full) g.limited
           (subst (StopsAt known c.session.limits J 0 (slice_get lines n)) (sym met) (stops_at known c (slice_get lines n) (r.stopped known held)));
     } in
@@ -91,6 +92,7 @@ reported limits loaded lines n c full text told files_held right built r met pri
         read = reading_right loaded.queries right;
         nobody_else = each_map _ _ (λ (e : Entry) (p : (e.client ≡ 0) × IsLineOf (take n lines) e.line). let z = p.0 in omega (arith, z)) J t.entries;
       };
+      uncached = t.uncached;
       met = met_by full stop refl;
       whole = printed
           ∙ ap (λ (o : List ℕ). o ++ (stop_reply full (slice_get lines n) ++ journal_text names J)) t.told

@@ -7,7 +7,7 @@ use Rattle.pf_model.specs.Legal.{Moment}
 use Rattle.pf_model.specs.Machine.{What, Entry, Machine}
 use Rattle.pf_model.specs.Report.{reply_of}
 use Rattle.pf_model.specs.Scripts.{Line, Numbered}
-use Rattle.pf_model.specs.Weave.{Known, Gives, IsMatched, IsRefusedAs, Refusal, Turn, WantsRoom, at_line, too_long}
+use Rattle.pf_model.specs.Weave.{Known, FoundRoom, Gives, IsMatched, IsRefusedAs, IsUncached, Refusal, Turn, WantsRoom, at_line, too_long}
 use Rattle.pf_top.specs.Sessions.{Stands, IsFull, journal_of, machine_of}
 use Rattle.pf_top.specs.declared.client.Client.{Client}
 use Rattle.pf_top.specs.declared.client.FileFault.{FileFault}
@@ -38,7 +38,12 @@ abbrev pub turn_with : Machine → Numbered → Option Refusal → Option Line �
 turn_with m l refused asking asked what =
     record { line = l; mine = moment_with m l.number what; refused = refused; asking = asking; asked = asked }
 
--- a line was run: it entered at most one entry, which fits it, and its reply was told
+-- an entry of which no step came from a cache, if there is one
+abbrev pub IsUncachedBy : Option What → Type 0
+IsUncachedBy None = Unit {0}
+IsUncachedBy (Some what) = IsUncached what
+
+-- a line was run: it entered at most one entry, which fits it and found room, and its reply was told
 pub record IsStep (known : Known) (old : Client) (l : Numbered) (asking : Option Line) (asked : Option Moment) (new : Client) : Type 0 where
   pub entered : Option What
   pub refused : Option Refusal
@@ -49,6 +54,8 @@ pub record IsStep (known : Known) (old : Client) (l : Numbered) (asking : Option
   pub grown : new.session.names.items ≡ old.session.names.items ++ more
   pub woven : IsMatched known new.session.names.items (turn_with (machine_of old.session) l refused asking asked entered)
       (moment_with (machine_of old.session) l.number entered)
+  pub roomy : FoundRoom old.session.limits l.line (moment_with (machine_of old.session) l.number entered)
+  pub uncached : IsUncachedBy entered
   pub told : new.out.items
       ≡ old.out.items ++ reply_of old.session.limits known.readings (turn_with (machine_of old.session) l refused asking asked entered)
 

@@ -8,7 +8,7 @@ use Rattle.pf_model.specs.Machine.{Entry}
 use Rattle.pf_model.specs.Queries.{IsBuiltQuery, IsBuiltSelector, IsUnbuiltQuery, IsUnbuiltSelector}
 use Rattle.pf_model.specs.Report.{report}
 use Rattle.pf_model.specs.Scripts.{Line, Numbered, ingest, delete, ask, answer, script_of, script_word}
-use Rattle.pf_model.specs.Weave.{Rest, Stop, Weave}
+use Rattle.pf_model.specs.Weave.{IsUncached, Rest, Stop, Weave}
 use Rattle.pf_top.specs.Refusals.{refused_read, refused_not_built}
 
 -- where bytes are told, reading gives this of them
@@ -70,6 +70,7 @@ pub record Reported (limits : Limits) (files : List ℕ → Option (List ℕ)) (
   pub legal : Legal limits names journal
   pub known : AreNames names journal
   pub woven : Weave files limits names journal scripts rest
+  pub uncached : Each (λ e. IsUncached e.what) journal
   pub met : HaveMetFull full rest.stops
   pub whole : text ≡ report limits names journal scripts rest
 
@@ -123,6 +124,14 @@ IsOutput limits o words text =
     ((full : Bool) × Reported limits o.files words full text)
     ⊎ (Unread o.files o.files_before o.files_after words text ⊎ Unbuilt o.files words text)
 
+-- no count of faults rose
+abbrev pub IsSteady : Outside → Type 0
+IsSteady o = (o.files_after ≡ o.files_before) × (o.out_after ≡ o.out_before)
+
+-- the statuses of a report and of a form that is not built
+abbrev pub EndsWell : ℕ → Type 0
+EndsWell status = (status ≡ 0) ⊎ ((status ≡ 8) ⊎ (status ≡ 9))
+
 -- the claim, status by status
 pub record Correct (limits : Limits) (o : Outside) (words : List (List ℕ)) (status : ℕ) : Type 0 where
   -- 0: the report was written, and no client met the full journal
@@ -137,5 +146,7 @@ pub record Correct (limits : Limits) (o : Outside) (words : List (List ℕ)) (st
   pub filled : status ≡ 8 → Writes (Reported limits o.files words true) o.old o.new
   -- 9: a form that is not built
   pub unbuilt : status ≡ 9 → Writes (Unbuilt o.files words) o.old o.new
+  -- 0, 8 and 9 come after no fault
+  pub steady : EndsWell status → IsSteady o
   -- there is no other status
   pub known : (status ≡ 0) ⊎ ((status ≡ 4) ⊎ ((status ≡ 5) ⊎ ((status ≡ 6) ⊎ ((status ≡ 8) ⊎ (status ≡ 9)))))

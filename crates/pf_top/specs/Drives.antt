@@ -7,7 +7,7 @@ use Rattle.pf_model.specs.Legal.{AreNames, Legal}
 use Rattle.pf_model.specs.Machine.{Entry}
 use Rattle.pf_model.specs.Report.{report}
 use Rattle.pf_model.specs.Scripts.{Numbered}
-use Rattle.pf_model.specs.Weave.{Files, Known, Rest, Weave}
+use Rattle.pf_model.specs.Weave.{Files, IsUncached, Known, Rest, Weave}
 use Rattle.pf_script.specs.Lines.{AllFollow, IsRead, lines_of}
 use Rattle.pf_script.specs.declared.script.Script.{Script}
 use Rattle.pf_top.specs.Clients.{IsStopped}
@@ -56,5 +56,6 @@ pub record IsReport (limits : Limits) (files : Files) (lines : List Numbered) (f
   pub legal : Legal limits names journal
   pub known : AreNames names journal
   pub woven : Weave files limits names journal (lines ∷ []) rest
+  pub uncached : Each (λ e. IsUncached e.what) journal
   pub met : HaveMetFull full rest.stops
   pub whole : text ≡ report limits names journal (lines ∷ []) rest

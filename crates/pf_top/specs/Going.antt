@@ -9,7 +9,7 @@ use Rattle.pf_model.specs.Lists.{Each, joined}
 use Rattle.pf_model.specs.Queries.{Readings}
 use Rattle.pf_model.specs.Report.{line_text, reply_of}
 use Rattle.pf_model.specs.Scripts.{Numbered}
-use Rattle.pf_model.specs.Weave.{Known, IsLineOf, IsWoven, Refused, Rises, asking_line, line_at, moment_of, turn_of}
+use Rattle.pf_model.specs.Weave.{Known, FoundRoom, IsLineOf, IsUncached, IsWoven, Refused, Rises, asking_line, line_at, moment_of, turn_of}
 use Rattle.pf_script.specs.Lines.{Follows, IsAsk, IsRead, numbered_of}
 use Rattle.pf_script.specs.declared.script.NumberedLine.{NumberedLine}
 use Rattle.pf_top.specs.Asks.{SlotRight}
@@ -38,6 +38,8 @@ IsUnanswered lines k = Each (λ l. asking_line l.line ≡ Some k → ⊥) lines
 pub record HaveTurns (known : Known) (limits : Limits) (lines done : List Numbered) (c : Client) : Type 0 where
   pub refused : List Refused
   pub woven : Each (λ l. IsWoven known c.session.names.items (turn_of 0 (moments (journal_of c.session)) refused lines l)) done
+  pub roomy : Each (λ l. FoundRoom limits l.line (moment_of 0 l.number (moments (journal_of c.session)))) done
+  pub uncached : Each (λ e. IsUncached e.what) (journal_of c.session)
   pub told : c.out.items ≡ line_text (codes "client" ∷ decimal 0 ∷ [])
       ++ joined (λ l. reply_of limits known.readings (turn_of 0 (moments (journal_of c.session)) refused lines l)) done
   pub entries : Each (λ e. (e.client ≡ 0) × IsLineOf done e.line) (journal_of c.session)

@@ -140,6 +140,10 @@ pub record IsEnteredFor (old : Session) (by : By) (tenant : List ℕ) (what : �
 abbrev pub IsFull : Session → ℕ → Type 0
 IsFull s n = s.limits.journal < (machine_of s).count + reserved (machine_of s).queries + n
 
+-- so many entries more find room
+abbrev pub HasRoomFor : Session → ℕ → Type 0
+HasRoomFor s n = (machine_of s).count + reserved (machine_of s).queries + n ≤ s.limits.journal
+
 -- why a change was refused, and what it leaves
 abbrev pub IsRefused : Session → By → List ℕ → (room : ℕ) → ChangeError → Session → Type 0
 IsRefused old by tenant room TooManyTenants new = IsEntered old by (no_tenant tenant) new
@@ -226,8 +230,8 @@ pub record IsAsked (old : Session) (by : By) (tenant : List ℕ) (wanted : direc
 -- why an ask was refused, and what it leaves
 abbrev pub IsUnasked : Session → By → List ℕ → AskError → Session → Type 0
 IsUnasked old by tenant (ask_error.JournalFull) new = IsFull old 3 × (new ≡ old)
-IsUnasked old by tenant (ask_error.TooManyTenants) new = IsEntered old by (no_tenant tenant) new
-IsUnasked old by tenant (ask_error.Full) new = IsEnteredFor old by tenant (λ u. full u old.limits.outstanding) new
+IsUnasked old by tenant (ask_error.TooManyTenants) new = HasRoomFor old 3 × IsEntered old by (no_tenant tenant) new
+IsUnasked old by tenant (ask_error.Full) new = HasRoomFor old 3 × IsEnteredFor old by tenant (λ u. full u old.limits.outstanding) new
 IsUnasked old by tenant (ask_error.OutOfMemory) new = Unit {0}
 
 -- an answer stands at the journal's end, and a query less is kept

@@ -1,6 +1,6 @@
 //! The call that does all that the program does.
 
-ghost use Rattle.std.specs.Prelude.{◌≡◌, ◌≤◌, ℕ, List, [], IfOk, vec_len};
+ghost use Rattle.std.specs.Prelude.{◌≡◌, ◌≢◌, ◌≤◌, ℕ, List, [], IfOk, vec_len};
 ghost use Rattle.pf_model.specs.Lists.{Each};
 ghost use Rattle.pf_script.specs.Lines.{AllFollow, IsRead, lines_of};
 ghost use Rattle.pf_model.specs.Weave.{Files};
@@ -106,6 +106,7 @@ fn replay_script<F: Files>(
     requires read { Each IsRead script.now.lines.items }
     requires following { AllFollow [] (lines_of script.now) }
     ensures output { IfOk result (λ o. IsScriptOutput limits (F.told files.old) (F.faults files.old) (F.faults files.new) (lines_of script.now) o.status o.text.items) }
+    ensures steady { IfOk result (λ o. o.status ≢ 4 → F.faults files.new ≡ F.faults files.old) }
     ensures counted { F.faults files.old ≤ F.faults files.new }
 {
     match load_all(alloc, files, script) {
@@ -125,6 +126,7 @@ fn replay<F: Files>(
     requires journal { limits.journal ≤ 4000000 }
     requires some { 1 ≤ limits.outstanding }
     ensures output { IfOk result (λ o. IsWordsOutput limits (F.told files.old) (F.faults files.old) (F.faults files.new) words.now o.status o.text.items) }
+    ensures steady { IfOk result (λ o. o.status ≢ 4 → F.faults files.new ≡ F.faults files.old) }
     ensures counted { F.faults files.old ≤ F.faults files.new }
 {
     let Some(name) = script_name(words) else {

@@ -81,6 +81,7 @@ impl<T: Drop> From<AllocFailed<T>> for LoadError {
 pub fn read_file<F: Files>(alloc: Global, files: &mut F, name: &str) -> Result<Content, ReadError>
     ensures contents { IfOk result (HoldsContent (F.told files.old name.now)) }
     ensures failed { result ≡ Err ReadError.Failed → Rose (F.faults files.old) (F.faults files.new) }
+    ensures steady { result ≢ Err ReadError.Failed → F.faults files.new ≡ F.faults files.old }
     ensures short { result ≡ Err ReadError.TooLong → ⊥ }
     ensures counted { F.faults files.old ≤ F.faults files.new }
     ensures kept { (other : List ℕ) → F.told files.new other ≡ F.told files.old other }
@@ -127,6 +128,7 @@ fn load_one<F: Files>(
     requires { AreHeld (F.told files.old) loaded.old }
     ensures ok { OnOk result (IsLoaded (F.told files.old) loaded.old name.now loaded.new) }
     ensures err { IfErr result (IsUnread (λ n. n ≡ name.now) (F.faults files.old) (F.faults files.new)) }
+    ensures steady { OnOk result (F.faults files.new ≡ F.faults files.old) }
     ensures counted { F.faults files.old ≤ F.faults files.new }
     ensures kept { (other : List ℕ) → F.told files.new other ≡ F.told files.old other }
 {
@@ -155,6 +157,7 @@ fn load_for<F: Files>(
     requires { AreHeld (F.told files.old) loaded.old }
     ensures ok { OnOk result (IsLoadedFor (F.told files.old) loaded.old (numbered_of line.now) loaded.new) }
     ensures err { IfErr result (IsUnread (LineNames (numbered_of line.now).line) (F.faults files.old) (F.faults files.new)) }
+    ensures steady { OnOk result (F.faults files.new ≡ F.faults files.old) }
     ensures counted { F.faults files.old ≤ F.faults files.new }
     ensures kept { (other : List ℕ) → F.told files.new other ≡ F.told files.old other }
 {
@@ -175,6 +178,7 @@ pub fn load_all<F: Files>(
 ) -> Result<Contents, LoadError>
     ensures ok { IfOk result (AreLoaded (F.told files.old) (lines_of script.now)) }
     ensures err { IfErr result (IsUnread (NamesFile (lines_of script.now)) (F.faults files.old) (F.faults files.new)) }
+    ensures steady { OnOk result (F.faults files.new ≡ F.faults files.old) }
     ensures counted { F.faults files.old ≤ F.faults files.new }
 {
     let mut loaded = BTreeMap::new(alloc);

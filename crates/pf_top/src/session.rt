@@ -7,7 +7,7 @@ ghost use Rattle.pf_model.specs.Log.{Change};
 ghost use Rattle.pf_store.specs.Standing.{IsLog, IsPin, LogData};
 ghost use Rattle.pf_model.specs.Machine.{AnswersRight, Open, answer, append, ask, full, no_tenant, open_at};
 ghost use Rattle.pf_top.specs.Entries.{asked_in, what_of};
-ghost use Rattle.pf_top.specs.Sessions.{Admits, IsAdded, IsAppended, IsAsked, IsClosed, IsCutOut, IsDeleted, IsEntered, IsNoted, IsOpened, IsQuery, IsRefused, IsTakenIn, IsUnasked, Stands, journal_of, machine_of};
+ghost use Rattle.pf_top.specs.Sessions.{Admits, IsAdded, IsAppended, IsAsked, IsClosed, IsCutOut, IsDeleted, IsEntered, IsNoted, IsOpened, IsQuery, IsRefused, IsTakenIn, IsUnasked, HasRoomFor, Stands, journal_of, machine_of};
 
 use crate::entry::{Asked, Entry, What};
 use crate::tenants::number_of;
@@ -337,6 +337,7 @@ impl Session {
     pub fn ask(&mut self, by: By, tenant: &Tenant, asked: Arc<Asked>) -> Result<Query, AskError>
         requires { Stands self.old }
         ensures ok { IfOk result (λ q. IsAsked self.old by tenant.now (asked_in (arc_value asked)) q self.new) }
+        ensures room { IfOk result (λ _. HasRoomFor self.old 3) }
         ensures err { IfErr result (λ e. IsUnasked self.old by tenant.now e self.new) }
     {
         if !self.has_room(3) {

@@ -1,4 +1,4 @@
-use Rattle.std.proofs.Common.{length, ◌-◌, ◌≤◌, take}
+use Rattle.std.proofs.Common.{◌≡◌, length, ◌-◌, ◌≤◌, take}
 use Rattle.pf_io.specs.Outside.{Grows}
 use Rattle.pf_io.proofs.put.put_all.Given as goal
 
@@ -6,6 +6,7 @@ abbrev pub invariant-loop-at : goal.invariant-loop-at
 invariant-loop-at g l = record {
   within : l.at ≤ length l.bytes;
   written : Grows (g.O.Sink.told l.initial.out) (g.O.Sink.told l.out) (take l.at l.bytes);
+  steady : g.O.Sink.faults l.out ≡ g.O.Sink.faults l.initial.out;
   counted : g.O.Sink.faults l.initial.out ≤ g.O.Sink.faults l.out;
 }
 

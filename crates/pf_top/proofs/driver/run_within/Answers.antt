@@ -6,6 +6,7 @@ use Rattle.pf_top.proofs.driver.run_within.Goals as goal
 pub returns-in-Ok-put_all : goal.returns-in-Ok-put_all
 returns-in-Ok-put_all g c =
     written_run c.args.limits _ c.args.words.now c.in-Ok.output.status c.in-Ok.output.text.items c.in-Ok.ensures.output (search rules)
+    c.in-Ok.ensures.steady (search rules)
 
 pub returns-in-Err : goal.returns-in-Err
 returns-in-Err g c =

@@ -10,6 +10,7 @@ loop-line-preserved g c = record {
   loaded = loaded_more (g.F.Files.told c.args.files.now) (g.F.Files.told c.loop-line.files) c.args.script.now.lines.items c.loop-line.line-index c.line-item.result c.loop-line.loaded c.load_for.new.loaded
       (search rules) (search rules) c.loop-line.invariant.told c.loop-line.invariant.loaded (search rules);
   told = search rules;
+  steady = search rules;
   counted = search rules;
 }
 

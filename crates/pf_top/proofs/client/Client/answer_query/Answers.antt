@@ -5,7 +5,7 @@ use Rattle.pf_top.proofs.client.Client.answer_query.Goals as goal
 pub returns-clause-step : goal.returns-clause-step
 returns-clause-step c told line asking moment right =
     step_answered told c.args.self.now _ c.answer.new.self c.by.result c.args.number c.args.id.now line asking moment c.args.query.now c.in_ok-matrix.matrix
-    refl (search rules) (search rules) (search rules) (search rules) (search rules) right
+    refl c.requires.stands (search rules) (search rules) (search rules) (search rules) (search rules) right
 
 pub returns-clause-still : goal.returns-clause-still
 returns-clause-still c = leaves_answered c.args.self.now.session c.answer.new.self c.by.result c.args.query.now 200 0 c.len-evaluated.result (search rules)

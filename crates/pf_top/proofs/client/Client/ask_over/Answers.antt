@@ -8,7 +8,7 @@ pub returns-in_ok-open_query-in-Ok : goal.returns-in_ok-open_query-in-Ok
 returns-in_ok-open_query-in-Ok c = record {
   runs = λ told start end step query asked.
       asked_by told c.args.self.now c.open_query.new.self c.ask.new.self c.by.result c.args.number c.args.id.now c.args.tenant.now start end step query (asked_in (arc_value c.args.asked)) c.in-Ok.query
-      (search rules) (search rules) (search rules) (search rules) asked (search rules) (search rules);
+      (search rules) (search rules) (search rules) (search rules) (search rules) asked (search rules) (search rules);
 }
 
 pub returns-in_ok-refuse_ask-in-Err-TooManyTenants : goal.returns-in_ok-refuse_ask-in-Err-TooManyTenants

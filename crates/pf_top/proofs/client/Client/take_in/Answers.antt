@@ -1,7 +1,7 @@
 use Rattle.std.proofs.Common.{rules, refl, None}
 use Rattle.std.specs.Arc.{arc_value}
 use Rattle.pf_model.specs.Machine.{no_tenant}
-use Rattle.pf_top.proofs.Steps.{step_entered, same_entered, step_ingested, same_ingested}
+use Rattle.pf_top.proofs.Steps.{entered_roomy, step_entered, same_entered, step_ingested, same_ingested}
 use Rattle.pf_top.proofs.client.Client.take_in.Goals as goal
 
 pub returns-in_ok-push_ingested-in-Ok-clause-runs : goal.returns-in_ok-push_ingested-in-Ok-clause-runs
@@ -16,7 +16,7 @@ returns-in_ok-push_ingested-in-Ok-clause-same c =
 pub returns-in_ok-push_reply-in-Err-TooManyTenants-clause-runs : goal.returns-in_ok-push_reply-in-Err-TooManyTenants-clause-runs
 returns-in_ok-push_reply-in-Err-TooManyTenants-clause-runs c files gives =
     step_entered files c.args.self.now _ c.by.result _ (no_tenant c.args.tenant.now) None None (search rules) (search rules) (search rules)
-    (refl, (c.args.batch, gives)) (search rules)
+    (refl, (c.args.batch, gives)) (entered_roomy c.args.self.now.session c.append.new.self c.by.result (no_tenant c.args.tenant.now) (search rules) refl) tt (search rules)
 
 pub returns-in_ok-push_reply-in-Err-TooManyTenants-clause-same : goal.returns-in_ok-push_reply-in-Err-TooManyTenants-clause-same
 returns-in_ok-push_reply-in-Err-TooManyTenants-clause-same c =
