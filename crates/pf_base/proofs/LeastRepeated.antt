@@ -1,5 +1,5 @@
 -- In pairs that ascend, the first name that the next pair has too is the least name that stands twice.
-use Rattle.std.proofs.Common.{◌≡◌, ℕ, ◌+◌, Bool, true, false, cond, List, [], ◌∷◌, refl, sym, ap, ◌∙◌, arith, Some, Option, Ordering, get_or, ltb}
+use Rattle.std.proofs.Common.{◌≡◌, ℕ, ◌+◌, ◌≤◌, Bool, true, false, cond, List, [], ◌∷◌, refl, sym, ap, ◌∙◌, arith, None, Some, Option, Ok, Ordering, filter, get_or, length, ltb, nat_lt}
 use Rattle.std.specs.List.{All, find, count_by}
 use Rattle.std.specs.Option.{option_map}
 use Rattle.std.specs.Str.{bytes_eq}
@@ -7,12 +7,13 @@ use Rattle.std.specs.Cmp.{alike_right}
 use Rattle.std.specs.Cmp.Lexicographic.{slice_cmp, nat_list_cmp_total, nat_list_eq_equiv}
 use Rattle.std.specs.Ordering.{nat_cmp, is_gt, is_eq, ordering_then}
 use Rattle.std.specs.declared.cmp.Ordering.TheVariants.{Less, Equal, Greater}
+use Rattle.std.proofs.lemmas.Bool.Decides.{nat_tests}
 use Rattle.std.proofs.lemmas.List.Elements.{All-head, All-tail, All-cons}
 use Rattle.std.proofs.lemmas.List.Sums.{sum_by-cons}
 use Rattle.std.proofs.lemmas.Map.Text.{is_eq-slice_cmp}
-use Rattle.pf_base.specs.LabelSets.{Pairs}
+use Rattle.pf_base.specs.LabelSets.{Pairs, has_value}
 use Rattle.pf_base.specs.LabelOrder.{pair_cmp, pair_total}
-use Rattle.pf_base.specs.LabelBuild.{stands_twice, least_repeated}
+use Rattle.pf_base.specs.LabelBuild.{bad_name, build_of, stands_twice, least_repeated}
 use Rattle.pf_base.specs.LabelWalk.{repeated_name, repeated_after}
 use Rattle.pf_base.specs.Sorting.{ins, isort}
 use Rattle.pf_base.proofs.Sorting.{Ascends, ascends_isort}
@@ -151,3 +152,11 @@ least_is ps ss e =
     ap repeated_name e ∙ walked (isort pair_cmp ps) (ascends_isort pair_cmp pair_total ps)
     ∙ ap (option_map (λ p. p.0)) (find_agree (stands_twice (isort pair_cmp ps)) (stands_twice ps) (isort pair_cmp ps)
     (λ k d l. ap (λ n. ltb 1 n) (uses_isort ps (get_or (isort pair_cmp ps) k d).0)))
+
+-- what is built where nothing is refused
+pub built : (ps ss ks ls : Pairs) → bad_name ps ≡ None → ss ≡ isort pair_cmp ps → repeated_name ss ≡ None → ks ≡ filter has_value ss → length ks ≤ 64 → ls ≡ ks → build_of ps ≡ Ok ls
+built ps ss ks ls b e r k few l =
+    let g = sym (least_is ps ss e) ∙ r in
+    let m : filter has_value (isort pair_cmp ps) ≡ ls = ap (filter has_value) (sym e) ∙ sym k ∙ sym l in
+    let n : nat_lt 64 (length ls) ≡ false = grind (arith, nat_tests, ap length l) in
+    rw b (rw g (rw m (rw n refl)))

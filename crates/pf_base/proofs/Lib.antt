@@ -1,6 +1,7 @@
 mod Numbers
 mod Worked
 mod EndZeros
+pub mod Hashes
 pub mod GridTimes
 mod WorkedGrids
 pub mod LabelFacts

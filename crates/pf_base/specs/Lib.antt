@@ -6,6 +6,7 @@ pub mod GridLists
 pub mod Grids
 pub mod LabelBuild
 pub mod LabelChanges
+pub mod LabelHash
 pub mod LabelOrder
 pub mod LabelSets
 pub mod NumberScans

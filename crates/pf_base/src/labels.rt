@@ -12,9 +12,10 @@ mod build;
 mod changes;
 mod shard;
 
+use crate::memory::OutOfMemory;
 use crate::text::Text;
 pub use build::is_label_name;
-use std::alloc::AllocError;
+use std::alloc::{AllocError, Global};
 use std::cmp::Ordering;
 use std::hash::{Hash, Hasher};
 use std::marker::Model;
@@ -35,23 +36,31 @@ pub enum LabelsError {
     OutOfMemory,
 }
 
+/// Pairs, and the FNV-1a hash of all of them.
+#[derive(Debug, Drop)]
+struct LabelBody {
+    hash: u64,
+    pairs: Vec<(Text, Text)>,
+}
+
 /// A label set: pairs of a name and a value in the order of their names, with distinct names and no empty value. The
-/// pairs are shared, so that a copy costs a reference count.
+/// pairs are shared, so that a copy costs a reference count, and stand beside their hash, which comparisons for equality
+/// read first.
 #[derive(Debug, Drop)]
 pub struct Labels {
-    pairs: Arc<Vec<(Text, Text)>>,
+    body: Arc<LabelBody>,
 }
 
 impl Model for Labels {
     ghost use Rattle.std.specs.Prelude.{List, ℕ};
     ghost use Rattle.std.specs.Arc.{arc_value};
-    ghost use Rattle.pf_base.specs.LabelSets.{IsLabels};
+    ghost use Rattle.pf_base.specs.LabelHash.{IsHashed};
 
     ghost Value = { List (List ℕ × List ℕ) };
 
-    ghost view = { λ l. (arc_value l.pairs).items };
+    ghost view = { λ l. (arc_value l.body).pairs.items };
 
-    ghost invariant = { λ l. IsLabels (arc_value l.pairs).items };
+    ghost invariant = { λ l. IsHashed (arc_value l.body).pairs.items (arc_value l.body).hash };
 }
 
 impl Clone for Labels {
@@ -61,7 +70,7 @@ impl Clone for Labels {
         ensures { IfOk result (λ l. l ≡ self.now) }
     {
         Ok(Labels {
-            pairs: Arc::try_clone(&self.pairs)?,
+            body: Arc::try_clone(&self.body)?,
         })
     }
 }
@@ -71,8 +80,9 @@ impl PartialEq for Labels {
 
     ghost laws = { partial_equiv_from_equiv labels_equiv };
 
+    #[tactic(auto, using(crate::proofs::Hashes::apart))]
     fn eq(&self, other: &Labels) -> bool {
-        *self.pairs == *other.pairs
+        self.body.hash == other.body.hash && self.body.pairs == other.body.pairs
     }
 }
 
@@ -100,7 +110,7 @@ impl Ord for Labels {
     ghost matches_eq = { labels_ties };
 
     fn cmp(&self, other: &Labels) -> Ordering {
-        self.pairs.as_slice().cmp(other.pairs.as_slice())
+        self.body.pairs.as_slice().cmp(other.body.pairs.as_slice())
     }
 }
 
@@ -110,7 +120,7 @@ impl Hash for Labels {
     ghost respects_eq = { Prim.search (hashing, rules, labels_decides) };
 
     fn hash<H: Hasher>(&self, state: &mut H) {
-        self.pairs.as_slice().hash(state);
+        self.body.pairs.as_slice().hash(state);
     }
 }
 
@@ -120,14 +130,25 @@ impl Labels {
         ensures value { result ≡ length self.now }
         ensures labels { IsLabels self.now }
     {
-        self.pairs.len() as u32
+        self.body.pairs.len() as u32
+    }
+
+    /// The label set of these pairs.
+    fn of(alloc: Global, pairs: Vec<(Text, Text)>) -> Result<Labels, OutOfMemory>
+        requires { IsLabels pairs.items }
+        ensures { IfOk result (λ l. l ≡ pairs.items) }
+    {
+        let hash = shard::hash_all(&pairs);
+        Ok(Labels {
+            body: Arc::new(alloc, LabelBody { hash, pairs })?,
+        })
     }
 
     /// The value of a name, empty where there is none.
     pub fn get(&self, name: &str) -> &str
         ensures { result.now ≡ value_of self.now name.now }
     {
-        for pair in self.pairs.iter() {
+        for pair in self.body.pairs.iter() {
             if pair.0.as_str() == name {
                 return pair.1.as_str();
             }
@@ -140,7 +161,7 @@ impl Labels {
         requires { i < length self.now }
         ensures { result.now ≡ name_at self.now i }
     {
-        let pair = &self.pairs[i as usize];
+        let pair = &self.body.pairs[i as usize];
         pair.0.as_str()
     }
 
@@ -149,7 +170,7 @@ impl Labels {
         requires { i < length self.now }
         ensures { result.now ≡ value_at self.now i }
     {
-        let pair = &self.pairs[i as usize];
+        let pair = &self.body.pairs[i as usize];
         pair.1.as_str()
     }
 }

@@ -9,9 +9,9 @@ ghost use Rattle.pf_base.specs.LabelWalk.{repeated_name};
 ghost use Rattle.pf_base.specs.Sorting.{isort};
 
 use crate::labels::{Labels, LabelsError};
+use crate::memory::OutOfMemory;
 use crate::text::Text;
-use std::alloc::{AllocError, AllocFailed, Global};
-use std::sync::Arc;
+use std::alloc::{AllocError, Global};
 
 /// The greatest number of pairs that `build` takes.
 const MOST_PAIRS: usize = 64;
@@ -26,12 +26,12 @@ impl From<AllocError> for LabelsError {
     }
 }
 
-impl<T: Drop> From<AllocFailed<T>> for LabelsError {
+impl From<OutOfMemory> for LabelsError {
     ghost use Rattle.pf_base.specs.declared.labels.LabelsError.{LabelsError};
 
     ghost from_gives = { λ _ e. e ≡ LabelsError.OutOfMemory };
 
-    fn from(_error: AllocFailed<T>) -> LabelsError {
+    fn from(_error: OutOfMemory) -> LabelsError {
         LabelsError::OutOfMemory
     }
 }
@@ -127,8 +127,6 @@ impl Labels {
         if kept.len() > MOST_PAIRS {
             return Err(LabelsError::TooMany);
         }
-        Ok(Labels {
-            pairs: Arc::new(alloc, kept)?,
-        })
+        Ok(Labels::of(alloc, kept)?)
     }
 }

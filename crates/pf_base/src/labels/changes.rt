@@ -12,7 +12,6 @@ use crate::labels::{Labels, METRIC_NAME};
 use crate::memory::OutOfMemory;
 use crate::text::Text;
 use std::alloc::Global;
-use std::sync::Arc;
 
 fn copy_of(pair: &(Text, Text)) -> Result<(Text, Text), OutOfMemory>
     ensures { IfOk result (λ p. p ≡ pair.now) }
@@ -116,33 +115,27 @@ impl Labels {
     pub fn without_name(&self) -> Result<Labels, OutOfMemory>
         ensures { IfOk result (λ l. l ≡ others metric_name self.now) }
     {
-        let alloc = *self.pairs.allocator();
-        let found = others_of(alloc, &self.pairs, METRIC_NAME)?;
-        Ok(Labels {
-            pairs: Arc::new(alloc, found)?,
-        })
+        let alloc = *self.body.pairs.allocator();
+        let found = others_of(alloc, &self.body.pairs, METRIC_NAME)?;
+        Labels::of(alloc, found)
     }
 
     /// The labels of these names.
     pub fn keep(&self, names: &[Text]) -> Result<Labels, OutOfMemory>
         ensures { IfOk result (λ l. l ≡ kept names.now self.now) }
     {
-        let alloc = *self.pairs.allocator();
-        let found = kept_of(alloc, &self.pairs, names)?;
-        Ok(Labels {
-            pairs: Arc::new(alloc, found)?,
-        })
+        let alloc = *self.body.pairs.allocator();
+        let found = kept_of(alloc, &self.body.pairs, names)?;
+        Labels::of(alloc, found)
     }
 
     /// The labels of all names but these.
     pub fn leave_out(&self, names: &[Text]) -> Result<Labels, OutOfMemory>
         ensures { IfOk result (λ l. l ≡ left_out names.now self.now) }
     {
-        let alloc = *self.pairs.allocator();
-        let found = left_of(alloc, &self.pairs, names)?;
-        Ok(Labels {
-            pairs: Arc::new(alloc, found)?,
-        })
+        let alloc = *self.body.pairs.allocator();
+        let found = left_of(alloc, &self.body.pairs, names)?;
+        Labels::of(alloc, found)
     }
 
     /// These labels with the name's value set to this one, or without the name where the value is empty.
@@ -150,13 +143,11 @@ impl Labels {
         requires { is_label_name name.now ≡ true }
         ensures { IfOk result (λ l. l ≡ with_value name.now value.now self.now) }
     {
-        let alloc = *self.pairs.allocator();
-        let mut found = others_of(alloc, &self.pairs, name)?;
+        let alloc = *self.body.pairs.allocator();
+        let mut found = others_of(alloc, &self.body.pairs, name)?;
         if !value.is_empty() {
             found = put(alloc, found, name, value)?;
         }
-        Ok(Labels {
-            pairs: Arc::new(alloc, found)?,
-        })
+        Labels::of(alloc, found)
     }
 }

@@ -41,6 +41,18 @@ fn hash_label(hash: u64, pair: &(Text, Text)) -> u64
     hash_byte(valued, END)
 }
 
+/// The hash of all pairs.
+pub fn hash_all(pairs: &[(Text, Text)]) -> u64
+    ensures { result ≡ labels_hash pairs.now }
+{
+    let mut hash = OFFSET_BASIS;
+    for pair in pairs {
+        hash = hash_label(hash, pair);
+    }
+    hash
+}
+
+/// The hash of all pairs but the metric name's.
 fn hash_labels(pairs: &[(Text, Text)]) -> u64
     ensures { result ≡ labels_hash (others metric_name pairs.now) }
 {
@@ -60,6 +72,6 @@ impl Labels {
         requires { 1 ≤ n }
         ensures { result ≡ shard_of self.now n }
     {
-        (hash_labels(&self.pairs) % n as u64) as u32
+        (hash_labels(&self.body.pairs) % n as u64) as u32
     }
 }
