@@ -16,11 +16,11 @@ use Rattle.pf_expo.proofs.FirstBytes.{reads_begins}
 use Rattle.pf_expo.proofs.Samples.{scan_again, scan_found, seen_time}
 use Rattle.pf_expo.proofs.Words.{some_is}
 
-seen_is : (default : ℕ) (s : Option Stamp) → default ≤ 4398046511103 → seen_time default s ≡ min (time_of default s) 4398046511104
+pub seen_is : (default : ℕ) (s : Option Stamp) → default ≤ 4398046511103 → seen_time default s ≡ min (time_of default s) 4398046511104
 seen_is default None h = omega arith
 seen_is default (Some s) h = refl
 
-ok_of : (r : Result Pairs LabelsError) (ps : Pairs) → result_ok r ≡ Some ps → r ≡ Ok ps
+pub ok_of : (r : Result Pairs LabelsError) (ps : Pairs) → result_ok r ≡ Some ps → r ≡ Ok ps
 ok_of (Ok x) ps e = ap Ok (some_is x ps e)
 ok_of (Err x) ps e = cc
 

@@ -1,6 +1,7 @@
 pub mod Braces
 pub mod Decided
 pub mod Digits
+pub mod KnownLabels
 pub mod Faults
 pub mod Files
 pub mod FirstBytes

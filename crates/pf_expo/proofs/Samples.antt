@@ -9,7 +9,7 @@ use Rattle.std.proofs.lemmas.Option.{cond_some}
 use Rattle.pf_base.specs.LabelSets.{Pairs, is_empty}
 use Rattle.pf_base.specs.NumberTexts.{number_after}
 use Rattle.pf_model.specs.Exposition.{AreLabels, AreParts, IsLabel, IsMiddle, IsStamp, Label, Middle, Parts, Stamp, are_blanks, are_digits, bare, begins_with, empty, full, goes_on_metric, is_blank, is_gap, is_metric_name, is_no_blank, is_word, labelled, label_text, middle_pairs, middle_text, more_text, name_label, pairs_of, parts_pairs, parts_text, stamp_text, starts_metric}
-use Rattle.pf_expo.specs.Scans.{Cut, Scanned, all_labels, begins_blank, behind_byte, capped, capped_time, front_of, kept, labels_from, metric_name_at, middle_at, past, past_pairs, scan, time_at, with_pairs}
+use Rattle.pf_expo.specs.Scans.{Cut, Scanned, all_labels, begins_blank, behind_byte, capped, capped_time, front_of, kept, labels_from, metric_name_at, middle_at, past, past_pairs, scan, series_at, time_at, with_pairs}
 use Rattle.pf_expo.proofs.Braces.{BracesFound, core, core_is, labels_again, labels_found, name_no_blank, opened, pairs_some, shut, text_at}
 use Rattle.pf_expo.proofs.FirstBytes.{Begins}
 use Rattle.pf_expo.proofs.Fronts.{front_all}
@@ -234,17 +234,17 @@ pub record ScanFound (default : ℕ) (line : List ℕ) (s : Scanned) : Type 0 wh
   pub number : s.number ≡ parts.number
   pub time : s.time ≡ seen_time default parts.stamp
 
-word_of : (xs : List ℕ) → Begins xs → list_all is_no_blank xs ≡ true → is_word xs ≡ true
+pub word_of : (xs : List ℕ) → Begins xs → list_all is_no_blank xs ≡ true → is_word xs ≡ true
 word_of [] b h = absurd (let e = b.same in cc)
 word_of (x ∷ xs) b h = h
 
 pub scan_found : (default : ℕ) (line : List ℕ) (s : Scanned) → scan default line ≡ Some s → Begins s.number → ScanFound default line s
-unfolding scan
+unfolding scan series_at
 scan_found default line s e b =
-    let n = bind_some (metric_name_at (past is_blank line)) _ s e in
-    let m = bind_some (with_pairs ((name_label, n.0.0) ∷ []) (middle_at n.0.1)) _ s n.2 in
+    let m = bind_some (series_at line) _ s e in
+    let n = bind_some (metric_name_at (past is_blank line)) _ m.0 m.1 in
     let t = bind_some (time_at default (past is_no_blank m.0.1)) _ s m.2 in
-    made n.0 m.0 t.0 n.1 m.1 t.1 (some_is _ s t.2)
+    made n.0 m.0 t.0 n.1 n.2 t.1 (some_is _ s t.2)
   where
     made : (n : Cut) (m : Pairs × List ℕ) (t : ℕ) → metric_name_at (past is_blank line) ≡ Some n → with_pairs ((name_label, n.0) ∷ []) (middle_at n.1) ≡ Some m
         → time_at default (past is_no_blank m.1) ≡ Some t → ◌≡◌ {A = Scanned} (record { pairs = m.0; number = front_of is_no_blank m.1; time = t }) s → ScanFound default line s
@@ -306,7 +306,7 @@ word_first (x ∷ xs) r h b =
 
 pub scan_again : (default : ℕ) (p : Parts) → AreParts p → Begins p.number
     → ◌≡◌ {A = Option Scanned} (scan default (parts_text p)) (Some (record { pairs = parts_pairs p; number = p.number; time = seen_time default p.stamp }))
-unfolding scan
+unfolding scan series_at
 scan_again default p h b =
     let tail = stamp_text p.stamp ++ p.behind in
     let w = word_first p.number (stamp_text p.stamp ++ p.behind) h.number b in

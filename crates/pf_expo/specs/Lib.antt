@@ -1,3 +1,4 @@
 pub mod Answers
 pub mod Readings
 pub mod Scans
+pub mod Series

@@ -120,6 +120,12 @@ middle_at bytes =
     cond (begins_with 123 (past is_blank bytes)) (braces_at (past is_blank bytes))
     (kept (begins_blank bytes) ([], past is_blank bytes))
 
+-- the metric name as a label and the other labels, and what stands behind them
+unfoldable pub series_at : List ℕ → Option (Pairs × List ℕ)
+series_at bytes = do
+  name ← metric_name_at (past is_blank bytes)
+  with_pairs ((name_label, name.0) ∷ []) (middle_at name.1)
+
 -- a timestamp's digits, or none; blanks may stand round it, and nothing behind it
 abbrev pub stamp_in : List ℕ → Option (Option (List ℕ))
 stamp_in bytes =
@@ -146,8 +152,7 @@ pub record Scanned : Type 0 where
 
 unfoldable pub scan : ℕ → List ℕ → Option Scanned
 scan default line = do
-  name ← metric_name_at (past is_blank line)
-  middle ← with_pairs ((name_label, name.0) ∷ []) (middle_at name.1)
+  middle ← series_at line
   time ← time_at default (past is_no_blank middle.1)
   Some (record { pairs = middle.0; number = front_of is_no_blank middle.1; time = time })
 

@@ -1,10 +1,12 @@
 //! Whole files.
 
-ghost use Rattle.std.specs.Prelude.{◌<◌, ◌≤◌, length};
+ghost use Rattle.std.specs.Prelude.{◌<◌, ◌≤◌, length, OnOk};
 ghost use Rattle.pf_expo.specs.Answers.{Adds, Answers, taken_of};
+ghost use Rattle.pf_expo.specs.Series.{AreRead};
 
 use crate::fault::{ExpoError, ReadFault};
 use crate::line::{LineRead, read_line};
+use crate::series::KnownSeries;
 use pf_base::{Batch, Row};
 use pf_model::next_line;
 use std::alloc::Global;
@@ -14,25 +16,28 @@ const MOST_ROWS: usize = 2_000_000;
 
 /// What was taken of a file.
 #[derive(Drop)]
-struct Taken {
+struct Taken<'a> {
     rows: Vec<Row>,
     skipped: u64,
+    known: KnownSeries<'a>,
 }
 
 /// Adds what a line gives.
-fn add_line(
+fn add_line<'a>(
     alloc: Global,
-    taken: &mut Taken,
-    text: &[u8],
+    taken: &mut Taken<'a>,
+    text: &'a [u8],
     line: u32,
     default_time: u64,
 ) -> Result<(), ExpoError>
     requires time { default_time ≤ 4398046511103 }
     requires room { taken.old.skipped < 18446744073709551615 }
     requires few { length taken.old.rows.items ≤ 2000000 }
-    ensures { Adds default_time text.now line (taken_of taken.old) (taken_of taken.new) result }
+    requires read { AreRead taken.old.known.labels }
+    ensures adds { Adds default_time text.now line (taken_of taken.old) (taken_of taken.new) result }
+    ensures read { OnOk result (AreRead taken.new.known.labels) }
 {
-    match read_line(alloc, text, default_time) {
+    match read_line(alloc, &mut taken.known, text, default_time) {
         Ok(LineRead::Nothing) => Ok(()),
         Ok(LineRead::NoNumber) => {
             taken.skipped += 1;
@@ -59,6 +64,7 @@ pub fn read_exposition(alloc: Global, bytes: &[u8], default_time: u64) -> Result
     let mut taken = Taken {
         rows: Vec::new(alloc),
         skipped: 0,
+        known: KnownSeries::new(alloc),
     };
     let mut line: u32 = 0;
     let mut rest = bytes;

@@ -3,7 +3,7 @@
 ghost use Rattle.std.specs.Prelude.{◌≡◌, false};
 ghost use Rattle.std.specs.Str.{is_utf8};
 ghost use Rattle.pf_expo.specs.Readings.{Reads};
-ghost use Rattle.pf_expo.specs.Scans.{all_labels, behind_label, braces_at, kept, label_at, label_name_at, metric_name_at, middle_at, quoted_at, quoted_from, step_of, with_pairs};
+ghost use Rattle.pf_expo.specs.Scans.{all_labels, behind_label, braces_at, kept, label_at, label_name_at, metric_name_at, middle_at, quoted_at, quoted_from, step_of, series_at, with_pairs};
 
 use crate::fault::ReadFault;
 use crate::spans::{
@@ -14,7 +14,7 @@ use pf_base::{Text, is_label_name};
 use std::alloc::Global;
 
 /// The label whose value is the metric name.
-pub const METRIC_NAME: &str = "__name__";
+const METRIC_NAME: &str = "__name__";
 
 /// The bytes as a text.
 fn text_of(alloc: Global, bytes: &[u8]) -> Result<Text, ReadFault>
@@ -28,7 +28,7 @@ fn text_of(alloc: Global, bytes: &[u8]) -> Result<Text, ReadFault>
 
 /// A metric name in front of bytes, and what stands behind it.
 #[tactic(auto, unfolding(crate::specs::Scans::metric_name_at))]
-pub fn metric_name_at(alloc: Global, bytes: &[u8]) -> Result<(Text, &[u8]), ReadFault>
+fn metric_name_at(alloc: Global, bytes: &[u8]) -> Result<(Text, &[u8]), ReadFault>
     ensures { Reads (λ x. (x.0, x.1.now)) result (metric_name_at bytes.now) }
 {
     let (name, behind) = split_metric_name(bytes);
@@ -176,7 +176,7 @@ fn braces_at(
 
 /// The pairs with those that stand behind a metric name, and the value and what stands behind it.
 #[tactic(auto, using(crate::proofs::Pairs::middle_rules))]
-pub fn middle_at(
+fn middle_at(
     alloc: Global,
     pairs: Vec<(Text, Text)>,
     bytes: &[u8],
@@ -191,4 +191,15 @@ pub fn middle_at(
     } else {
         Err(ReadFault::Bad)
     }
+}
+
+/// The metric name as a label with the labels behind it, and what stands behind them and blanks.
+#[tactic(auto, unfolding(crate::specs::Scans::series_at))]
+pub fn series_at(alloc: Global, bytes: &[u8]) -> Result<(Vec<(Text, Text)>, &[u8]), ReadFault>
+    ensures { Reads (λ x. (x.0.items, x.1.now)) result (series_at bytes.now) }
+{
+    let (name, behind) = metric_name_at(alloc, past_blanks(bytes))?;
+    let label = Text::of(alloc, METRIC_NAME)?;
+    let pairs = vec![in alloc; (label, name)]?;
+    middle_at(alloc, pairs, behind)
 }

@@ -8,6 +8,7 @@ mod exposition;
 mod fault;
 mod labels;
 mod line;
+mod series;
 mod spans;
 
 pub use exposition::read_exposition;

@@ -1,20 +1,20 @@
 //! Sample lines.
 
-ghost use Rattle.std.specs.Prelude.{◌≡◌, ◌≤◌, true, Err, IfOk};
+ghost use Rattle.std.specs.Prelude.{◌≡◌, ◌≤◌, true, Err, IfOk, IfSome, OnOk};
 ghost use Rattle.std.specs.Char.{is_ascii_digit};
 ghost use Rattle.std.specs.List.{list_all};
-ghost use Rattle.std.specs.Result.{result_ok};
-ghost use Rattle.pf_base.specs.LabelBuild.{build_of};
 ghost use Rattle.pf_base.specs.NumberTexts.{number_after};
 ghost use Rattle.pf_model.specs.Exposition.{is_blank};
 ghost use Rattle.pf_expo.specs.Readings.{IsCapped, IsNoSample, LineAnswers, Reads, given_of, seen};
 ghost use Rattle.pf_expo.specs.Scans.{capped, past, scan, skips, time_at};
+ghost use Rattle.pf_expo.specs.Series.{AreRead, IsTail};
 ghost use Rattle.pf_expo.specs.declared.fault.ReadFault.TheVariants.{Bad, Late};
 
 use crate::fault::ReadFault;
-use crate::labels::{METRIC_NAME, metric_name_at, middle_at};
+use crate::labels::series_at;
+use crate::series::{KnownSeries, labels_of, split_series};
 use crate::spans::{past_blanks, split_digits, split_word};
-use pf_base::{Labels, LabelsError, MAXT, Read, Row, Text, read_value};
+use pf_base::{Labels, MAXT, OutOfMemory, Read, Row, Text, read_value};
 use std::alloc::Global;
 
 /// The first time that is too large, in milliseconds.
@@ -87,10 +87,7 @@ fn time_at(bytes: &[u8], default_time: u64) -> Result<u64, ReadFault>
 fn scan(alloc: Global, line: &[u8], default_time: u64) -> Result<Scanned<'_>, ReadFault>
     ensures { Reads (λ s. record { pairs = s.pairs.items; number = s.number.now; time = s.time }) result (scan default_time line.now) }
 {
-    let (name, behind) = metric_name_at(alloc, past_blanks(line))?;
-    let label = Text::of(alloc, METRIC_NAME)?;
-    let pairs = vec![in alloc; (label, name)]?;
-    let (pairs, behind) = middle_at(alloc, pairs, behind)?;
+    let (pairs, behind) = series_at(alloc, line)?;
     let (number, behind) = split_word(behind);
     let time = time_at(behind, default_time)?;
     Ok(Scanned {
@@ -100,17 +97,41 @@ fn scan(alloc: Global, line: &[u8], default_time: u64) -> Result<Scanned<'_>, Re
     })
 }
 
-fn labels_of(alloc: Global, pairs: Vec<(Text, Text)>) -> Result<Labels, ReadFault>
-    ensures { Reads (λ l. l) result (result_ok (build_of pairs.items)) }
+/// The number and the time that stand behind a series.
+fn tail_at(bytes: &[u8], default_time: u64) -> Result<(Read, u64), ReadFault>
+    ensures { IfOk result (λ x. IsTail default_time bytes.now x.0 x.1) }
 {
-    match Labels::build(alloc, pairs) {
-        Ok(labels) => Ok(labels),
-        Err(LabelsError::OutOfMemory) => Err(ReadFault::OutOfMemory),
-        Err(_) => Err(ReadFault::Bad),
-    }
+    let (number, behind) = split_word(bytes);
+    let Ok(read) = read_value(number) else {
+        return Err(ReadFault::Bad)
+    };
+    let time = time_at(behind, default_time)?;
+    Ok((read, time))
 }
 
-/// A sample line.
+/// A sample line by the known series, which has its own afterwards. None for other lines.
+fn known_sample<'a>(
+    alloc: Global,
+    known: &mut KnownSeries<'a>,
+    line: &'a [u8],
+    default_time: u64,
+) -> Result<Option<Timed>, OutOfMemory>
+    requires time { default_time ≤ 4398046511103 }
+    requires read { AreRead known.old.labels }
+    ensures found { IfOk result (λ o. IfSome o (λ s. IsCapped default_time line.now s.labels s.read s.time)) }
+    ensures read { OnOk result (AreRead known.new.labels) }
+{
+    let (series, tail) = split_series(line);
+    let Ok((read, time)) = tail_at(tail, default_time) else {
+        return Ok(None)
+    };
+    let Some(labels) = known.labels_of(alloc, series)? else {
+        return Ok(None)
+    };
+    Ok(Some(Timed { labels, read, time }))
+}
+
+/// A sample line, read from its first byte on.
 fn sample_of(alloc: Global, line: &[u8], default_time: u64) -> Result<Timed, ReadFault>
     requires { default_time ≤ 4398046511103 }
     ensures found { IfOk result (λ s. IsCapped default_time line.now s.labels s.read s.time) }
@@ -126,6 +147,26 @@ fn sample_of(alloc: Global, line: &[u8], default_time: u64) -> Result<Timed, Rea
         read,
         time: scanned.time,
     })
+}
+
+/// A sample line, by the known series first: a line that they don't give may still be one.
+fn any_sample<'a>(
+    alloc: Global,
+    known: &mut KnownSeries<'a>,
+    line: &'a [u8],
+    default_time: u64,
+) -> Result<Timed, ReadFault>
+    requires time { default_time ≤ 4398046511103 }
+    requires read { AreRead known.old.labels }
+    ensures found { IfOk result (λ s. IsCapped default_time line.now s.labels s.read s.time) }
+    ensures none { result ≡ Err Bad → IsNoSample default_time line.now }
+    ensures time { result ≡ Err Late → ⊥ }
+    ensures read { OnOk result (AreRead known.new.labels) }
+{
+    match known_sample(alloc, known, line, default_time)? {
+        Some(sample) => Ok(sample),
+        None => sample_of(alloc, line, default_time),
+    }
 }
 
 /// The row of a sample, where its value is a number.
@@ -144,14 +185,21 @@ fn line_read(sample: Timed) -> LineRead
 }
 
 /// What a line gives. Without a timestamp its time is the default one.
-pub fn read_line(alloc: Global, line: &[u8], default_time: u64) -> Result<LineRead, ReadFault>
-    requires { default_time ≤ 4398046511103 }
-    ensures { LineAnswers default_time line.now result }
+pub fn read_line<'a>(
+    alloc: Global,
+    known: &mut KnownSeries<'a>,
+    line: &'a [u8],
+    default_time: u64,
+) -> Result<LineRead, ReadFault>
+    requires time { default_time ≤ 4398046511103 }
+    requires read { AreRead known.old.labels }
+    ensures gives { LineAnswers default_time line.now result }
+    ensures read { OnOk result (AreRead known.new.labels) }
 {
     if is_skipped(line) {
         return Ok(LineRead::Nothing);
     }
-    let sample = sample_of(alloc, line, default_time)?;
+    let sample = any_sample(alloc, known, line, default_time)?;
     if sample.time > MAXT {
         return Err(ReadFault::Late);
     }
