@@ -1,5 +1,5 @@
 -- Series, lines that begin with one, and the label sets that are kept for their bytes.
-use Rattle.std.proofs.Common.{◌≡◌, ◌∙◌, ℕ, ◌≤◌, Bool, true, false, cond, Option, Some, None, Result, Ok, List, [], ◌∷◌, ◌++◌, Bor, append_assoc, append-nil, refl, sym, ap, subst}
+use Rattle.std.proofs.Common.{◌≡◌, ◌∙◌, ℕ, ◌≤◌, Bool, true, false, cond, Some, List, [], ◌∷◌, ◌++◌, append_assoc, append-nil, refl, sym, ap, subst}
 use Rattle.std.specs.HashMap.{HashMap, Updates, get}
 use Rattle.std.specs.Result.{result_ok}
 use Rattle.std.specs.Str.{bytes_eq}
@@ -7,10 +7,10 @@ use Rattle.std.specs.Cmp.Lexicographic.{bytes_decides}
 use Rattle.pf_base.specs.LabelBuild.{build_of}
 use Rattle.pf_base.specs.LabelSets.{Pairs}
 use Rattle.pf_base.specs.declared.number.Read.{Read}
-use Rattle.pf_model.specs.Exposition.{is_blank, is_no_blank, middle_pairs, middle_text, name_label, time_of}
+use Rattle.pf_model.specs.Exposition.{is_blank, is_no_blank, middle_text, name_label, time_of}
 use Rattle.pf_expo.specs.Readings.{IsCapped}
 use Rattle.pf_expo.specs.Scans.{Cut, front_of, metric_name_at, middle_at, past, series_at, with_pairs}
-use Rattle.pf_expo.specs.Series.{AreRead, IsSeries, IsTail, same_bytes}
+use Rattle.pf_expo.specs.Series.{AreRead, IsSeries, IsTail}
 use Rattle.pf_expo.proofs.Braces.{pairs_some}
 use Rattle.pf_expo.proofs.Decided.{ok_of, seen_is}
 use Rattle.pf_expo.proofs.FirstBytes.{reads_begins}
@@ -74,16 +74,16 @@ sample_found default line series tail labels r t few e s h =
 
 -- ---- the table
 
-pub known_more : {S : Type 0} (m n : HashMap (Bor (List ℕ)) Pairs S) (key : Bor (List ℕ)) (labels : Pairs) → AreRead m → IsSeries key.now labels → Updates same_bytes m n key (Some labels) → AreRead n
-known_more m n key labels h s u = λ bytes found e. by bytes found (same_bytes key bytes) refl (sym (u.0 bytes) ∙ e)
+pub known_more : {S : Type 0} (m n : HashMap (List ℕ) Pairs S) (key : List ℕ) (labels : Pairs) → AreRead m → IsSeries key labels → Updates bytes_eq m n key (Some labels) → AreRead n
+known_more m n key labels h s u = λ bytes found e. by bytes found (bytes_eq key bytes) refl (sym (u.0 bytes) ∙ e)
   where
     some_is : (x y : Pairs) → Some x ≡ Some y → x ≡ y
     some_is x y e = cc
 
-    by : (bytes : Bor (List ℕ)) (found : Pairs) (b : Bool) → same_bytes key bytes ≡ b → cond (same_bytes key bytes) (Some labels) (get same_bytes m bytes) ≡ Some found → IsSeries bytes.now found
+    by : (bytes : List ℕ) (found : Pairs) (b : Bool) → bytes_eq key bytes ≡ b → cond (bytes_eq key bytes) (Some labels) (get bytes_eq m bytes) ≡ Some found → IsSeries bytes found
     by bytes found true k e =
         let g = rw k at e in
         let P = λ (xs : List ℕ). IsSeries xs found in
-        let Q = λ (ps : Pairs). IsSeries key.now ps in
-        subst P ((bytes_decides key.now bytes.now).0 k) (subst Q (some_is labels found g) s)
+        let Q = λ (ps : Pairs). IsSeries key ps in
+        subst P ((bytes_decides key bytes).0 k) (subst Q (some_is labels found g) s)
     by bytes found false k e = let g = rw k at e in h bytes found g

@@ -1,8 +1,7 @@
 -- The series in front of a line's number, and what stands behind it: this project's own.
-use Rattle.std.specs.Prelude.{◌≡◌, ℕ, Bool, true, Option, Some, Ok, List, ◌∷◌, ◌++◌, nat_eq}
-use Rattle.std.specs.Borrow.{Bor}
-use Rattle.std.specs.Cmp.Lexicographic.{pointwise}
+use Rattle.std.specs.Prelude.{◌≡◌, ℕ, true, Some, Ok, List, ◌∷◌, ◌++◌}
 use Rattle.std.specs.HashMap.{HashMap, get}
+use Rattle.std.specs.Str.{bytes_eq}
 use Rattle.pf_base.specs.LabelBuild.{build_of}
 use Rattle.pf_base.specs.LabelSets.{Pairs}
 use Rattle.pf_base.specs.NumberTexts.{Reads}
@@ -26,9 +25,6 @@ pub record IsTail (default : ℕ) (bytes : List ℕ) (read : Read) (time : ℕ) 
   pub number : Reads (front_of is_no_blank bytes) read
   pub timed : time_at default (past is_no_blank bytes) ≡ Some time
 
-abbrev pub same_bytes : Bor (List ℕ) → Bor (List ℕ) → Bool
-same_bytes x y = pointwise nat_eq x.now y.now
-
 -- the label set that is kept for some bytes is that of the series that they are
-abbrev pub AreRead : {S : Type 0} → HashMap (Bor (List ℕ)) Pairs S → Type 0
-AreRead known = (bytes : Bor (List ℕ)) (labels : Pairs) → get same_bytes known bytes ≡ Some labels → IsSeries bytes.now labels
+abbrev pub AreRead : {S : Type 0} → HashMap (List ℕ) Pairs S → Type 0
+AreRead known = (bytes : List ℕ) (labels : Pairs) → get bytes_eq known bytes ≡ Some labels → IsSeries bytes labels

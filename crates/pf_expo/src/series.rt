@@ -1,7 +1,10 @@
 //! The series in front of a line's number, and the label sets of those that were read before.
 
-ghost use Rattle.std.specs.Prelude.{◌≡◌, ◌<◌, ◌≤◌, ◌++◌, length, IfOk, IfSome, OnOk};
+ghost use Rattle.std.specs.Prelude.{◌≡◌, ◌<◌, ◌≤◌, ◌∷◌, ◌++◌, [], length, IfOk, IfSome, OnOk};
+ghost use Rattle.std.specs.Cmp.Rules.{comparing, hashing};
 ghost use Rattle.std.specs.Result.{result_ok};
+ghost use Rattle.std.specs.Str.{bytes_eq};
+ghost use Rattle.std.proofs.Common.{rules};
 ghost use Rattle.pf_base.specs.LabelBuild.{build_of};
 ghost use Rattle.pf_expo.specs.Readings.{Reads};
 ghost use Rattle.pf_expo.specs.Series.{AreRead, IsSeries};
@@ -12,11 +15,51 @@ use crate::spans::{past_blanks, split_word};
 use pf_base::{Labels, LabelsError, OutOfMemory, Text};
 use std::alloc::Global;
 use std::collections::HashMap;
+use std::hash::{Hash, Hasher};
+use std::marker::Model;
+
+/// The bytes of a series as a key. A hasher is fed them at once.
+#[derive(Drop)]
+pub struct SeriesBytes<'a> {
+    bytes: &'a [u8],
+}
+
+impl<'a> Model for SeriesBytes<'a> {
+    ghost use Rattle.std.specs.Prelude.{List, ℕ};
+
+    ghost Value = { List ℕ };
+
+    ghost view = { λ s. s.bytes.now };
+}
+
+impl<'a> PartialEq for SeriesBytes<'a> {
+    ghost eq = { bytes_eq };
+
+    ghost laws = { Prim.search (comparing, rules) };
+
+    fn eq(&self, other: &SeriesBytes<'a>) -> bool {
+        self.bytes == other.bytes
+    }
+}
+
+impl<'a> Eq for SeriesBytes<'a> {
+    ghost laws = { Prim.search (comparing, rules) };
+}
+
+impl<'a> Hash for SeriesBytes<'a> {
+    ghost hash_input = { λ s. s ∷ [] };
+
+    ghost respects_eq = { Prim.search (hashing, rules) };
+
+    fn hash<H: Hasher>(&self, state: &mut H) {
+        state.write(self.bytes);
+    }
+}
 
 /// The label sets of a file's series, by their bytes.
 #[derive(Drop)]
 pub struct KnownSeries<'a> {
-    pub labels: HashMap<&'a [u8], Labels>,
+    pub labels: HashMap<SeriesBytes<'a>, Labels>,
 }
 
 pub fn labels_of(alloc: Global, pairs: Vec<(Text, Text)>) -> Result<Labels, ReadFault>
@@ -88,12 +131,13 @@ impl<'a> KnownSeries<'a> {
         ensures found { IfOk result (λ o. IfSome o (λ l. IsSeries series.now l)) }
         ensures read { OnOk result (AreRead self.new.labels) }
     {
-        if let Some(labels) = self.labels.get(series) {
+        let key = SeriesBytes { bytes: series };
+        if let Some(labels) = self.labels.get(&key) {
             return Ok(Some(labels.clone()?));
         }
         match read_series(alloc, series) {
             Ok(labels) => {
-                self.labels.insert(series, labels.clone()?)?;
+                self.labels.insert(key, labels.clone()?)?;
                 Ok(Some(labels))
             }
             Err(ReadFault::OutOfMemory) => Err(OutOfMemory),
