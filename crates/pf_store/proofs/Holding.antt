@@ -1,8 +1,6 @@
 -- What lists of rows hold.
-use Rattle.std.proofs.Common.{◌≡◌, ℕ, ℤ, Bool, true, false, cond, ◌&&◌, not, List, [], ◌∷◌, ◌++◌, refl, sym, ap, ◌∙◌, subst, Some, None, Option, nat_eq, nat_le}
-use Rattle.std.specs.Ordering.{is_eq, nat_cmp}
-use Rattle.std.specs.Cmp.{first_so, second_so, Equal-is, tied_then, unsigned_tied}
-use Rattle.std.specs.BTreeMap.{BTreeMap, get, Updates}
+use Rattle.std.proofs.Common.{◌≡◌, ℕ, ℤ, Bool, true, false, cond, ◌&&◌, not, List, [], ◌∷◌, ◌++◌, refl, sym, ap, ◌∙◌, Some, None, Option, nat_eq, nat_le}
+use Rattle.std.specs.Cmp.{first_so, second_so, Equal-is}
 use Rattle.std.proofs.lemmas.Bool.{eqb-true, eq-eqb}
 use Rattle.pf_base.specs.declared.plain.Row.{Row}
 use Rattle.pf_base.specs.LabelSets.{Pairs}
@@ -10,7 +8,6 @@ use Rattle.pf_base.specs.LabelOrder.{labels_cmp, labels_equiv, labels_exact, lab
 use Rattle.pf_model.specs.declared.expr.Matcher.{Matcher}
 use Rattle.pf_model.specs.Log.{held_value, is_deleted, left_by}
 use Rattle.pf_model.specs.Selection.{accepts, same_labels}
-use Rattle.pf_store.specs.Keys.{key_cmp, Finds}
 
 -- a row is of these labels and this time
 abbrev pub is_at : Row → Pairs → ℕ → Bool
@@ -49,35 +46,12 @@ held_value-append (x ∷ xs) ys l t =
       | false ↦ held_value-append xs ys l t
     ]
 
--- a map with a further key, and the rows with its row
-key_test : (r : Row) (l : Pairs) (t : ℕ) → is_eq (key_cmp (r.labels, r.time) (l, t)) ≡ is_at r l t
-key_test r l t = sym (tied_then (labels_cmp r.labels l) (nat_cmp r.time t)) ∙ ap (λ b. same_labels r.labels l && b) (unsigned_tied r.time t)
-
 -- a row's series and time are those of the key
-is_at_labels : (r : Row) (l : Pairs) (t : ℕ) → is_at r l t ≡ true → r.labels ≡ l
+pub is_at_labels : (r : Row) (l : Pairs) (t : ℕ) → is_at r l t ≡ true → r.labels ≡ l
 is_at_labels r l t h = same_exact r.labels l (first_so (same_labels r.labels l) (nat_eq r.time t) h)
 
-is_at_time : (r : Row) (l : Pairs) (t : ℕ) → is_at r l t ≡ true → r.time ≡ t
+pub is_at_time : (r : Row) (l : Pairs) (t : ℕ) → is_at r l t ≡ true → r.time ≡ t
 is_at_time r l t h = nat_exact r.time t (second_so (same_labels r.labels l) (nat_eq r.time t) h)
-
-finds_by : (m : BTreeMap (Pairs × ℕ) ℤ) (xs : List Row) (r : Row) (l : Pairs) (t : ℕ) → Finds m xs → get key_cmp m (r.labels, r.time) ≡ None → (b : Bool) → is_at r l t ≡ b →
-    cond b (Some r.value) (get key_cmp m (l, t)) ≡ either (held_value xs l t) (cond b (Some r.value) None)
-finds_by m xs r l t f e true h =
-    let p : held_value xs l t ≡ None = sym (f l t) ∙ ap (λ k. get key_cmp m k) (λ i. (sym (is_at_labels r l t h) i, sym (is_at_time r l t h) i)) ∙ e in
-    sym (ap (λ o. either o (Some r.value)) p)
-finds_by m xs r l t f e false h = f l t ∙ sym (either_none (held_value xs l t))
-
-pub finds_more : (m n : BTreeMap (Pairs × ℕ) ℤ) (xs : List Row) (r : Row) → Finds m xs → get key_cmp m (r.labels, r.time) ≡ None → Updates key_cmp m n (r.labels, r.time) (Some r.value) → Finds n (xs ++ r ∷ [])
-finds_more m n xs r f e u l t =
-    u.0 (l, t) ∙ ap (λ b. cond b (Some r.value) (get key_cmp m (l, t))) (key_test r l t) ∙ finds_by m xs r l t f e (is_at r l t) refl
-    ∙ sym (held_value-append xs (r ∷ []) l t)
-
--- the same, where key and row are copies
-pub finds_copy : (m n : BTreeMap (Pairs × ℕ) ℤ) (xs ys : List Row) (r copy : Row) (k : Pairs) → k ≡ r.labels → copy ≡ r → ys ≡ xs ++ copy ∷ [] → Finds m xs → None ≡ get key_cmp m (k, r.time) →
-    Updates key_cmp m n (k, r.time) (Some r.value) → Finds n ys
-finds_copy m n xs ys r copy k p q w f e u =
-    subst (Finds n) (sym (w ∙ ap (λ c. xs ++ c ∷ []) q))
-    (finds_more m n xs r f (sym (subst (λ k. None ≡ get key_cmp m (k, r.time)) p e)) (subst (λ k. Updates key_cmp m n (k, r.time) (Some r.value)) p u))
 
 -- what a deletion leaves
 module _ (ms : List Matcher) (from to : ℕ) where

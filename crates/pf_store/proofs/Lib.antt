@@ -3,3 +3,4 @@ pub mod Holding
 pub mod Judging
 pub mod Logs
 pub mod Snapshots
+pub mod Numbers

@@ -1,16 +1,16 @@
 //! Verdicts on the rows of a batch.
 
-ghost use Rattle.std.specs.Prelude.{◌≡◌, ◌++◌, ◌∷◌, [], None, true, cond, List, map, IfOk, OnOk};
+ghost use Rattle.std.specs.Prelude.{◌≡◌, ◌<◌, ◌++◌, ◌∷◌, [], None, true, cond, List, length, map, IfOk, IfSome, OnOk};
 ghost use Rattle.pf_base.specs.declared.plain.Row.{Row};
-ghost use Rattle.pf_block.specs.Snaps.{are_new, are_timed, held_of};
-ghost use Rattle.pf_model.specs.Log.{held_value, is_taken, taken_rows, verdict_on, verdicts_on};
-ghost use Rattle.pf_store.specs.Keys.{Finds};
+ghost use Rattle.pf_block.specs.Snaps.{are_new, are_timed, held_by};
+ghost use Rattle.pf_model.specs.Log.{is_taken, taken_rows, verdict_on, verdicts_on};
+ghost use Rattle.pf_store.specs.Keys.{AreIds, Finds};
 ghost use Rattle.pf_store.specs.Standing.{IsAlike, IsFresh, StandsFor};
 ghost use Rattle.pf_store.specs.Verdicts.{verdict_of};
 
 use crate::taken::{TakenRows, compared};
 use crate::verdict::Verdict;
-use pf_base::{Labels, OutOfMemory, Row, Value};
+use pf_base::{OutOfMemory, Row, Value};
 use pf_block::Snap;
 use std::alloc::Global;
 
@@ -21,36 +21,54 @@ pub struct Judged {
     pub taken: Vec<Row>,
 }
 
-/// The value that a snapshot holds for a series at a time.
-pub fn held_in(snap: &Snap, labels: &Labels, time: u64) -> Option<Value>
-    ensures { result ≡ held_of snap.now labels.now time }
+/// The value that a snapshot holds for a series at a time, none where it has no such series.
+fn held_by(snap: &Snap, id: Option<u32>, time: u64) -> Option<Value>
+    requires { IfSome id (λ n. n < length snap.now.labels) }
+    ensures { result ≡ held_by snap.now id time }
 {
-    let id = snap.find(labels)?;
-    snap.held(id, time)
+    snap.held(id?, time)
 }
 
-/// The verdict on a row by the floor, the snapshot and the rows taken before it; it is added to these if it is taken.
+/// The verdict on a row by the snapshot and the rows taken before it; it is added to these if it is taken.
+fn judge_held(snap: &Snap, taken: &mut TakenRows, row: &Row) -> Result<Verdict, OutOfMemory>
+    requires found { Finds taken.old.series taken.old.values taken.old.rows.items }
+    requires ids { AreIds snap.now taken.old.series }
+    ensures verdict { IfOk result (λ v. (xs : List Row) → StandsFor snap.now xs → verdict_of v ≡ verdict_on None (xs ++ taken.old.rows.items) row.now) }
+    ensures rows { IfOk result (λ v. taken.new.rows.items ≡ taken.old.rows.items ++ cond (is_taken (verdict_of v)) (row.now ∷ []) []) }
+    ensures fresh { IfOk result (λ v. is_taken (verdict_of v) ≡ true → IsFresh snap.now taken.old.rows.items row.now) }
+    ensures found { OnOk result (Finds taken.new.series taken.new.values taken.new.rows.items) }
+    ensures ids { OnOk result (AreIds snap.now taken.new.series) }
+{
+    let numbered = taken.number(snap, &row.labels)?;
+    if let Some(held) = held_by(snap, numbered.id, row.time) {
+        return Ok(compared(held, row.value));
+    }
+    let verdict = taken.add(numbered, row)?;
+    Ok(verdict)
+}
+
+/// The same, with the floor before it.
 fn judge(
     snap: &Snap,
     floor: Option<u64>,
     taken: &mut TakenRows,
     row: &Row,
 ) -> Result<Verdict, OutOfMemory>
-    requires { Finds taken.old.values taken.old.rows.items }
+    requires found { Finds taken.old.series taken.old.values taken.old.rows.items }
+    requires ids { AreIds snap.now taken.old.series }
     ensures verdict { IfOk result (λ v. (xs : List Row) → StandsFor snap.now xs → verdict_of v ≡ verdict_on floor (xs ++ taken.old.rows.items) row.now) }
     ensures rows { IfOk result (λ v. taken.new.rows.items ≡ taken.old.rows.items ++ cond (is_taken (verdict_of v)) (row.now ∷ []) []) }
     ensures fresh { IfOk result (λ v. is_taken (verdict_of v) ≡ true → IsFresh snap.now taken.old.rows.items row.now) }
-    ensures found { OnOk result (Finds taken.new.values taken.new.rows.items) }
+    ensures found { OnOk result (Finds taken.new.series taken.new.values taken.new.rows.items) }
+    ensures ids { OnOk result (AreIds snap.now taken.new.series) }
 {
     if let Some(floor) = floor {
         if row.time < floor {
             return Ok(Verdict::TooOld { floor });
         }
     }
-    if let Some(held) = held_in(snap, &row.labels, row.time) {
-        return Ok(compared(held, row.value));
-    }
-    taken.add(row)
+    let verdict = judge_held(snap, taken, row)?;
+    Ok(verdict)
 }
 
 /// The verdicts on rows in order, with the floor before them.

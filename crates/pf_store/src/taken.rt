@@ -1,20 +1,32 @@
 //! The rows of a batch that were taken so far.
 
 ghost use Rattle.std.specs.Prelude.{◌≡◌, ◌++◌, ◌∷◌, [], cond, IfOk, OnOk, Some};
+ghost use Rattle.std.specs.HashMap.{get};
+ghost use Rattle.pf_base.specs.LabelOrder.{labels_eq};
 ghost use Rattle.pf_model.specs.Log.{compared, held_value, is_taken};
-ghost use Rattle.pf_store.specs.Keys.{Finds};
+ghost use Rattle.pf_block.specs.Snaps.{SnapData};
+ghost use Rattle.pf_store.specs.Keys.{AreIds, Finds};
 ghost use Rattle.pf_store.specs.Verdicts.{verdict_of};
 
 use crate::verdict::Verdict;
 use pf_base::{Labels, OutOfMemory, Row, Value};
+use pf_block::Snap;
 use std::alloc::Global;
-use std::collections::BTreeMap;
+use std::collections::HashMap;
 
-/// Rows in order, and the value that they hold for each series and time.
+/// A label set of a batch: its number among those that were met, and its id in the snapshot, if it has one.
+#[derive(Clone, Copy)]
+pub struct Numbered {
+    pub number: usize,
+    pub id: Option<u32>,
+}
+
+/// Rows in order, the numbers of the label sets that were met, and the value that the rows hold for each number and time.
 #[derive(Drop)]
 pub struct TakenRows {
     pub rows: Vec<Row>,
-    pub values: BTreeMap<(Labels, u64), Value>,
+    pub series: HashMap<Labels, Numbered>,
+    pub values: HashMap<(usize, u64), Value>,
 }
 
 /// The verdict on a value where another is held.
@@ -42,22 +54,46 @@ impl TakenRows {
     /// No rows.
     pub fn new(alloc: Global) -> TakenRows
         ensures rows { result.rows.items ≡ [] }
-        ensures found { Finds result.values result.rows.items }
+        ensures found { Finds result.series result.values result.rows.items }
+        ensures ids { (snap : SnapData) → AreIds snap result.series }
     {
         TakenRows {
             rows: Vec::new(alloc),
-            values: BTreeMap::new(alloc),
+            series: HashMap::new(alloc),
+            values: HashMap::new(alloc),
         }
     }
 
+    /// The number of a label set, which has one afterwards.
+    pub fn number(&mut self, snap: &Snap, labels: &Labels) -> Result<Numbered, OutOfMemory>
+        requires found { Finds self.old.series self.old.values self.old.rows.items }
+        requires ids { AreIds snap.now self.old.series }
+        ensures known { IfOk result (λ n. get labels_eq self.new.series labels.now ≡ Some n) }
+        ensures rows { OnOk result (self.new.rows ≡ self.old.rows) }
+        ensures found { OnOk result (Finds self.new.series self.new.values self.new.rows.items) }
+        ensures ids { OnOk result (AreIds snap.now self.new.series) }
+    {
+        if let Some(numbered) = self.series.get(labels) {
+            return Ok(*numbered);
+        }
+        let numbered = Numbered {
+            number: self.series.len(),
+            id: snap.find(labels),
+        };
+        self.series.insert(labels.clone()?, numbered)?;
+        Ok(numbered)
+    }
+
     /// The verdict on a further row by these rows, which have it afterwards if it is taken.
-    pub fn add(&mut self, row: &Row) -> Result<Verdict, OutOfMemory>
-        requires { Finds self.old.values self.old.rows.items }
+    pub fn add(&mut self, numbered: Numbered, row: &Row) -> Result<Verdict, OutOfMemory>
+        requires found { Finds self.old.series self.old.values self.old.rows.items }
+        requires known { get labels_eq self.old.series row.now.labels ≡ Some numbered }
         ensures verdict { IfOk result (λ v. verdict_of v ≡ compared (held_value self.old.rows.items row.now.labels row.now.time) row.now.value) }
         ensures rows { IfOk result (λ v. self.new.rows.items ≡ self.old.rows.items ++ cond (is_taken (verdict_of v)) (row.now ∷ []) []) }
-        ensures found { OnOk result (Finds self.new.values self.new.rows.items) }
+        ensures found { OnOk result (Finds self.new.series self.new.values self.new.rows.items) }
+        ensures series { OnOk result (self.new.series ≡ self.old.series) }
     {
-        let key = (row.labels.clone()?, row.time);
+        let key = (numbered.number, row.time);
         if let Some(held) = self.values.get(&key) {
             return Ok(compared(*held, row.value));
         }

@@ -24,6 +24,7 @@ loop-row-preserved c =
     let t : are_timed (r ∷ rest) ≡ true = subst (λ n. are_timed n ≡ true) d k.rest in
     record {
       found = h.found;
+      ids = h.ids;
       judged = λ xs f.
           ap (λ n. n ++ verdicts_on c.args.floor (xs ++ new) rest) m
           ∙ judged_more c.args.floor xs r rest rows tk new v vs (h.verdict xs f) h.rows (subst (λ n. vs ++ verdicts_on c.args.floor (xs ++ tk) n ≡ verdicts_on c.args.floor xs rows) d (k.judged xs f));

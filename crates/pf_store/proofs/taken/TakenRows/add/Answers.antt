@@ -1,7 +1,18 @@
-use Rattle.pf_store.proofs.Holding.{finds_copy}
+use Rattle.std.proofs.Common.{◌∙◌, ap}
+use Rattle.pf_model.specs.Log.{compared}
+use Rattle.pf_store.proofs.Numbers.{finds_copy}
 use Rattle.pf_store.proofs.taken.TakenRows.add.Goals as goal
 
 pub returns-clause-found : goal.returns-clause-found
 returns-clause-found c =
-    finds_copy c.args.self.now.values c.insert.new.self c.args.self.now.rows.items c.push.new.self.items c.args.row.now c.in_ok-copy.copy c.in_ok-clone.field-0
-    c.in_ok-clone.ensures c.in_ok-copy.ensures c.in_ok-push.ensures.items c.requires c.in_default.ensures.value c.in_ok-insert.ensures.updates
+    finds_copy c.args.self.now.series c.args.self.now.values c.insert.new.self c.args.self.now.rows.items c.push.new.self.items c.args.row.now c.in_ok-copy.copy c.args.numbered
+    c.in_ok-copy.ensures c.in_ok-push.ensures.items c.requires.found c.requires.known c.in_default.ensures.value c.in_ok-insert.ensures.updates
+
+pub returns-in-Some-clause-verdict : goal.returns-in-Some-clause-verdict
+returns-in-Some-clause-verdict c =
+    c.compared.ensures
+    ∙ ap (λ o. compared o c.args.row.now.value) (c.in-Some.ensures.value ∙ c.requires.found.held c.args.row.now.labels c.args.numbered c.requires.known c.args.row.now.time)
+
+pub returns-clause-verdict : goal.returns-clause-verdict
+returns-clause-verdict c =
+    ap (λ o. compared o c.args.row.now.value) (c.in_default.ensures.value ∙ c.requires.found.held c.args.row.now.labels c.args.numbered c.requires.known c.args.row.now.time)

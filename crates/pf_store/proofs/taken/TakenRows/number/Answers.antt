@@ -1,0 +1,17 @@
+use Rattle.std.proofs.Common.{◌≡◌, ◌∙◌, None, ap, sym}
+use Rattle.std.specs.HashMap.{get, hash_map_len}
+use Rattle.pf_base.specs.LabelOrder.{labels_eq}
+use Rattle.pf_block.specs.SeriesIds.{id_of}
+use Rattle.pf_store.proofs.Numbers.{finds_number, ids_number, one_more}
+use Rattle.pf_store.proofs.taken.TakenRows.number.Goals as goal
+
+pub returns-clause-found : goal.returns-clause-found
+returns-clause-found c =
+    let absent : get labels_eq c.args.self.now.series c.in_ok-clone.field-0 ≡ None = ap (get labels_eq c.args.self.now.series) c.in_ok-clone.ensures ∙ sym c.in_default.ensures.value in
+    finds_number c.args.self.now.series c.insert.new.self c.in_ok-clone.field-0 _ c.in_ok-insert.ensures.updates c.args.self.now.values c.args.self.now.rows.items c.requires.found absent c.len.ensures.len
+    (one_more (hash_map_len c.insert.new.self) (hash_map_len c.args.self.now.series) c.in_ok-insert.field-0 c.in_ok-insert.ensures.len (c.in_ok-insert.ensures.old ∙ absent))
+
+pub returns-clause-ids : goal.returns-clause-ids
+returns-clause-ids c =
+    ids_number c.args.self.now.series c.insert.new.self c.in_ok-clone.field-0 _ c.in_ok-insert.ensures.updates c.args.snap.now c.requires.ids
+    (c.find.ensures ∙ ap (λ l. id_of l c.args.snap.now.labels) (sym c.in_ok-clone.ensures))
