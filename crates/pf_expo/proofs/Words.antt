@@ -1,5 +1,5 @@
 -- Fronts, names and values as the grammar spells them.
-use Rattle.std.proofs.Common.{◌≡◌, ◌∙◌, ℕ, zero, suc, ◌<◌, Bool, true, false, cond, ◌⊎◌, inl, inr, Option, Some, None, List, [], ◌∷◌, ◌++◌, nat_eq, nat_lt, get_or, lit<, append_assoc, refl, sym, ap, arith}
+use Rattle.std.proofs.Common.{◌≡◌, ◌∙◌, ℕ, zero, suc, ◌<◌, Bool, true, false, cond, ◌&&◌, ◌⊎◌, inl, inr, Option, Some, None, List, [], ◌∷◌, ◌++◌, nat_eq, nat_lt, get_or, lit<, append_assoc, refl, sym, ap, arith}
 use Rattle.std.specs.List.{list_all}
 use Rattle.std.specs.Str.{IsUtf8, is_utf8}
 use Rattle.std.proofs.lemmas.Bool.{and_parts, and_from, ltb-true}
@@ -9,6 +9,7 @@ use Rattle.std.proofs.lemmas.Str.{IsUtf8-from_is_utf8, is_utf8-from_IsUtf8, IsUt
 use Rattle.pf_base.specs.LabelSets.{goes_on, starts_name, is_label_name}
 use Rattle.pf_model.specs.Exposition.{escape, escaped, goes_on_metric, is_metric_name, starts_metric}
 use Rattle.pf_expo.specs.Scans.{Cut, behind_byte, front_of, kept, label_name_at, metric_name_at, past, quoted_at, quoted_from, step_of, stepped, with_byte}
+use Rattle.pf_expo.proofs.Fronts.{front_all}
 use Rattle.pf_expo.proofs.Shorter.{bind_some}
 
 pub cases : (b : Bool) → (b ≡ true) ⊎ (b ≡ false)
@@ -122,6 +123,64 @@ metric_name_found bytes c e =
       lawful = sym (ap is_metric_name n) ∙ j.0;
       halts = rw (← r) (past_halts goes_on_metric bytes);
     }
+
+-- the bytes of a name in front make one exactly where the first begins one
+
+begun : (x y : Bool) → y ≡ true → (x && y) ≡ x
+begun true y e = e
+begun false y e = refl
+
+pub metric_begun : (b : ℕ) (bs : List ℕ) → is_metric_name (front_of goes_on_metric (b ∷ bs)) ≡ starts_metric b
+metric_begun b bs = elim (cases (goes_on_metric b)) [
+  | inl y ↦ rw y (begun (starts_metric b) (list_all goes_on_metric (front_of goes_on_metric bs)) (front_all goes_on_metric bs))
+  | inr n ↦ rw n (elim (cases (starts_metric b)) [
+    | inl s ↦ absurd (let g = start_metric b s in cc)
+    | inr m ↦ sym m
+  ])
+]
+
+pub label_begun : (b : ℕ) (bs : List ℕ) → is_label_name (front_of goes_on (b ∷ bs)) ≡ starts_name b
+label_begun b bs = elim (cases (goes_on b)) [
+  | inl y ↦ rw y (begun (starts_name b) (list_all goes_on (front_of goes_on bs)) (front_all goes_on bs))
+  | inr n ↦ rw n (elim (cases (starts_name b)) [
+    | inl s ↦ absurd (let g = start_label b s in cc)
+    | inr m ↦ sym m
+  ])
+]
+
+pub metric_none : (bs : List ℕ) → is_metric_name (front_of goes_on_metric bs) ≡ false → metric_name_at bs ≡ None
+unfolding metric_name_at
+metric_none bs h = elim (cases (is_utf8 (front_of goes_on_metric bs))) [ inl u ↦ rw u (rw h refl) | inr v ↦ rw v refl ]
+
+pub metric_some : (bs name : List ℕ) → is_metric_name (front_of goes_on_metric bs) ≡ true → kept (is_utf8 (front_of goes_on_metric bs)) (front_of goes_on_metric bs) ≡ Some name → metric_name_at bs ≡ Some (name, past goes_on_metric bs)
+unfolding metric_name_at
+metric_some bs name h e =
+    let k = cond_some (is_utf8 (front_of goes_on_metric bs)) (front_of goes_on_metric bs) name e in
+    let n : is_metric_name name ≡ true = ap is_metric_name (sym k.1) ∙ h in
+    rw e (rw n refl)
+
+pub metric_text : (bs : List ℕ) → kept (is_utf8 (front_of goes_on_metric bs)) (front_of goes_on_metric bs) ≡ None → metric_name_at bs ≡ None
+unfolding metric_name_at
+metric_text bs e = rw e refl
+
+pub label_none : (bs : List ℕ) → is_label_name (front_of goes_on bs) ≡ false → label_name_at bs ≡ None
+unfolding label_name_at
+label_none bs h = elim (cases (is_utf8 (front_of goes_on bs))) [ inl u ↦ rw u (rw h refl) | inr v ↦ rw v refl ]
+
+pub label_some : (bs name : List ℕ) → is_label_name (front_of goes_on bs) ≡ true → kept (is_utf8 (front_of goes_on bs)) (front_of goes_on bs) ≡ Some name → label_name_at bs ≡ Some (name, past goes_on bs)
+unfolding label_name_at
+label_some bs name h e =
+    let k = cond_some (is_utf8 (front_of goes_on bs)) (front_of goes_on bs) name e in
+    let n : is_label_name name ≡ true = ap is_label_name (sym k.1) ∙ h in
+    rw e (rw n refl)
+
+pub label_text : (bs : List ℕ) → kept (is_utf8 (front_of goes_on bs)) (front_of goes_on bs) ≡ None → label_name_at bs ≡ None
+unfolding label_name_at
+label_text bs e = rw e refl
+
+pub ruleset metric_rules = (metric_none, metric_some, metric_text)
+
+pub ruleset label_rules = (label_none, label_some, label_text)
 
 pub label_name_again : (n r : List ℕ) → is_label_name n ≡ true → Halts goes_on r → label_name_at (n ++ r) ≡ Some (n, r)
 unfolding label_name_at

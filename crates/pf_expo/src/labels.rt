@@ -7,10 +7,10 @@ ghost use Rattle.pf_expo.specs.Scans.{all_labels, behind_label, braces_at, kept,
 
 use crate::fault::ReadFault;
 use crate::spans::{
-    begins_blank, begins_with, behind_byte, is_metric_name, past_blanks, split_label_name,
-    split_metric_name,
+    begins_blank, begins_label_name, begins_metric_name, begins_with, behind_byte, past_blanks,
+    split_label_name, split_metric_name,
 };
-use pf_base::{Text, is_label_name};
+use pf_base::Text;
 use std::alloc::Global;
 
 /// The label whose value is the metric name.
@@ -27,30 +27,28 @@ fn text_of(alloc: Global, bytes: &[u8]) -> Result<Text, ReadFault>
 }
 
 /// A metric name in front of bytes, and what stands behind it.
-#[tactic(auto, unfolding(crate::specs::Scans::metric_name_at))]
+#[tactic(auto, using(crate::proofs::Words::metric_rules))]
 fn metric_name_at(alloc: Global, bytes: &[u8]) -> Result<(Text, &[u8]), ReadFault>
     ensures { Reads (λ x. (x.0, x.1.now)) result (metric_name_at bytes.now) }
 {
+    if !begins_metric_name(bytes) {
+        return Err(ReadFault::Bad);
+    }
     let (name, behind) = split_metric_name(bytes);
     let name = text_of(alloc, name)?;
-    if is_metric_name(name.as_str()) {
-        Ok((name, behind))
-    } else {
-        Err(ReadFault::Bad)
-    }
+    Ok((name, behind))
 }
 
-#[tactic(auto, unfolding(crate::specs::Scans::label_name_at))]
+#[tactic(auto, using(crate::proofs::Words::label_rules))]
 fn label_name_at(alloc: Global, bytes: &[u8]) -> Result<(Text, &[u8]), ReadFault>
     ensures { Reads (λ x. (x.0, x.1.now)) result (label_name_at bytes.now) }
 {
+    if !begins_label_name(bytes) {
+        return Err(ReadFault::Bad);
+    }
     let (name, behind) = split_label_name(bytes);
     let name = text_of(alloc, name)?;
-    if is_label_name(name.as_str()) {
-        Ok((name, behind))
-    } else {
-        Err(ReadFault::Bad)
-    }
+    Ok((name, behind))
 }
 
 /// What a byte of a label's value does.

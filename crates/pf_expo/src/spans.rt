@@ -3,7 +3,7 @@
 ghost use Rattle.std.specs.Prelude.{◌≡◌, ◌<◌, IfSome, drop, length, not, position, take, true, unwrap_or};
 ghost use Rattle.std.specs.Char.{is_ascii_digit};
 ghost use Rattle.std.specs.List.{list_all};
-ghost use Rattle.pf_base.specs.LabelSets.{goes_on, starts_name};
+ghost use Rattle.pf_base.specs.LabelSets.{goes_on, is_label_name, starts_name};
 ghost use Rattle.pf_model.specs.Exposition.{begins_with, goes_on_metric, is_blank, is_metric_name, is_no_blank, starts_metric};
 ghost use Rattle.pf_expo.specs.Readings.{Reads};
 ghost use Rattle.pf_expo.specs.Scans.{behind_byte, begins_blank, front_of, past};
@@ -34,18 +34,30 @@ fn goes_on_metric(byte: u8) -> bool
     byte.is_ascii_alphanumeric() || byte == b'_' || byte == b':'
 }
 
-fn all_go_on(bytes: &[u8]) -> bool
-    ensures { result ≡ list_all goes_on_metric bytes.now }
+/// Whether the letters, digits, `_` and `:` in front are `[a-zA-Z_:][a-zA-Z0-9_:]*`.
+#[tactic(auto, using(crate::proofs::Words::metric_begun))]
+pub fn begins_metric_name(bytes: &[u8]) -> bool
+    ensures { result ≡ is_metric_name (front_of goes_on_metric bytes.now) }
 {
-    bytes.iter().all(|byte| goes_on_metric(*byte))
+    match bytes.split_first() {
+        Some((first, _)) => starts_metric(*first),
+        None => false,
+    }
 }
 
-/// Whether a text is `[a-zA-Z_:][a-zA-Z0-9_:]*`.
-pub fn is_metric_name(name: &str) -> bool
-    ensures { result ≡ is_metric_name name.now }
+fn starts_label(byte: u8) -> bool
+    ensures { result ≡ starts_name byte }
 {
-    match name.as_bytes().split_first() {
-        Some((first, rest)) => starts_metric(*first) && all_go_on(rest),
+    byte.is_ascii_alphabetic() || byte == b'_'
+}
+
+/// Whether the letters, digits and `_` in front are `[a-zA-Z_][a-zA-Z0-9_]*`.
+#[tactic(auto, using(crate::proofs::Words::label_begun))]
+pub fn begins_label_name(bytes: &[u8]) -> bool
+    ensures { result ≡ is_label_name (front_of goes_on bytes.now) }
+{
+    match bytes.split_first() {
+        Some((first, _)) => starts_label(*first),
         None => false,
     }
 }
