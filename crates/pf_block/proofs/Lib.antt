@@ -2,4 +2,12 @@ pub mod Searches
 pub mod Postings
 pub mod Ids
 pub mod Keeping
+mod Merging
+mod Numbering
+mod Pairing
+mod SortedEntries
+mod Canonical
+mod Taking
+mod Stacking
+mod Walks
 mod Worked

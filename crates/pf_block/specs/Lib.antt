@@ -1,4 +1,6 @@
+pub mod Blocks
 pub mod Indexes
 pub mod Samples
 pub mod SeriesIds
 pub mod Snaps
+pub mod Stacks

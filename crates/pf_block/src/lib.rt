@@ -4,13 +4,16 @@
 //! order of time. A window of a series is a filter over its samples, `find` and `postings` are look-ups in the list of
 //! labels, and `with` and `without` give the two lists that they leave.
 //!
-//! The code keeps one sorted vector of samples a series, a map from label sets to ids, and a list of ids for each pair of
-//! a name and a value. Windows and look-ups search by halves and take no memory.
+//! The code keeps the samples in blocks that are shared, each sorted by series and time and with at least twice the samples
+//! of the next, and an index that is shared as long as no series is new: a map from label sets to ids, and a list of ids
+//! for each pair of a name and a value. Windows and look-ups search by halves and take no memory.
 #![tactic(auto)]
 
+mod block;
 mod index;
 mod samples;
 mod snap;
+mod stack;
 mod window;
 
 pub use snap::Snap;

@@ -1,16 +1,18 @@
 //! A tenant's series and samples at a point of its log.
 
-ghost use Rattle.std.specs.Prelude.{◌≡◌, ℕ, ◌<◌, true, false, [], IfOk, length, vec_len, is_some, slice_index_or, slice_set, nat_le, nat_eq, pos};
-ghost use Rattle.std.specs.List.{list_all, list_any};
+ghost use Rattle.std.specs.Prelude.{◌≡◌, ℕ, ◌<◌, ◌≤◌, ◌++◌, true, false, [], IfOk, length, vec_len, slice_index_or, nat_eq, nat_le, map, drop};
+ghost use Rattle.std.specs.List.{list_any};
 ghost use Rattle.std.specs.Arc.{arc_value};
-ghost use Rattle.pf_block.specs.Samples.{rises, is_series, value_at, put_sample, window_of, last_of};
+ghost use Rattle.pf_block.specs.Blocks.{entries_of, entry_of, labels_with, noted, number_of};
+ghost use Rattle.pf_block.specs.Samples.{window_of, last_of};
 ghost use Rattle.pf_block.specs.SeriesIds.{id_of, ids_with};
-ghost use Rattle.pf_block.specs.Snaps.{IsSnap, empty_snap, labels_of, samples_of, held_at, with_rows, are_new, are_timed, without_rows, put_row, held_of, cut_marked};
+ghost use Rattle.pf_block.specs.Snaps.{IsSnap, empty_snap, labels_of, samples_of, held_at, with_rows, are_new, are_timed, without_rows, sample_of};
 
+use crate::block::{Block, Entry};
 use crate::index::Index;
-use crate::samples::Series;
+use crate::stack::{clear_of, cut, last_within, stacked};
 use crate::window::Window;
-use pf_base::{Labels, OutOfMemory, Row, Sample, Value};
+use pf_base::{Labels, MAXT, OutOfMemory, Row, Sample, Value};
 use std::alloc::Global;
 use std::marker::Model;
 use std::sync::Arc;
@@ -18,41 +20,97 @@ use std::sync::Arc;
 /// A tenant's series, each with its samples. It never changes, and is shared.
 #[derive(Drop)]
 pub struct Snap {
-    index: Index,
-    series: Vec<Series>,
+    alloc: Global,
+    index: Arc<Index>,
+    blocks: Vec<Arc<Block>>,
 }
 
 impl Model for Snap {
-    ghost use Rattle.pf_block.specs.Snaps.{SnapData, IsSnap};
+    ghost use Rattle.std.specs.Prelude.{map};
+    ghost use Rattle.std.specs.Arc.{arc_value};
+    ghost use Rattle.pf_block.specs.Stacks.{IsKept, snap_of};
+    ghost use Rattle.pf_block.specs.Snaps.{SnapData};
 
     ghost Value = { SnapData };
 
-    ghost view = { λ s. record { labels = s.index; samples = s.series.items } };
+    ghost view = { λ s. snap_of (arc_value s.index) (map arc_value s.blocks.items) };
 
-    ghost invariant = { λ s. IsSnap (record { labels = s.index; samples = s.series.items }) };
+    ghost invariant = { λ s. IsKept (arc_value s.index) (map arc_value s.blocks.items) };
 }
 
-/// A copy of each series.
-fn copied(alloc: Global, series: &[Series]) -> Result<Vec<Series>, OutOfMemory>
-    ensures { IfOk result (λ v. v.items ≡ series.now) }
+fn entry(row: &Row, id: u32) -> Entry
+    requires { nat_le row.now.time 4398046511103 ≡ true }
+    ensures { entry_of result ≡ (id, sample_of row.now) }
 {
-    let mut copies = Vec::new(alloc);
-    for one in series {
-        copies.push(one.copied()?)?;
+    (id, (row.time as i64, row.value))
+}
+
+/// The first rows that are of known series, as entries.
+fn known(alloc: Global, index: &Index, rows: &[Row]) -> Result<Vec<Entry>, OutOfMemory>
+    requires { are_timed rows.now ≡ true }
+    ensures entries { IfOk result (λ v. map entry_of v.items ++ entries_of index.now (drop (vec_len v) rows.now) ≡ entries_of index.now rows.now) }
+    ensures labels { IfOk result (λ v. labels_with index.now (drop (vec_len v) rows.now) ≡ labels_with index.now rows.now) }
+    ensures within { IfOk result (λ v. vec_len v ≤ length rows.now) }
+{
+    let mut entries = Vec::with_capacity(alloc, rows.len())?;
+    for row in rows {
+        let Some(id) = index.find(&row.labels) else {
+            return Ok(entries);
+        };
+        entries.push(entry(row, id))?;
     }
-    Ok(copies)
+    Ok(entries)
 }
 
-/// A further sample of a series.
-fn put_at(series: &mut Vec<Series>, id: u32, sample: Sample) -> Result<(), OutOfMemory>
-    requires inside { id < vec_len series.old }
-    requires rising { rises (slice_index_or series.old.items id []) ≡ true }
-    requires fresh { is_some (value_at (slice_index_or series.old.items id []) sample.time) ≡ false }
-    ensures { IfOk result (λ _. series.new.items ≡ slice_set series.old.items id (put_sample sample (slice_index_or series.old.items id []))) }
+/// The id of a series, and the index with its labels.
+fn numbered_in(index: Index, labels: &Labels) -> Result<(Index, u32), OutOfMemory>
+    ensures index { IfOk result (λ p. p.0 ≡ noted index labels.now) }
+    ensures id { IfOk result (λ p. p.1 ≡ number_of index labels.now) }
 {
-    let one = &mut series[id as usize];
-    one.put(sample)?;
-    Ok(())
+    if let Some(id) = index.find(labels) {
+        return Ok((index, id));
+    }
+    let id = index.count();
+    Ok((index.with(labels.clone()?)?, id))
+}
+
+/// The entries with those of further rows, and the index with their labels.
+fn noted(
+    index: Index,
+    entries: Vec<Entry>,
+    rows: &[Row],
+) -> Result<(Index, Vec<Entry>), OutOfMemory>
+    requires { are_timed rows.now ≡ true }
+    ensures entries { IfOk result (λ p. map entry_of p.1.items ≡ map entry_of entries.items ++ entries_of index rows.now) }
+    ensures labels { IfOk result (λ p. p.0 ≡ labels_with index rows.now) }
+{
+    let mut index = index;
+    let mut entries = entries;
+    for row in rows {
+        let (next, id) = numbered_in(index, &row.labels)?;
+        index = next;
+        entries.push(entry(row, id))?;
+    }
+    Ok((index, entries))
+}
+
+/// The rows as entries, and the index with their labels: the same one where no series is new.
+fn numbered(
+    alloc: Global,
+    index: &Arc<Index>,
+    rows: &[Row],
+) -> Result<(Arc<Index>, Vec<Entry>), OutOfMemory>
+    requires { are_timed rows.now ≡ true }
+    ensures entries { IfOk result (λ p. map entry_of p.1.items ≡ entries_of (arc_value index.now) rows.now) }
+    ensures labels { IfOk result (λ p. arc_value p.0 ≡ labels_with (arc_value index.now) rows.now) }
+{
+    let entries = known(alloc, index, rows)?;
+    let place = entries.len();
+    if place == rows.len() {
+        return Ok((Arc::try_clone(index)?, entries));
+    }
+    let (index, entries) = noted(index.copied()?, entries, &rows[place..])?;
+    Ok((Arc::new(alloc, index)?, entries))
 }
 
 /// Which ids below a number are in a list.
@@ -69,67 +127,17 @@ fn marks(alloc: Global, ids: &[u32], count: usize) -> Result<Vec<bool>, OutOfMem
     Ok(marks)
 }
 
-/// A copy of each series, without the samples at times from `from` to `to` where it is marked.
-fn cut(
-    alloc: Global,
-    series: &[Series],
-    marks: &[bool],
-    from: u64,
-    to: u64,
-) -> Result<Vec<Series>, OutOfMemory>
-    requires lawful { list_all is_series series.now ≡ true }
-    requires marked { length marks.now ≡ length series.now }
-    ensures { IfOk result (λ v. v.items ≡ cut_marked marks.now (pos from) (pos to) series.now) }
-{
-    let mut copies = Vec::new(alloc);
-    for (i, one) in series.iter().enumerate() {
-        copies.push(if marks[i] {
-            one.without(from, to)?
-        } else {
-            one.copied()?
-        })?;
-    }
-    Ok(copies)
-}
-
 impl Snap {
     /// A snapshot without series.
     pub fn empty(alloc: Global) -> Result<Arc<Snap>, OutOfMemory>
         ensures { IfOk result (λ s. arc_value s ≡ empty_snap) }
     {
         let snap = Snap {
-            index: Index::new(alloc),
-            series: Vec::new(alloc),
+            alloc,
+            index: Arc::new(alloc, Index::new(alloc))?,
+            blocks: Vec::new(alloc),
         };
         Ok(Arc::new(alloc, snap)?)
-    }
-
-    fn copied(&self) -> Result<Snap, OutOfMemory>
-        ensures { IfOk result (λ s. s ≡ self.now) }
-    {
-        Ok(Snap {
-            index: self.index.copied()?,
-            series: copied(*self.series.allocator(), &self.series)?,
-        })
-    }
-
-    fn put(self, row: &Row) -> Result<Snap, OutOfMemory>
-        requires timed { nat_le row.now.time 4398046511103 ≡ true }
-        requires fresh { is_some (held_of self row.now.labels row.now.time) ≡ false }
-        ensures { IfOk result (λ s. s ≡ put_row self row.now) }
-    {
-        let Snap { index, mut series } = self;
-        let sample = Sample {
-            time: row.time as i64,
-            value: row.value,
-        };
-        if let Some(id) = index.find(&row.labels) {
-            put_at(&mut series, id, sample)?;
-            return Ok(Snap { index, series });
-        }
-        series.push(Series::of(*series.allocator(), sample)?)?;
-        let index = index.with(row.labels.clone()?)?;
-        Ok(Snap { index, series })
     }
 
     /// With these rows. New series stand at the end in the order of their first row. Where there is no further id below
@@ -139,25 +147,32 @@ impl Snap {
         requires fresh { are_new self.now rows.now ≡ true }
         ensures { IfOk result (λ s. arc_value s ≡ with_rows self.now rows.now) }
     {
-        let alloc = *self.series.allocator();
-        let mut snap = self.copied()?;
-        for row in rows {
-            snap = snap.put(row)?;
-        }
-        Ok(Arc::new(alloc, snap)?)
+        let (index, entries) = numbered(self.alloc, &self.index, rows)?;
+        let _few = index.count();
+        let block = Block::of(self.alloc, entries)?;
+        let clear = clear_of(&self.blocks, &block);
+        let blocks = stacked(self.alloc, &self.blocks, clear, block)?;
+        let snap = Snap {
+            alloc: self.alloc,
+            index,
+            blocks,
+        };
+        Ok(Arc::new(self.alloc, snap)?)
     }
 
     /// Without the samples of these series at times from `from` to `to`, in milliseconds. The series stay.
     pub fn without(&self, series: &[u32], from: u64, to: u64) -> Result<Arc<Snap>, OutOfMemory>
         ensures { IfOk result (λ s. arc_value s ≡ without_rows self.now series.now from to) }
     {
-        let alloc = *self.series.allocator();
-        let marks = marks(alloc, series, self.series.len())?;
+        let marks = marks(self.alloc, series, self.index.count() as usize)?;
+        let from = from.min(MAXT + 1) as i64;
+        let to = to.min(MAXT) as i64;
         let snap = Snap {
-            index: self.index.copied()?,
-            series: cut(alloc, &self.series, &marks, from, to)?,
+            alloc: self.alloc,
+            index: Arc::try_clone(&self.index)?,
+            blocks: cut(self.alloc, &self.blocks, &marks, from, to)?,
         };
-        Ok(Arc::new(alloc, snap)?)
+        Ok(Arc::new(self.alloc, snap)?)
     }
 
     /// The number of series. What each snapshot is like stands here too.
@@ -165,7 +180,7 @@ impl Snap {
         ensures value { result ≡ length self.now.labels }
         ensures snap { IsSnap self.now }
     {
-        let _series = &self.series;
+        let _blocks = &self.blocks;
         self.index.count()
     }
 
@@ -196,8 +211,7 @@ impl Snap {
         requires { id < length self.now.labels }
         ensures { result ≡ window_of (samples_of self.now id) after upto }
     {
-        let series = &self.series[id as usize];
-        series.window(after, upto)
+        Window::over(&self.blocks, id, after, upto)
     }
 
     /// The last of the samples that `window` gives.
@@ -205,8 +219,7 @@ impl Snap {
         requires { id < length self.now.labels }
         ensures { result ≡ last_of (window_of (samples_of self.now id) after upto) }
     {
-        let series = &self.series[id as usize];
-        series.last(after, upto)
+        last_within(&self.blocks, id, after, upto)
     }
 
     /// The value of a series at a time in milliseconds.
@@ -214,7 +227,11 @@ impl Snap {
         requires { id < length self.now.labels }
         ensures { result ≡ held_at self.now id time }
     {
-        let series = &self.series[id as usize];
-        series.held(time)
+        let _count = self.series_count();
+        if time > MAXT {
+            return None;
+        }
+        let sample = self.last(id, time as i64 - 1, time as i64)?;
+        Some(sample.value)
     }
 }

@@ -1,29 +1,64 @@
 //! Samples walked in order of time.
 
-ghost use Rattle.std.specs.Prelude.{◌≡◌, true};
+ghost use Rattle.std.specs.Prelude.{◌≡◌, ◌++◌, true, map, []};
+ghost use Rattle.std.specs.Arc.{arc_value};
 ghost use Rattle.std.specs.Iterator.{YieldsFirst, item_count};
-ghost use Rattle.pf_block.specs.Samples.{rises, last_of};
+ghost use Rattle.pf_block.specs.Stacks.{series_in};
+ghost use Rattle.pf_block.specs.Samples.{rises, window_of};
 
+use crate::block::Block;
 use pf_base::Sample;
 use std::iter::Iterator;
 use std::marker::Model;
+use std::sync::Arc;
 
 /// An iterator over samples by rising time. Contracts see the samples that are left.
 #[derive(Drop)]
 pub struct Window<'a> {
     rest: &'a [Sample],
+    more: &'a [Arc<Block>],
+    id: u32,
+    after: i64,
+    upto: i64,
 }
 
 impl<'a> Model for Window<'a> {
-    ghost use Rattle.std.specs.Prelude.{◌≡◌, true, List};
+    ghost use Rattle.std.specs.Prelude.{◌≡◌, ◌++◌, true, List, map};
+    ghost use Rattle.std.specs.Arc.{arc_value};
     ghost use Rattle.pf_base.specs.declared.plain.Sample.{Sample};
-    ghost use Rattle.pf_block.specs.Samples.{rises};
+    ghost use Rattle.pf_block.specs.Stacks.{series_in};
+    ghost use Rattle.pf_block.specs.Samples.{rises, window_of};
 
     ghost Value = { List Sample };
 
-    ghost view = { λ w. w.rest.now };
+    ghost view = { λ w. w.rest.now ++ window_of (series_in w.id (map arc_value w.more.now)) w.after w.upto };
 
-    ghost invariant = { λ w. rises w.rest.now ≡ true };
+    ghost invariant = { λ w. (rises (w.rest.now ++ window_of (series_in w.id (map arc_value w.more.now)) w.after w.upto) ≡ true) × (rises (series_in w.id (map arc_value w.more.now)) ≡ true) };
+}
+
+/// The samples that come first, and the blocks behind them. There are none only where nothing is left.
+fn first_of<'a>(
+    rest: &'a [Sample],
+    more: &'a [Arc<Block>],
+    id: u32,
+    after: i64,
+    upto: i64,
+) -> (&'a [Sample], &'a [Arc<Block>])
+    requires { rises (series_in id (map arc_value more.now)) ≡ true }
+    ensures left { result.0.now ++ window_of (series_in id (map arc_value result.1.now)) after upto ≡ rest.now ++ window_of (series_in id (map arc_value more.now)) after upto }
+    ensures none { result.0.now ≡ [] → result.1.now ≡ [] }
+    ensures rises { rises (series_in id (map arc_value result.1.now)) ≡ true }
+{
+    let mut rest = rest;
+    let mut more = more;
+    while rest.is_empty() {
+        let Some((block, behind)) = more.split_first() else {
+            break;
+        };
+        rest = block.window(id, after, upto);
+        more = behind;
+    }
+    (rest, more)
 }
 
 impl<'a> Window<'a> {
@@ -32,14 +67,27 @@ impl<'a> Window<'a> {
         requires { rises samples.now ≡ true }
         ensures { result ≡ samples.now }
     {
-        Window { rest: samples }
+        Window {
+            rest: samples,
+            more: &[],
+            id: 0,
+            after: 0,
+            upto: 0,
+        }
     }
 
-    /// The last of the samples that are left.
-    pub(crate) fn newest(&self) -> Option<Sample>
-        ensures { result ≡ last_of self.now }
+    /// Walks the samples of a series after `after`, up to and with `upto`.
+    pub(crate) fn over(blocks: &'a [Arc<Block>], id: u32, after: i64, upto: i64) -> Window<'a>
+        requires { rises (series_in id (map arc_value blocks.now)) ≡ true }
+        ensures { result ≡ window_of (series_in id (map arc_value blocks.now)) after upto }
     {
-        self.rest.last().copied()
+        Window {
+            rest: &[],
+            more: blocks,
+            id,
+            after,
+            upto,
+        }
     }
 }
 
@@ -51,7 +99,10 @@ impl<'a> Iterator for Window<'a> {
     ghost remaining = { item_count (λ w. w) };
 
     fn next(&mut self) -> Option<Sample> {
-        let (first, rest) = self.rest.split_first()?;
+        let (rest, more) = first_of(self.rest, self.more, self.id, self.after, self.upto);
+        self.more = more;
+        self.rest = rest;
+        let (first, rest) = rest.split_first()?;
         self.rest = rest;
         Some(*first)
     }

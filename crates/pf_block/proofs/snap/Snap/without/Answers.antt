@@ -1,25 +1,22 @@
-use Rattle.std.proofs.Common.{◌≡◌, pos, ap, ◌∙◌, rules}
-use Rattle.pf_block.specs.Snaps.{SnapData, cut_from, cut_marked, without_rows}
-use Rattle.pf_block.proofs.Keeping.{marked_is, cut_snap, both_lists}
+use Rattle.std.proofs.Common.{◌<◌, length, map, sym, ap, ◌∙◌, subst, arith}
+use Rattle.std.proofs.lemmas.Int.{ints}
+use Rattle.std.specs.Arc.{arc_value}
+use Rattle.pf_block.specs.Snaps.{without_rows}
+use Rattle.pf_block.proofs.Stacking.{cut_made}
 use Rattle.pf_block.proofs.snap.Snap.without.Goals as goal
-
-cut_is : (c : goal.In_ok-cut) → c.in_ok-cut.field-0.items ≡ cut_from 0 c.args.series.now (pos c.args.from) (pos c.args.to) c.self.inside.series.items
-cut_is c =
-    marked_is c.args.series.now (pos c.args.from) (pos c.args.to) c.in_ok-marks.marks.items c.self.inside.series.items c.in_ok-cut.field-0.items
-    (search rules)
-    (λ k l. c.in_ok-marks.ensures.1 k (search rules))
-    (c.in_ok-cut.ensures ∙ ap (λ m. cut_marked m (pos c.args.from) (pos c.args.to) c.deref.result.now) c.deref-2.ensures.value ∙ ap (cut_marked c.in_ok-marks.marks.items (pos c.args.from) (pos c.args.to)) c.deref.ensures.value)
 
 pub invariant_of-snap : goal.invariant_of-snap
 invariant_of-snap c =
-    let s : SnapData = record { labels = c.self.inside.index; samples = c.self.inside.series.items } in
-    cut_snap s c.args.series.now (pos c.args.from) (pos c.args.to) c.in_ok-copied.field-0 c.in_ok-cut.field-0.items c.self.invariant c.in_ok-copied.ensures (cut_is c)
+    (cut_made (arc_value c.self.inside.index) (arc_value c.in_ok-try_clone.field-0) (map arc_value c.self.inside.blocks.items) (map arc_value c.deref-2.result.now) (map arc_value c.in_ok-cut.field-0.items) c.args.series.now c.args.from c.args.to
+    c.in_ok-marks.marks.items c.deref-3.result.now _ _ c.self.invariant c.in_ok-cut.ensures c.deref-3.ensures.value (ap (map arc_value) c.deref-2.ensures.value)
+    (λ k l. c.in_ok-marks.ensures.1 k (subst (λ n. k < n) (sym (c.count.ensures.value ∙ ap length c.deref.ensures)) l))
+    (omega (arith, ints)) (omega (arith, ints)) c.in_ok-try_clone.ensures).1
 
 pub returns : goal.returns
 returns c =
-    let cut : c.in_ok-cut.field-0.items ≡ cut_from 0 c.args.series.now (pos c.args.from) (pos c.args.to) c.self.inside.series.items =
-    marked_is c.args.series.now (pos c.args.from) (pos c.args.to) c.in_ok-marks.marks.items c.self.inside.series.items c.in_ok-cut.field-0.items
-    (search rules)
-    (λ k l. c.in_ok-marks.ensures.1 k (search rules))
-    (c.in_ok-cut.ensures ∙ ap (λ m. cut_marked m (pos c.args.from) (pos c.args.to) c.deref.result.now) c.deref-2.ensures.value ∙ ap (cut_marked c.in_ok-marks.marks.items (pos c.args.from) (pos c.args.to)) c.deref.ensures.value) in
-    c.in_ok-new.ensures.ok ∙ both_lists _ _ _ _ c.in_ok-copied.ensures cut ∙ ap (λ s. without_rows s c.args.series.now c.args.from c.args.to) c.self.view_is
+    c.in_ok-new.ensures.ok
+    ∙ (cut_made (arc_value c.self.inside.index) (arc_value c.in_ok-try_clone.field-0) (map arc_value c.self.inside.blocks.items) (map arc_value c.deref-2.result.now) (map arc_value c.in_ok-cut.field-0.items) c.args.series.now c.args.from c.args.to
+    c.in_ok-marks.marks.items c.deref-3.result.now _ _ c.self.invariant c.in_ok-cut.ensures c.deref-3.ensures.value (ap (map arc_value) c.deref-2.ensures.value)
+    (λ k l. c.in_ok-marks.ensures.1 k (subst (λ n. k < n) (sym (c.count.ensures.value ∙ ap length c.deref.ensures)) l))
+    (omega (arith, ints)) (omega (arith, ints)) c.in_ok-try_clone.ensures).0
+    ∙ ap (λ s. without_rows s c.args.series.now c.args.from c.args.to) c.self.view_is

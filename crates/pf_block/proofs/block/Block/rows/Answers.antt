@@ -1,0 +1,6 @@
+use Rattle.std.proofs.Common.{rules}
+use Rattle.pf_block.proofs.Pairing.{rows_there}
+use Rattle.pf_block.proofs.block.Block.rows.Goals as goal
+
+pub returns-clause-rows : goal.returns-clause-rows
+returns-clause-rows c = let r = rows_there c.self.inside.ids.items c.self.inside.samples.items c.args.self.now c.self.invariant.0 c.self.view_is in search (rules, r)
