@@ -10,4 +10,5 @@ mod Canonical
 mod Taking
 mod Stacking
 mod Walks
+mod Totals
 mod Worked

@@ -20,6 +20,11 @@ series_from first (suc count) blocks = series_in first blocks ∷ series_from (f
 abbrev pub snap_of : List Pairs → List Entries → SnapData
 snap_of labels blocks = record { labels = labels; samples = series_from 0 (length labels) blocks }
 
+-- the sum of numbers
+abbrev pub total : List ℕ → ℕ
+total [] = 0
+total (n ∷ ns) = n + total ns
+
 -- each number is at least twice the next
 abbrev pub doubles : List ℕ → Bool
 doubles [] = true

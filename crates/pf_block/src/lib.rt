@@ -12,9 +12,11 @@
 mod block;
 mod index;
 mod samples;
+mod sizes;
 mod snap;
 mod stack;
 mod window;
 
+pub use sizes::BlockSizes;
 pub use snap::Snap;
 pub use window::Window;

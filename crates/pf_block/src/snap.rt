@@ -6,10 +6,12 @@ ghost use Rattle.std.specs.Arc.{arc_value};
 ghost use Rattle.pf_block.specs.Blocks.{entries_of, entry_of, labels_with, noted, number_of};
 ghost use Rattle.pf_block.specs.Samples.{window_of, last_of};
 ghost use Rattle.pf_block.specs.SeriesIds.{id_of, ids_with};
+ghost use Rattle.pf_block.specs.Stacks.{doubles, total};
 ghost use Rattle.pf_block.specs.Snaps.{IsSnap, empty_snap, labels_of, samples_of, held_at, with_rows, are_new, are_timed, without_rows, sample_of};
 
 use crate::block::{Block, Entry};
 use crate::index::Index;
+use crate::sizes::BlockSizes;
 use crate::stack::{clear_of, cut, last_within, stacked};
 use crate::window::Window;
 use pf_base::{Labels, MAXT, OutOfMemory, Row, Sample, Value};
@@ -233,5 +235,14 @@ impl Snap {
         }
         let sample = self.last(id, time as i64 - 1, time as i64)?;
         Some(sample.value)
+    }
+
+    /// The numbers of samples of the blocks that hold them, the oldest first. Each is at least twice the next, and together
+    /// they are at least the snapshot's samples.
+    pub fn block_sizes(&self) -> BlockSizes<'_>
+        ensures doubles { doubles result ≡ true }
+        ensures rows { total (map length self.now.samples) ≤ total result }
+    {
+        BlockSizes::of(&self.blocks)
     }
 }
