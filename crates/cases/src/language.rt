@@ -7,7 +7,8 @@ use crate::setting::text_of;
 use crate::trouble::Trouble;
 use pf_lex::{LexError, Token, TokenSort, string_value, token_text, tokens};
 use pf_model::{Expr, Kind};
-use pf_parse::{ParseError, parse, print};
+use pf_parse::{ParseError, parse};
+use pf_print::print;
 use pf_types::{
     Obstacle, QueryError, TypeError, check, error_text, first_obstacle, has_pattern, read_query,
 };

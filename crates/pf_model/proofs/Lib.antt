@@ -4,6 +4,7 @@ mod Folds
 mod GridPieces
 mod KeySets
 pub mod LegParts
+pub mod Levels
 pub mod MergeLaw
 pub mod MergeQuery
 mod MergedParts

@@ -6,6 +6,7 @@ mod expr;
 mod functions;
 mod lines;
 mod matchers;
+mod words;
 
 pub use cell::{Cell, Element, ErrorKind, StepCell};
 pub use expr::{
@@ -15,3 +16,4 @@ pub use expr::{
 pub use functions::{AggOp, InstantFn, RangeFn, Sign};
 pub use lines::next_line;
 pub use matchers::{MatchError, Matchers};
+pub use words::{aggregation_word, function_name, match_text, operator_text};

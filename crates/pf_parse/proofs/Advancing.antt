@@ -5,6 +5,7 @@ use Rattle.std.specs.List.{list_any}
 use Rattle.std.specs.Option.{is_some, is_none, option_and_then}
 use Rattle.std.specs.Str.{bytes_eq}
 use Rattle.pf_lex.specs.declared.token.Mark.TheVariants as mark
+use Rattle.pf_model.proofs.Levels.{level_positive}
 use Rattle.pf_model.specs.declared.expr.BinaryOp.{BinaryOp}
 use Rattle.pf_model.specs.declared.functions.AggOp.{AggOp}
 use Rattle.pf_model.specs.declared.functions.Sign.{Sign}
@@ -209,7 +210,7 @@ settled_at l e k p s a = settled l k e p s.1 (omega (arith, p, s.0)) (room_low e
     room_low : (e : Written) (k : List Frame) → level e ≤ 0 → Room (level e) k
     room_low e [] z = tt
     room_low e (signed minus ∷ k) z = omega (arith, z)
-    room_low e (left op keys b ∷ k) z = omega (arith, z, Rattle.pf_parse.proofs.Behind.level_positive op.sign)
+    room_low e (left op keys b ∷ k) z = omega (arith, z, level_positive op.sign)
     room_low e (bracket ∷ k) z = tt
     room_low e (calling c es ∷ k) z = tt
 
@@ -217,7 +218,7 @@ whole_followed : (e : Written) (k : List Frame) (t : Tok) → Followed t → IsS
     → Advance (at_mode (draft.whole e) k) t (mode.followed (follow_of (seen t)) (read_of e) (images k))
 whole_followed e k t (operation s h f) l a =
     subst (λ x. Advance (at_mode (draft.whole e) k) t (mode.followed x (read_of e) (images k))) (sym h)
-    (whole_operates s e k t f (settled_at (level_of s) e k (Rattle.pf_parse.proofs.Behind.level_positive s) l a))
+    (whole_operates s e k t f (settled_at (level_of s) e k (level_positive s) l a))
 whole_followed e k t (square h f) l a =
     subst (λ x. Advance (at_mode (draft.whole e) k) t (mode.followed x (read_of e) (images k))) (sym h)
     (moved _ _ (draft.range_due (operand e)) k (grammar.sign (codes "[")) f (λ zs. refl) l a)

@@ -5,6 +5,7 @@ use Rattle.std.proofs.lemmas.List.{append_assoc}
 use Rattle.std.specs.Option.{option_and_then}
 use Rattle.pf_lex.specs.declared.token.Mark.{Mark}
 use Rattle.pf_lex.specs.declared.token.Mark.TheVariants as mark
+use Rattle.pf_model.proofs.Levels.{level_positive, level_small}
 use Rattle.pf_model.specs.Clauses.{Matched}
 use Rattle.pf_model.specs.declared.expr.At.{At}
 use Rattle.pf_model.specs.declared.expr.BinaryOp.{BinaryOp}
@@ -177,38 +178,6 @@ pub signed_alike : (minus : Bool) (e : Held) (k : List Frame) (tail : Tail) (us 
 signed_alike minus e k tail us p h =
     alike 1 (on (whole e) (signed minus ∷ k)) (on (whole (held_unary minus e)) k) tail us
     (taken_alike 1 e (held_unary minus e) (signed minus ∷ k) k refl (λ o g. refl)) (λ z. absurd (omega (arith, z))) p h
-
-pub level_positive : (s : Sign) → 2 ≤ level_of s
-level_positive operator.Add = omega arith
-level_positive operator.Sub = omega arith
-level_positive operator.Mul = omega arith
-level_positive operator.Div = omega arith
-level_positive operator.Rem = omega arith
-level_positive operator.Equal = omega arith
-level_positive operator.NotEqual = omega arith
-level_positive operator.Less = omega arith
-level_positive operator.LessOrEqual = omega arith
-level_positive operator.Greater = omega arith
-level_positive operator.GreaterOrEqual = omega arith
-level_positive operator.And = omega arith
-level_positive operator.Or = omega arith
-level_positive operator.Unless = omega arith
-
-pub level_small : (s : Sign) → level_of s ≤ 6
-level_small operator.Add = omega arith
-level_small operator.Sub = omega arith
-level_small operator.Mul = omega arith
-level_small operator.Div = omega arith
-level_small operator.Rem = omega arith
-level_small operator.Equal = omega arith
-level_small operator.NotEqual = omega arith
-level_small operator.Less = omega arith
-level_small operator.LessOrEqual = omega arith
-level_small operator.Greater = omega arith
-level_small operator.GreaterOrEqual = omega arith
-level_small operator.And = omega arith
-level_small operator.Or = omega arith
-level_small operator.Unless = omega arith
 
 takes_left : (l : ℕ) (op : BinaryOp) (m : Matched) (a e : Held) (k : List Frame) → level_of op.sign ≤ l
     → settle l e (left op m a ∷ k) ≡ settle l (held_binary op m a e) k

@@ -4,6 +4,7 @@ use Rattle.std.proofs.lemmas.Bool.{lt-leb}
 use Rattle.std.proofs.lemmas.List.{append_assoc, append-nil}
 use Rattle.std.specs.Option.{option_map_or, is_none}
 use Rattle.pf_lex.specs.declared.token.Mark.TheVariants as mark
+use Rattle.pf_model.proofs.Levels.{level_positive}
 use Rattle.pf_model.specs.Clauses.{Grouped, Matched}
 use Rattle.pf_model.specs.declared.expr.BinaryOp.{BinaryOp}
 use Rattle.pf_model.specs.declared.expr.Matcher.{Matcher}
@@ -19,7 +20,7 @@ use Rattle.pf_parse.specs.declared.keyword.Keyword.TheVariants as keyword
 use Rattle.pf_parse.specs.Held.{Held, held_binary, held_call, held_aggregate, with_argument, held_target, Target, selector, nothing_read, ranged, over, over_by}
 use Rattle.pf_parse.specs.Lexemes.{word, within_limit, lexeme_of, operates}
 use Rattle.pf_parse.specs.Reading.{Frame, State, signed, left, bracket, calling, Callee, function, aggregation, step, due, first_due, named, label_due, whole, modified, operated, keyed, grouped, range_due, range, resolution_due, resolution, clause_due, arguments_due, aggregated, labels_due, labels, groups_next, groups, matches, includes, called, settle, no_keys, labels_read, Purpose, with_side, metric, to_if, operand, matchers, start}
-use Rattle.pf_parse.proofs.Behind.{Tail, nothing, closing, separating, operating, squared, terminals, May, may_lower, operator_passes, signed_alike, left_alike, modified_alike, aggregated_alike, named_alike, by_follow, level_positive, positive}
+use Rattle.pf_parse.proofs.Behind.{Tail, nothing, closing, separating, operating, squared, terminals, May, may_lower, operator_passes, signed_alike, left_alike, modified_alike, aggregated_alike, named_alike, by_follow, positive}
 use Rattle.pf_parse.proofs.Fronts.{fronts_alike, unopened_alike, aggregation_found}
 use Rattle.pf_parse.proofs.Goes.{Goes, Fit, value, lexemes, on, one, stays, then, by_mark, by_key, refit}
 use Rattle.pf_parse.proofs.Labels.{labels_onto, all_labels}

@@ -2,12 +2,12 @@
 use Rattle.std.proofs.Common.{◌≡◌, ◌∙◌, sym, refl, ap, ℕ, ◌≤◌, Bool, true, false, cond, ◌&&◌, List, [], ◌∷◌, ◌++◌, Option, arith, nat_le}
 use Rattle.std.proofs.lemmas.Bool.{leb-true, leb-false}
 use Rattle.std.proofs.lemmas.List.{append_assoc}
+use Rattle.pf_model.proofs.Levels.{level_positive}
 use Rattle.pf_model.specs.declared.expr.BinaryOp.{BinaryOp}
 use Rattle.pf_model.specs.Grammar.{Terminal, Written, text_of, level, IsLawful, Keys, AreKeys, begins_with_bracket, unary, binary, operator_terminal, bool_text, these, keys_text, ends_with_group}
 use Rattle.pf_model.specs.Words.{level_of}
 use Rattle.pf_parse.specs.Reading as mode
 use Rattle.pf_parse.specs.Held.{held_binary}
-use Rattle.pf_parse.proofs.Behind.{level_positive}
 use Rattle.pf_parse.proofs.Drafts.{Frame, signed, left, bracket, calling, images, stack_text, Room, Fronted, tops_group, AreFrames}
 use Rattle.pf_parse.proofs.Fronts.{front_of, bracket_first}
 use Rattle.pf_parse.proofs.ReadOf.{read_of}

@@ -1,6 +1,5 @@
 pub mod Held
 pub mod Lexemes
-pub mod Printed
 pub mod Reading
 pub mod Refusals
 pub mod Scans

@@ -77,6 +77,12 @@ pub struct ModifiersRead {
     pub at: Option<Option<At>>,
 }
 
+/// No modifiers.
+pub const NOTHING_READ: ModifiersRead = ModifiersRead {
+    offset: None,
+    at: None,
+};
+
 pub fn number(alloc: Global, value: Value) -> Result<Measured, OutOfMemory>
     ensures { IfOk result (λ m. m ≡ tree.number value) }
 {

@@ -1,7 +1,7 @@
-//! Queries read from texts and written as canonical texts.
+//! Queries read from texts.
 //!
 //! What the layers above use: `parse` reads a text as its tree, or names the first refusal and its place; its contract is the
-//! grammar of queries, in both directions. `print` writes a tree as its canonical text, which derives this tree.
+//! grammar of queries, in both directions.
 //!
 //! The reader is a machine over the tokens with a stack of what is open, and nothing in it recurses over the text. A tree is
 //! held only while it has at most 64 levels, so no taller one is ever built.
@@ -16,9 +16,7 @@ mod mode;
 mod modifiers;
 mod operands;
 mod operators;
-mod output;
 mod parser;
-mod printer;
 mod ranges;
 mod reader;
 mod scans;
@@ -28,4 +26,3 @@ mod words;
 
 pub use error::ParseError;
 pub use parser::parse;
-pub use printer::print;

@@ -1,17 +1,19 @@
 //! Operands as they begin and end.
 
-ghost use Rattle.std.specs.Prelude.{◌≡◌, IfOk, Some};
-ghost use Rattle.pf_parse.specs.Held.{held_binary};
+ghost use Rattle.std.specs.Prelude.{◌≡◌, ◌∷◌, IfOk, Some};
+ghost use Rattle.pf_parse.specs.Held.{held_binary, with_argument};
 ghost use Rattle.pf_parse.specs.Lexemes.{follow_of, seen, sign};
-ghost use Rattle.pf_parse.specs.Reading.{called, closed, due_step, first_step, followed, separated, settle, whole_ends, whole_step};
-ghost use Rattle.pf_parse.specs.Stacks.{mode_of, Leads, taken};
+ghost use Rattle.pf_parse.specs.Reading.{calling, called, closed, due, due_step, first_step, followed, separated, settle, to, whole_ends, whole_step};
+ghost use Rattle.pf_parse.specs.Stacks.{mode_of, IsTaker, Leads, taken};
 
 use crate::held::{
     Arguments, Measured, aggregate, binary, call, no_arguments, number, text, unary, with_argument,
 };
 use crate::keyword::Keyword;
 use crate::lexeme::{Follow, Lexeme};
-use crate::mode::{Base, Callee, Frame, Mode, Selecting};
+use crate::mode::{
+    Aggregating, Base, Callee, Frame, Mode, Operating, Ranging, Selecting, SelectorDue,
+};
 use crate::stack::Stack;
 use crate::words::level_of;
 use pf_base::{OutOfMemory, Text};
@@ -30,12 +32,15 @@ fn due_mark(alloc: Global, stack: &mut Stack, mark: Mark) -> Result<Option<Mode>
             stack.push(Frame::Bracket)?;
             Ok(Some(Mode::Due))
         }
-        Mark::OpenBrace => Ok(Some(Mode::LabelDue(Selecting {
-            has_name: false,
-            selector: Selector {
-                matchers: Vec::new(alloc),
+        Mark::OpenBrace => Ok(Some(Mode::Selecting {
+            selecting: Selecting {
+                has_name: false,
+                selector: Selector {
+                    matchers: Vec::new(alloc),
+                },
             },
-        }))),
+            due: SelectorDue::Label,
+        })),
         Mark::Plus => {
             stack.push(Frame::Signed { minus: false })?;
             Ok(Some(Mode::Due))
@@ -65,7 +70,7 @@ pub fn due_step(
         Lexeme::Word {
             keyword: Some(Keyword::Aggregation { op }),
             ..
-        } => Ok(Some(Mode::ClauseDue { op })),
+        } => Ok(Some(Mode::Aggregating(Aggregating::ClauseDue { op }))),
         Lexeme::Word {
             keyword: None,
             text: name,
@@ -86,16 +91,16 @@ pub fn first_step(
     ensures { IfOk result (λ m. Leads m stack.new (first_step function stack.old (seen lexeme.entry))) }
 {
     let args = Some(no_arguments(alloc));
-    if let Lexeme::Mark { mark: Mark::Close } = lexeme {
-        return Ok(Some(Mode::Whole {
+    match lexeme {
+        Lexeme::Mark { mark: Mark::Close } => Ok(Some(Mode::Whole {
             arg: call(alloc, function, args)?,
-        }));
+        })),
+        lexeme => {
+            let callee = Callee::Function { function };
+            stack.push(Frame::Calling { callee, args })?;
+            due_step(alloc, stack, lexeme)
+        }
     }
-    stack.push(Frame::Calling {
-        callee: Callee::Function { function },
-        args,
-    })?;
-    due_step(alloc, stack, lexeme)
 }
 
 /// What the top makes of the operand behind it.
@@ -104,17 +109,18 @@ fn taken(
     frame: Frame,
     arg: Option<Measured>,
 ) -> Result<Option<Measured>, OutOfMemory>
+    requires { IsTaker frame }
     ensures { IfOk result (λ e. e ≡ taken frame arg) }
 {
     match frame {
         Frame::Signed { minus } => unary(alloc, minus, arg),
         Frame::Left { op, matching, left } => binary(alloc, op, matching, left, arg),
-        Frame::Bracket | Frame::Calling { .. } => Ok(arg),
+        Frame::Bracket | Frame::Calling { .. } => unreachable!(),
     }
 }
 
 /// The signs, and the operators that bind at least as close as this level, take the operand.
-#[tactic(auto, using(crate::proofs::Settles::settle_takes, crate::proofs::Settles::settle_stays))]
+#[tactic(auto, using(crate::proofs::Settles::settle_takes, crate::proofs::Settles::settle_stays, crate::proofs::Settles::taker))]
 fn settle(
     alloc: Global,
     level: u64,
@@ -124,15 +130,13 @@ fn settle(
     ensures { IfOk result (λ e. settle level arg stack.old ≡ record { held = e; stack = stack.new }) }
 {
     let mut arg = arg;
-    while stack.takes(level) {
-        let Some(frame) = stack.pop() else {
-            return Ok(arg);
-        };
+    while let Some(frame) = stack.pop_taker(level) {
         arg = taken(alloc, frame, arg)?;
     }
     Ok(arg)
 }
 
+/// Arguments are whole.
 fn called(alloc: Global, callee: Callee, args: Option<Arguments>) -> Result<Mode, OutOfMemory>
     ensures { IfOk result (λ m. mode_of m ≡ called callee args) }
 {
@@ -146,8 +150,23 @@ fn called(alloc: Global, callee: Callee, args: Option<Arguments>) -> Result<Mode
         } => Ok(Mode::Whole {
             arg: aggregate(alloc, op, grouping, args)?,
         }),
-        Callee::Aggregation { op, grouping: None } => Ok(Mode::Aggregated { op, args }),
+        Callee::Aggregation { op, grouping: None } => {
+            Ok(Mode::Aggregating(Aggregating::Aggregated { op, args }))
+        }
     }
+}
+
+/// The last argument ends.
+fn arguments_closed(
+    alloc: Global,
+    callee: Callee,
+    args: Option<Arguments>,
+    arg: Option<Measured>,
+) -> Result<Mode, OutOfMemory>
+    ensures { IfOk result (λ m. mode_of m ≡ called callee (with_argument args arg)) }
+{
+    let args = with_argument(args, arg)?;
+    called(alloc, callee, args)
 }
 
 fn closed(
@@ -160,22 +179,32 @@ fn closed(
     match stack.pop() {
         Some(Frame::Bracket) => Ok(Some(Mode::Whole { arg })),
         Some(Frame::Calling { callee, args }) => {
-            let args = with_argument(args, arg)?;
-            Ok(Some(called(alloc, callee, args)?))
+            let mode = arguments_closed(alloc, callee, args, arg)?;
+            Ok(Some(mode))
         }
         _ => Ok(None),
     }
+}
+
+/// Another argument is due.
+fn argument_due(
+    callee: Callee,
+    args: Option<Arguments>,
+    arg: Option<Measured>,
+    stack: &mut Stack,
+) -> Result<Option<Mode>, OutOfMemory>
+    ensures { IfOk result (λ m. Leads m stack.new (to due (calling callee (with_argument args arg) ∷ stack.old))) }
+{
+    let args = with_argument(args, arg)?;
+    stack.push(Frame::Calling { callee, args })?;
+    Ok(Some(Mode::Due))
 }
 
 fn separated(arg: Option<Measured>, stack: &mut Stack) -> Result<Option<Mode>, OutOfMemory>
     ensures { IfOk result (λ m. Leads m stack.new (separated arg stack.old)) }
 {
     match stack.pop() {
-        Some(Frame::Calling { callee, args }) => {
-            let args = with_argument(args, arg)?;
-            stack.push(Frame::Calling { callee, args })?;
-            Ok(Some(Mode::Due))
-        }
+        Some(Frame::Calling { callee, args }) => argument_due(callee, args, arg, stack),
         _ => Ok(None),
     }
 }
@@ -196,11 +225,11 @@ pub fn whole_step(
                 sign,
                 with_bool: false,
             };
-            Ok(Some(Mode::Operated { op, left }))
+            Ok(Some(Mode::Operating(Operating::Operated { op, left })))
         }
-        Follow::OpensSquare => Ok(Some(Mode::RangeDue {
+        Follow::OpensSquare => Ok(Some(Mode::Ranging(Ranging::RangeDue {
             base: Base::Operand { arg },
-        })),
+        }))),
         Follow::Separates => {
             let arg = settle(alloc, LAST_LEVEL, arg, stack)?;
             separated(arg, stack)

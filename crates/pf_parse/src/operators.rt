@@ -1,14 +1,15 @@
 //! Binary operators and their labels.
 
-ghost use Rattle.std.specs.Prelude.{◌≡◌, IfOk};
+ghost use Rattle.std.specs.Prelude.{◌≡◌, ◌&&◌, IfOk, not};
 ghost use Rattle.pf_parse.specs.Lexemes.{seen};
-ghost use Rattle.pf_parse.specs.Reading.{grouped_step, keyed_step, no_keys, operated_step, right_step, with_side};
-ghost use Rattle.pf_parse.specs.Stacks.{Leads};
+ghost use Rattle.pf_model.specs.Words.{is_comparison};
+ghost use Rattle.pf_parse.specs.Reading.{grouped_step, keyed_step, no_keys, operated, operated_step, right_step, step, to_if, with_bool, with_side};
+ghost use Rattle.pf_parse.specs.Stacks.{operating_mode, Leads, Stays};
 
 use crate::held::Measured;
 use crate::keyword::Keyword;
 use crate::lexeme::Lexeme;
-use crate::mode::{Frame, LabelList, Labelling, Mode, Operation, Purpose};
+use crate::mode::{Frame, LabelList, Labelling, Mode, Operating, Operation, Purpose};
 use crate::operands::due_step;
 use crate::stack::Stack;
 use crate::words::is_comparison;
@@ -32,19 +33,34 @@ fn no_keys(alloc: Global) -> Matching
 /// The right operand begins.
 fn right_step(
     alloc: Global,
-    op: BinaryOp,
-    matching: Matching,
-    left: Option<Measured>,
+    operation: Operation,
     stack: &mut Stack,
     lexeme: Lexeme,
 ) -> Result<Option<Mode>, OutOfMemory>
-    ensures { IfOk result (λ m. Leads m stack.new (right_step op matching left stack.old (seen lexeme.entry))) }
+    ensures { IfOk result (λ m. Leads m stack.new (right_step operation.op operation.matching operation.left stack.old (seen lexeme.entry))) }
 {
-    stack.push(Frame::Left { op, matching, left })?;
+    stack.push(Frame::Left {
+        op: operation.op,
+        matching: operation.matching,
+        left: operation.left,
+    })?;
     due_step(alloc, stack, lexeme)
 }
 
-pub fn operated_step(
+fn with_bool(op: BinaryOp, left: Option<Measured>) -> Option<Mode>
+    ensures { Stays result (to_if (is_comparison op.sign && not op.with_bool) (operated (with_bool op) left)) }
+{
+    if op.with_bool || !is_comparison(op.sign) {
+        return None;
+    }
+    let op = BinaryOp {
+        sign: op.sign,
+        with_bool: true,
+    };
+    Some(Mode::Operating(Operating::Operated { op, left }))
+}
+
+fn operated_step(
     alloc: Global,
     op: BinaryOp,
     left: Option<Measured>,
@@ -57,23 +73,17 @@ pub fn operated_step(
         Lexeme::Word {
             keyword: Some(Keyword::Bool),
             ..
-        } => {
-            if op.with_bool || !is_comparison(op.sign) {
-                return Ok(None);
-            }
-            let op = BinaryOp {
-                sign: op.sign,
-                with_bool: true,
-            };
-            Ok(Some(Mode::Operated { op, left }))
-        }
+        } => Ok(with_bool(op, left)),
         Lexeme::Word {
             keyword: Some(Keyword::Keys { on }),
             ..
-        } => Ok(Some(Mode::LabelsDue {
+        } => Ok(Some(Mode::Labelling(Labelling::BracketDue {
             purpose: Purpose::Matches { op, left, on },
-        })),
-        lexeme => right_step(alloc, op, no_keys(alloc), left, stack, lexeme),
+        }))),
+        lexeme => {
+            let matching = no_keys(alloc);
+            right_step(alloc, Operation { op, matching, left }, stack, lexeme)
+        }
     }
 }
 
@@ -88,46 +98,62 @@ fn with_side(alloc: Global, matching: Matching, is_left: bool) -> Matching
     }
 }
 
-pub fn keyed_step(
+fn keyed_step(
     alloc: Global,
-    op: BinaryOp,
-    matching: Matching,
-    left: Option<Measured>,
+    operation: Operation,
     stack: &mut Stack,
     lexeme: Lexeme,
 ) -> Result<Option<Mode>, OutOfMemory>
-    ensures { IfOk result (λ m. Leads m stack.new (keyed_step op matching left stack.old (seen lexeme.entry))) }
+    ensures { IfOk result (λ m. Leads m stack.new (keyed_step operation.op operation.matching operation.left stack.old (seen lexeme.entry))) }
 {
     match lexeme {
         Lexeme::Word {
             keyword: Some(Keyword::Group { left: is_left }),
             ..
-        } => Ok(Some(Mode::Grouped(Operation {
-            op,
-            matching: with_side(alloc, matching, is_left),
-            left,
-        }))),
-        lexeme => right_step(alloc, op, matching, left, stack, lexeme),
+        } => Ok(Some(Mode::Operating(Operating::Grouped(Operation {
+            op: operation.op,
+            matching: with_side(alloc, operation.matching, is_left),
+            left: operation.left,
+        })))),
+        lexeme => right_step(alloc, operation, stack, lexeme),
     }
 }
 
-pub fn grouped_step(
+fn grouped_step(
     alloc: Global,
-    op: BinaryOp,
-    matching: Matching,
-    left: Option<Measured>,
+    operation: Operation,
     stack: &mut Stack,
     lexeme: Lexeme,
 ) -> Result<Option<Mode>, OutOfMemory>
-    ensures { IfOk result (λ m. Leads m stack.new (grouped_step op matching left stack.old (seen lexeme.entry))) }
+    ensures { IfOk result (λ m. Leads m stack.new (grouped_step operation.op operation.matching operation.left stack.old (seen lexeme.entry))) }
 {
     match lexeme {
-        Lexeme::Mark { mark: Mark::Open } => Ok(Some(Mode::Labels(Labelling {
-            purpose: Purpose::Includes { op, matching, left },
+        Lexeme::Mark { mark: Mark::Open } => Ok(Some(Mode::Labelling(Labelling::LabelDue {
+            purpose: Purpose::Includes {
+                op: operation.op,
+                matching: operation.matching,
+                left: operation.left,
+            },
             labels: LabelList {
                 labels: Vec::new(alloc),
             },
         }))),
-        lexeme => right_step(alloc, op, matching, left, stack, lexeme),
+        lexeme => right_step(alloc, operation, stack, lexeme),
+    }
+}
+
+/// A token behind a binary operator.
+pub fn operating_step(
+    alloc: Global,
+    operating: Operating,
+    stack: &mut Stack,
+    lexeme: Lexeme,
+) -> Result<Option<Mode>, OutOfMemory>
+    ensures { IfOk result (λ m. Leads m stack.new (step (operating_mode operating) stack.old (seen lexeme.entry))) }
+{
+    match operating {
+        Operating::Operated { op, left } => operated_step(alloc, op, left, stack, lexeme),
+        Operating::Keyed(operation) => keyed_step(alloc, operation, stack, lexeme),
+        Operating::Grouped(operation) => grouped_step(alloc, operation, stack, lexeme),
     }
 }

@@ -3,21 +3,15 @@
 ghost use Rattle.std.specs.Prelude.{◌≡◌, IfOk};
 ghost use Rattle.pf_parse.specs.Held.{nothing_read};
 ghost use Rattle.pf_parse.specs.Lexemes.{seen};
-ghost use Rattle.pf_parse.specs.Reading.{base_held, is_positive, modified, range_end_step, range_step, resolution_end_step, resolution_step};
-ghost use Rattle.pf_parse.specs.Stacks.{mode_of, Leads};
+ghost use Rattle.pf_parse.specs.Reading.{base_held, is_positive, modified, range_end_step, range_step, resolution_end_step, resolution_step, step};
+ghost use Rattle.pf_parse.specs.Stacks.{mode_of, ranging_mode, Stays};
 
-use crate::held::{Measured, ModifiersRead, Target, modified, over, over_by, ranged};
+use crate::held::{Measured, NOTHING_READ, Target, modified, over, over_by, ranged};
 use crate::lexeme::Lexeme;
-use crate::mode::{Base, Mode, Modifying};
-use crate::stack::Stack;
+use crate::mode::{Base, Mode, Modifying, Ranging};
 use pf_base::OutOfMemory;
 use pf_lex::Mark;
 use std::alloc::Global;
-
-const NOTHING_READ: ModifiersRead = ModifiersRead {
-    offset: None,
-    at: None,
-};
 
 fn is_positive(millis: Option<u64>) -> bool
     ensures { result ≡ is_positive millis }
@@ -25,16 +19,15 @@ fn is_positive(millis: Option<u64>) -> bool
     millis != Some(0)
 }
 
-pub fn range_step(base: Base, stack: &Stack, lexeme: Lexeme) -> Option<Mode>
-    ensures { Leads result stack.now (range_step base stack.now (seen lexeme.entry)) }
+fn range_step(base: Base, lexeme: Lexeme) -> Option<Mode>
+    ensures { Stays result (λ k. range_step base k (seen lexeme.entry)) }
 {
-    let Lexeme::Duration { millis } = lexeme else {
-        return None;
-    };
-    if is_positive(millis) {
-        return Some(Mode::Range { base, millis });
+    match lexeme {
+        Lexeme::Duration { millis } if is_positive(millis) => {
+            Some(Mode::Ranging(Ranging::Range { base, millis }))
+        }
+        _ => None,
     }
-    None
 }
 
 fn base_held(alloc: Global, base: Base) -> Result<Option<Measured>, OutOfMemory>
@@ -63,14 +56,13 @@ fn unmodified(target: Option<Target>) -> Mode
     })
 }
 
-pub fn range_end_step(
+fn range_end_step(
     alloc: Global,
     base: Base,
     millis: Option<u64>,
-    stack: &Stack,
     lexeme: Lexeme,
 ) -> Result<Option<Mode>, OutOfMemory>
-    ensures { IfOk result (λ m. Leads m stack.now (range_end_step base millis stack.now (seen lexeme.entry))) }
+    ensures { IfOk result (λ m. Stays m (λ k. range_end_step base millis k (seen lexeme.entry))) }
 {
     match (base, lexeme) {
         (
@@ -79,28 +71,22 @@ pub fn range_end_step(
                 mark: Mark::CloseSquare,
             },
         ) => Ok(Some(unmodified(ranged(selector, millis)))),
-        (base, Lexeme::Mark { mark: Mark::Colon }) => Ok(Some(Mode::ResolutionDue {
-            arg: base_held(alloc, base)?,
-            range: millis,
-        })),
+        (base, Lexeme::Mark { mark: Mark::Colon }) => {
+            Ok(Some(Mode::Ranging(Ranging::ResolutionDue {
+                arg: base_held(alloc, base)?,
+                range: millis,
+            })))
+        }
         _ => Ok(None),
     }
 }
 
-pub fn resolution_step(
-    arg: Option<Measured>,
-    range: Option<u64>,
-    stack: &Stack,
-    lexeme: Lexeme,
-) -> Option<Mode>
-    ensures { Leads result stack.now (resolution_step arg range stack.now (seen lexeme.entry)) }
+fn resolution_step(arg: Option<Measured>, range: Option<u64>, lexeme: Lexeme) -> Option<Mode>
+    ensures { Stays result (λ k. resolution_step arg range k (seen lexeme.entry)) }
 {
     match lexeme {
-        Lexeme::Duration { millis } => {
-            if is_positive(millis) {
-                return Some(Mode::Resolution { arg, range, millis });
-            }
-            None
+        Lexeme::Duration { millis } if is_positive(millis) => {
+            Some(Mode::Ranging(Ranging::Resolution { arg, range, millis }))
         }
         Lexeme::Mark {
             mark: Mark::CloseSquare,
@@ -109,19 +95,36 @@ pub fn resolution_step(
     }
 }
 
-pub fn resolution_end_step(
+fn resolution_end_step(
     arg: Option<Measured>,
     range: Option<u64>,
     millis: Option<u64>,
-    stack: &Stack,
     lexeme: Lexeme,
 ) -> Option<Mode>
-    ensures { Leads result stack.now (resolution_end_step arg range millis stack.now (seen lexeme.entry)) }
+    ensures { Stays result (λ k. resolution_end_step arg range millis k (seen lexeme.entry)) }
 {
     match lexeme {
         Lexeme::Mark {
             mark: Mark::CloseSquare,
         } => Some(unmodified(over_by(arg, range, millis))),
         _ => None,
+    }
+}
+
+/// A token within square brackets.
+pub fn ranging_step(
+    alloc: Global,
+    ranging: Ranging,
+    lexeme: Lexeme,
+) -> Result<Option<Mode>, OutOfMemory>
+    ensures { IfOk result (λ m. Stays m (λ k. step (ranging_mode ranging) k (seen lexeme.entry))) }
+{
+    match ranging {
+        Ranging::RangeDue { base } => Ok(range_step(base, lexeme)),
+        Ranging::Range { base, millis } => range_end_step(alloc, base, millis, lexeme),
+        Ranging::ResolutionDue { arg, range } => Ok(resolution_step(arg, range, lexeme)),
+        Ranging::Resolution { arg, range, millis } => Ok(resolution_end_step(
+            arg, range, millis, lexeme,
+        )),
     }
 }

@@ -1,50 +1,49 @@
 //! The reading of a query's tokens.
 
-ghost use Rattle.std.specs.Prelude.{◌≡◌, ◌∷◌, [], IfOk, Some, None};
+ghost use Rattle.std.specs.Prelude.{◌≡◌, ◌∷◌, [], IfOk, Some, None, true};
 ghost use Rattle.std.specs.List.{All};
 ghost use Rattle.pf_lex.specs.Seen.{IsTokenOf};
 ghost use Rattle.pf_parse.specs.Held.{selector};
 ghost use Rattle.pf_parse.specs.Lexemes.{IsTimely, seen};
-ghost use Rattle.pf_parse.specs.Reading.{ends, metric, named_step, run, start, step};
+ghost use Rattle.pf_parse.specs.Reading.{ends, label_due, metric, named_step, run, start, step, to};
 ghost use Rattle.pf_parse.specs.Shown.{lexeme_at, lexemes_of};
-ghost use Rattle.pf_parse.specs.Stacks.{mode_of, Leads};
+ghost use Rattle.pf_parse.specs.Stacks.{mode_of, Leads, Stays};
 
-use crate::aggregations::{
-    aggregated_step, arguments_step, by_none, clause_step, labelled_step, labels_open_step,
-    labels_step,
-};
-use crate::held::{Measured, ModifiersRead, Target, aggregate, modified};
+use crate::aggregations::{aggregating_end, aggregating_step, labelling_step};
+use crate::held::{Measured, NOTHING_READ, Target, modified};
 use crate::lexeme::Lexeme;
-use crate::mode::{Mode, Selecting};
-use crate::modifiers::{
-    end_close_step, end_open_step, minus_offset_step, modified_step, offset_step, signed_time_step,
-    time_step,
-};
+use crate::mode::{Mode, Modifying, Selecting, SelectorDue};
+use crate::modifiers::{modified_step, modifier_step};
 use crate::operands::{due_step, first_step, whole_end, whole_step};
-use crate::operators::{grouped_step, keyed_step, operated_step};
-use crate::ranges::{range_end_step, range_step, resolution_end_step, resolution_step};
-use crate::selectors::{label_step, matched_step, metric, sign_step, text_step};
+use crate::operators::operating_step;
+use crate::ranges::ranging_step;
+use crate::selectors::{named_selector, selecting_step};
 use crate::stack::Stack;
 use crate::words::{function_of, keyword_of};
 use pf_base::{OutOfMemory, Text};
 use pf_lex::{Mark, Token, TokenSort, token_text};
-use pf_model::Selector;
 use std::alloc::Global;
 
-const NOTHING_READ: ModifiersRead = ModifiersRead {
-    offset: None,
-    at: None,
-};
-
-/// The selector of a metric's name.
+/// What modifiers stand behind where a metric's name was read.
 fn named_target(alloc: Global, name: Text) -> Result<Option<Target>, OutOfMemory>
     ensures { IfOk result (λ t. t ≡ Some (selector (metric name ∷ []) None)) }
 {
-    let mut matchers = Vec::new(alloc);
-    matchers.push(metric(alloc, name)?)?;
     Ok(Some(Target::Selector {
-        selector: Selector { matchers },
+        selector: named_selector(alloc, name)?,
         range: None,
+    }))
+}
+
+/// A brace behind a metric's name.
+fn named_brace(alloc: Global, name: Text) -> Result<Option<Mode>, OutOfMemory>
+    ensures { IfOk result (λ m. Stays m (to (label_due true (metric name ∷ [])))) }
+{
+    Ok(Some(Mode::Selecting {
+        selecting: Selecting {
+            has_name: true,
+            selector: named_selector(alloc, name)?,
+        },
+        due: SelectorDue::Label,
     }))
 }
 
@@ -63,17 +62,13 @@ fn named_step(
         })),
         Lexeme::Mark {
             mark: Mark::OpenBrace,
-        } => {
-            let mut matchers = Vec::new(alloc);
-            matchers.push(metric(alloc, name)?)?;
-            Ok(Some(Mode::LabelDue(Selecting {
-                has_name: true,
-                selector: Selector { matchers },
-            })))
-        }
+        } => named_brace(alloc, name),
         lexeme => {
-            let target = named_target(alloc, name)?;
-            modified_step(alloc, target, NOTHING_READ, stack, lexeme)
+            let modifying = Modifying {
+                target: named_target(alloc, name)?,
+                read: NOTHING_READ,
+            };
+            modified_step(alloc, modifying, stack, lexeme)
         }
     }
 }
@@ -92,47 +87,14 @@ fn step(
         Mode::Due => due_step(alloc, stack, lexeme),
         Mode::FirstDue { function } => first_step(alloc, function, stack, lexeme),
         Mode::Named { name } => named_step(alloc, name, stack, lexeme),
-        Mode::LabelDue(s) => label_step(alloc, s.has_name, s.selector, stack, lexeme),
-        Mode::SignDue {
-            selecting: s,
-            label,
-        } => Ok(sign_step(s.has_name, s.selector, label, stack, lexeme)),
-        Mode::TextDue {
-            selecting: s,
-            label,
-            sign,
-        } => text_step(alloc, s.has_name, s.selector, label, sign, stack, lexeme),
-        Mode::Matched(s) => Ok(matched_step(s.has_name, s.selector, stack, lexeme)),
-        Mode::Modified(m) => modified_step(alloc, m.target, m.read, stack, lexeme),
-        Mode::OffsetDue(m) => Ok(offset_step(m.target, m.read, stack, lexeme)),
-        Mode::MinusOffsetDue(m) => Ok(minus_offset_step(m.target, m.read, stack, lexeme)),
-        Mode::TimeDue(m) => Ok(time_step(m.target, m.read, stack, lexeme)),
-        Mode::SignedTimeDue {
-            modifying: m,
-            minus,
-        } => Ok(signed_time_step(m.target, m.read, minus, stack, lexeme)),
-        Mode::EndOpenDue { modifying: m, at } => Ok(end_open_step(
-            m.target, m.read, at, stack, lexeme,
-        )),
-        Mode::EndCloseDue { modifying: m, at } => Ok(end_close_step(
-            m.target, m.read, at, stack, lexeme,
-        )),
-        Mode::RangeDue { base } => Ok(range_step(base, stack, lexeme)),
-        Mode::Range { base, millis } => range_end_step(alloc, base, millis, stack, lexeme),
-        Mode::ResolutionDue { arg, range } => Ok(resolution_step(arg, range, stack, lexeme)),
-        Mode::Resolution { arg, range, millis } => Ok(resolution_end_step(
-            arg, range, millis, stack, lexeme,
-        )),
+        Mode::Selecting { selecting, due } => selecting_step(alloc, selecting, due, lexeme),
+        Mode::Modified(modifying) => modified_step(alloc, modifying, stack, lexeme),
+        Mode::Modifying { modifying, due } => Ok(modifier_step(modifying, due, lexeme)),
+        Mode::Ranging(ranging) => ranging_step(alloc, ranging, lexeme),
         Mode::Whole { arg } => whole_step(alloc, arg, stack, &lexeme),
-        Mode::Operated { op, left } => operated_step(alloc, op, left, stack, lexeme),
-        Mode::Keyed(o) => keyed_step(alloc, o.op, o.matching, o.left, stack, lexeme),
-        Mode::Grouped(o) => grouped_step(alloc, o.op, o.matching, o.left, stack, lexeme),
-        Mode::ClauseDue { op } => clause_step(alloc, op, stack, lexeme),
-        Mode::ArgumentsDue { op, grouping } => arguments_step(alloc, op, grouping, stack, lexeme),
-        Mode::Aggregated { op, args } => aggregated_step(alloc, op, args, stack, lexeme),
-        Mode::LabelsDue { purpose } => Ok(labels_open_step(alloc, purpose, stack, lexeme)),
-        Mode::Labels(l) => labels_step(alloc, l.purpose, l.labels, stack, lexeme),
-        Mode::Labelled(l) => labelled_step(alloc, l.purpose, l.labels, stack, lexeme),
+        Mode::Operating(operating) => operating_step(alloc, operating, stack, lexeme),
+        Mode::Aggregating(aggregating) => aggregating_step(alloc, aggregating, stack, lexeme),
+        Mode::Labelling(labelling) => labelling_step(alloc, labelling, stack, lexeme),
     }
 }
 
@@ -150,15 +112,12 @@ fn ends(
             let arg = modified(alloc, target, NOTHING_READ)?;
             whole_end(alloc, arg, stack)
         }
-        Mode::Modified(m) => {
-            let arg = modified(alloc, m.target, m.read)?;
+        Mode::Modified(modifying) => {
+            let arg = modified(alloc, modifying.target, modifying.read)?;
             whole_end(alloc, arg, stack)
         }
         Mode::Whole { arg } => whole_end(alloc, arg, stack),
-        Mode::Aggregated { op, args } => {
-            let arg = aggregate(alloc, op, by_none(alloc), args)?;
-            whole_end(alloc, arg, stack)
-        }
+        Mode::Aggregating(aggregating) => aggregating_end(alloc, aggregating, stack),
         unfinished => {
             drop(unfinished);
             Ok(None)

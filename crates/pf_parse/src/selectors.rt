@@ -1,16 +1,15 @@
 //! Selectors' matchers.
 
-ghost use Rattle.std.specs.Prelude.{◌≡◌, IfOk, Some, None};
+ghost use Rattle.std.specs.Prelude.{◌≡◌, ◌∷◌, ◌&&◌, [], IfOk, Some, None, not};
 ghost use Rattle.pf_model.specs.Grammar.{has_colon};
-ghost use Rattle.pf_parse.specs.Held.{nothing_read, selector as of_selector};
+ghost use Rattle.pf_parse.specs.Held.{nothing_read, selector};
 ghost use Rattle.pf_parse.specs.Lexemes.{seen};
-ghost use Rattle.pf_parse.specs.Reading.{is_name, label_step, matched_step, metric, modified, sign_step, text_step};
-ghost use Rattle.pf_parse.specs.Stacks.{mode_of, Leads};
+ghost use Rattle.pf_parse.specs.Reading.{is_name, label_step, matched_step, metric, modified, sign_due, sign_step, step, text_step, to_if};
+ghost use Rattle.pf_parse.specs.Stacks.{mode_of, selecting_mode, Stays};
 
-use crate::held::{ModifiersRead, Target};
+use crate::held::{NOTHING_READ, Target};
 use crate::lexeme::Lexeme;
-use crate::mode::{Mode, Modifying, Selecting};
-use crate::stack::Stack;
+use crate::mode::{Mode, Modifying, Selecting, SelectorDue};
 use crate::words::match_mark;
 use pf_base::{OutOfMemory, Text};
 use pf_lex::{Mark, unquoted};
@@ -33,7 +32,7 @@ fn is_name(label: &str) -> bool
 }
 
 /// The matcher of a metric's name.
-pub fn metric(alloc: Global, name: Text) -> Result<Matcher, OutOfMemory>
+fn metric(alloc: Global, name: Text) -> Result<Matcher, OutOfMemory>
     ensures { IfOk result (λ m. m ≡ metric name) }
 {
     Ok(Matcher {
@@ -43,110 +42,123 @@ pub fn metric(alloc: Global, name: Text) -> Result<Matcher, OutOfMemory>
     })
 }
 
+/// The selector of a metric's name.
+pub fn named_selector(alloc: Global, name: Text) -> Result<Selector, OutOfMemory>
+    ensures { IfOk result (λ s. s ≡ metric name ∷ []) }
+{
+    let mut matchers = Vec::new(alloc);
+    matchers.push(metric(alloc, name)?)?;
+    Ok(Selector { matchers })
+}
+
 /// A selector without a range and without modifiers.
-pub fn plain(selector: Selector) -> Mode
-    ensures { mode_of result ≡ modified (Some (of_selector selector None)) nothing_read }
+fn plain(matchers: Selector) -> Mode
+    ensures { mode_of result ≡ modified (Some (selector matchers None)) nothing_read }
 {
     Mode::Modified(Modifying {
         target: Some(Target::Selector {
-            selector,
+            selector: matchers,
             range: None,
         }),
-        read: ModifiersRead {
-            offset: None,
-            at: None,
-        },
+        read: NOTHING_READ,
     })
 }
 
-pub fn label_step(
+/// A word where a label is due.
+fn label_read(alloc: Global, selecting: Selecting, word: &str) -> Result<Option<Mode>, OutOfMemory>
+    ensures { IfOk result (λ m. Stays m (to_if (not (has_colon word.now) && not (selecting.has_name && is_name word.now)) (sign_due selecting.has_name selecting.selector word.now))) }
+{
+    if has_colon(word) || (selecting.has_name && is_name(word)) {
+        return Ok(None);
+    }
+    let label = Text::of(alloc, word)?;
+    Ok(Some(Mode::Selecting {
+        selecting,
+        due: SelectorDue::Sign { label },
+    }))
+}
+
+fn label_step(
     alloc: Global,
-    has_name: bool,
-    selector: Selector,
-    stack: &Stack,
+    selecting: Selecting,
     lexeme: Lexeme,
 ) -> Result<Option<Mode>, OutOfMemory>
-    ensures { IfOk result (λ m. Leads m stack.now (label_step has_name selector stack.now (seen lexeme.entry))) }
+    ensures { IfOk result (λ m. Stays m (λ k. label_step selecting.has_name selecting.selector k (seen lexeme.entry))) }
 {
     match lexeme {
-        Lexeme::Word { text, .. } => {
-            if has_colon(text) {
-                return Ok(None);
-            }
-            if has_name && is_name(text) {
-                return Ok(None);
-            }
-            Ok(Some(Mode::SignDue {
-                selecting: Selecting { has_name, selector },
-                label: Text::of(alloc, text)?,
-            }))
-        }
+        Lexeme::Word { text, .. } => label_read(alloc, selecting, text),
         Lexeme::Mark {
             mark: Mark::CloseBrace,
-        } => Ok(Some(plain(selector))),
+        } => Ok(Some(plain(selecting.selector))),
         _ => Ok(None),
     }
 }
 
-pub fn sign_step(
-    has_name: bool,
-    selector: Selector,
-    label: Text,
-    stack: &Stack,
-    lexeme: Lexeme,
-) -> Option<Mode>
-    ensures { Leads result stack.now (sign_step has_name selector label stack.now (seen lexeme.entry)) }
+fn sign_step(selecting: Selecting, label: Text, lexeme: Lexeme) -> Option<Mode>
+    ensures { Stays result (λ k. sign_step selecting.has_name selecting.selector label k (seen lexeme.entry)) }
 {
     let Lexeme::Mark { mark } = lexeme else {
         return None;
     };
     let sign = match_mark(mark)?;
-    Some(Mode::TextDue {
-        selecting: Selecting { has_name, selector },
-        label,
-        sign,
+    Some(Mode::Selecting {
+        selecting,
+        due: SelectorDue::Text { label, sign },
     })
 }
 
-pub fn text_step(
+fn text_step(
     alloc: Global,
-    has_name: bool,
-    selector: Selector,
+    selecting: Selecting,
     label: Text,
     sign: MatchSign,
-    stack: &Stack,
     lexeme: Lexeme,
 ) -> Result<Option<Mode>, OutOfMemory>
-    ensures { IfOk result (λ m. Leads m stack.now (text_step has_name selector label sign stack.now (seen lexeme.entry))) }
+    ensures { IfOk result (λ m. Stays m (λ k. text_step selecting.has_name selecting.selector label sign k (seen lexeme.entry))) }
 {
     let Lexeme::Text { quoted } = lexeme else {
         return Ok(None);
     };
     let text = unquoted(alloc, quoted)?;
-    let mut matchers = selector.matchers;
+    let mut matchers = selecting.selector.matchers;
     matchers.push(Matcher { label, sign, text })?;
-    Ok(Some(Mode::Matched(Selecting {
-        has_name,
-        selector: Selector { matchers },
-    })))
+    Ok(Some(Mode::Selecting {
+        selecting: Selecting {
+            has_name: selecting.has_name,
+            selector: Selector { matchers },
+        },
+        due: SelectorDue::Comma,
+    }))
 }
 
-pub fn matched_step(
-    has_name: bool,
-    selector: Selector,
-    stack: &Stack,
-    lexeme: Lexeme,
-) -> Option<Mode>
-    ensures { Leads result stack.now (matched_step has_name selector stack.now (seen lexeme.entry)) }
+fn matched_step(selecting: Selecting, lexeme: Lexeme) -> Option<Mode>
+    ensures { Stays result (λ k. matched_step selecting.has_name selecting.selector k (seen lexeme.entry)) }
 {
     match lexeme {
-        Lexeme::Mark { mark: Mark::Comma } => Some(Mode::LabelDue(Selecting {
-            has_name,
-            selector,
-        })),
+        Lexeme::Mark { mark: Mark::Comma } => Some(Mode::Selecting {
+            selecting,
+            due: SelectorDue::Label,
+        }),
         Lexeme::Mark {
             mark: Mark::CloseBrace,
-        } => Some(plain(selector)),
+        } => Some(plain(selecting.selector)),
         _ => None,
+    }
+}
+
+/// A token within a selector's braces.
+pub fn selecting_step(
+    alloc: Global,
+    selecting: Selecting,
+    due: SelectorDue,
+    lexeme: Lexeme,
+) -> Result<Option<Mode>, OutOfMemory>
+    ensures { IfOk result (λ m. Stays m (λ k. step (selecting_mode selecting due) k (seen lexeme.entry))) }
+{
+    match due {
+        SelectorDue::Label => label_step(alloc, selecting, lexeme),
+        SelectorDue::Sign { label } => Ok(sign_step(selecting, label, lexeme)),
+        SelectorDue::Text { label, sign } => text_step(alloc, selecting, label, sign, lexeme),
+        SelectorDue::Comma => Ok(matched_step(selecting, lexeme)),
     }
 }

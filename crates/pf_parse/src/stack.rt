@@ -1,7 +1,7 @@
 //! What is open, the last opened first.
 
 ghost use Rattle.std.specs.Prelude.{◌≡◌, ◌∷◌, [], OnErr, OnOk, List};
-ghost use Rattle.pf_parse.specs.Stacks.{Popped, takes};
+ghost use Rattle.pf_parse.specs.Stacks.{Popped, PoppedTaker, takes};
 
 use crate::mode::Frame;
 use crate::words::level_of;
@@ -52,7 +52,7 @@ impl Stack {
     }
 
     /// Whether the top takes the operand before it where something of this level follows.
-    pub fn takes(&self, level: u64) -> bool
+    fn takes(&self, level: u64) -> bool
         ensures { result ≡ takes level self.now }
     {
         match self.frames.last() {
@@ -60,5 +60,15 @@ impl Stack {
             Some(Frame::Left { op, .. }) => level_of(op.sign) <= level,
             _ => false,
         }
+    }
+
+    /// Takes the top off where it takes the operand before it.
+    pub fn pop_taker(&mut self, level: u64) -> Option<Frame>
+        ensures { PoppedTaker level self.old self.new result }
+    {
+        if self.takes(level) {
+            return self.pop();
+        }
+        None
     }
 }

@@ -1,66 +1,16 @@
-//! The words and signs of the language. Prometheus, Querying: Operators, Functions.
+//! The words and signs that the reader looks for. Prometheus, Querying: Operators, Functions.
 
 ghost use Rattle.std.specs.Prelude.{◌≡◌};
 ghost use Rattle.std.specs.Str.{str_to_ascii_lowercase};
-ghost use Rattle.pf_model.specs.Words.{aggregation_word, function_name, function_of, instant_name, is_comparison, level_of, match_text, named_among, operator_text, range_name};
+ghost use Rattle.pf_model.specs.Words.{function_of, is_comparison, level_of, named_among};
 ghost use Rattle.pf_parse.specs.Lexemes.{keyword_among, keyword_of, keyword_text, match_mark, operator_mark};
 
 use crate::keyword::Keyword;
 use pf_lex::Mark;
-use pf_model::{AggOp, Function, InstantFn, MatchSign, RangeFn, Sign};
-
-fn range_name(function: RangeFn) -> &'static str
-    ensures { result.now ≡ range_name function }
-{
-    match function {
-        RangeFn::Increase => "increase",
-        RangeFn::Rate => "rate",
-        RangeFn::Delta => "delta",
-        RangeFn::Irate => "irate",
-        RangeFn::Idelta => "idelta",
-        RangeFn::Changes => "changes",
-        RangeFn::Resets => "resets",
-        RangeFn::AvgOverTime => "avg_over_time",
-        RangeFn::SumOverTime => "sum_over_time",
-        RangeFn::MinOverTime => "min_over_time",
-        RangeFn::MaxOverTime => "max_over_time",
-        RangeFn::CountOverTime => "count_over_time",
-        RangeFn::LastOverTime => "last_over_time",
-        RangeFn::PresentOverTime => "present_over_time",
-        RangeFn::AbsentOverTime => "absent_over_time",
-    }
-}
-
-fn instant_name(function: InstantFn) -> &'static str
-    ensures { result.now ≡ instant_name function }
-{
-    match function {
-        InstantFn::Abs => "abs",
-        InstantFn::Ceil => "ceil",
-        InstantFn::Floor => "floor",
-        InstantFn::Sgn => "sgn",
-        InstantFn::Round => "round",
-        InstantFn::Clamp => "clamp",
-        InstantFn::ClampMin => "clamp_min",
-        InstantFn::ClampMax => "clamp_max",
-        InstantFn::Absent => "absent",
-        InstantFn::Scalar => "scalar",
-        InstantFn::Vector => "vector",
-        InstantFn::Time => "time",
-        InstantFn::Timestamp => "timestamp",
-        InstantFn::LabelReplace => "label_replace",
-        InstantFn::LabelJoin => "label_join",
-    }
-}
-
-pub fn function_name(function: Function) -> &'static str
-    ensures { result.now ≡ function_name function }
-{
-    match function {
-        Function::Range(function) => range_name(function),
-        Function::Instant(function) => instant_name(function),
-    }
-}
+use pf_model::{
+    AggOp, Function, InstantFn, MatchSign, RangeFn, Sign, aggregation_word, function_name,
+    operator_text,
+};
 
 const FUNCTIONS: [Function; 30] = [
     Function::Range(RangeFn::Increase),
@@ -114,43 +64,6 @@ pub fn function_of(name: &str) -> Option<Function>
     named_among(&FUNCTIONS, name)
 }
 
-pub fn aggregation_word(op: AggOp) -> &'static str
-    ensures { result.now ≡ aggregation_word op }
-{
-    match op {
-        AggOp::Sum => "sum",
-        AggOp::Avg => "avg",
-        AggOp::Min => "min",
-        AggOp::Max => "max",
-        AggOp::Count => "count",
-        AggOp::Group => "group",
-        AggOp::Topk => "topk",
-        AggOp::Bottomk => "bottomk",
-        AggOp::Quantile => "quantile",
-    }
-}
-
-pub fn operator_text(sign: Sign) -> &'static str
-    ensures { result.now ≡ operator_text sign }
-{
-    match sign {
-        Sign::Add => "+",
-        Sign::Sub => "-",
-        Sign::Mul => "*",
-        Sign::Div => "/",
-        Sign::Rem => "%",
-        Sign::Equal => "==",
-        Sign::NotEqual => "!=",
-        Sign::Less => "<",
-        Sign::LessOrEqual => "<=",
-        Sign::Greater => ">",
-        Sign::GreaterOrEqual => ">=",
-        Sign::And => "and",
-        Sign::Or => "or",
-        Sign::Unless => "unless",
-    }
-}
-
 /// The level of an operator; a lower one binds closer.
 pub fn level_of(sign: Sign) -> u64
     ensures { result ≡ level_of sign }
@@ -181,17 +94,6 @@ pub fn is_comparison(sign: Sign) -> bool
             | Sign::Greater
             | Sign::GreaterOrEqual
     )
-}
-
-pub fn match_text(sign: MatchSign) -> &'static str
-    ensures { result.now ≡ match_text sign }
-{
-    match sign {
-        MatchSign::Equal => "=",
-        MatchSign::NotEqual => "!=",
-        MatchSign::Like => "=~",
-        MatchSign::NotLike => "!~",
-    }
 }
 
 fn keyword_text(keyword: Keyword) -> &'static str
