@@ -7,7 +7,8 @@ use std::alloc::AllocError;
 
 #[derive(Clone, Copy, Debug, PartialEq, Eq)]
 pub enum PatternError {
-    /// No regular expression, or one that nests deeper than 250 levels or takes more than 10 MiB once it is compiled.
+    /// `regex` refused the text for another cause than memory: it is no expression, nests too deep, or compiles to more
+    /// than 10 MiB.
     BadPattern,
     OutOfMemory,
 }

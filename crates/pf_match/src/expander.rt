@@ -7,7 +7,7 @@ use regex::{Matcher, Template};
 use std::alloc::{AllocError, Global};
 use std::marker::Model;
 
-/// What writes a template at values, one after another. Seen by contracts as the pattern's text and the template's. Its
+/// What writes a template at values, one after another, seen by contracts as the pattern's text and the template's. Its
 /// caches grow as it is used, so it belongs to one thread.
 #[derive(Drop)]
 pub struct PatternExpander<'p> {

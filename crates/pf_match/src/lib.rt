@@ -1,11 +1,13 @@
 //! Patterns: regular expressions that have to match a whole value, as matchers with `=~` and `!~` and `label_replace`
 //! have them.
 //!
-//! What the layers above use: `Pattern::build` reads `^(?s:TEXT)$` by the crate `regex`, or answers why not. Contracts see
-//! a pattern as its text, and what the text means is a definition over that crate's reading of it: which values it
-//! matches, and what a template such as `$1` stands for at a value. `matches` and `expand` answer exactly that. A pattern
-//! doesn't change, so threads share it. For many values, `matcher` and `expander` make what each search writes to only
-//! once.
+//! What the layers above use: `Pattern::build` reads `^(?s:TEXT)$` by the crate `regex`, or refuses it. Contracts see a
+//! pattern as its text, and what a text means is defined over that crate's reading of it: which values it matches, and
+//! what a template such as `$1` stands for at a value. `matches` and `expand` answer exactly that, or that memory is
+//! wanting.
+//!
+//! A pattern doesn't change, and it is proved that threads may share it. What a search writes to stands beside it:
+//! `matches` and `expand` make it for one value, `matcher` and `expander` for any number of them.
 //!
 //! ```
 //! let pattern = Pattern::build(alloc, "(.*)-([0-9]+)")?;

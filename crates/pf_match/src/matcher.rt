@@ -6,8 +6,8 @@ ghost use Rattle.pf_match.specs.Meaning.{matches};
 use regex::Matcher;
 use std::marker::Model;
 
-/// What asks a pattern of values, one after another. Seen by contracts as the pattern's text. Its caches grow as it is
-/// used, so it belongs to one thread.
+/// What asks a pattern of values, one after another, seen by contracts as the pattern's text. Its caches grow as it is used,
+/// so it belongs to one thread.
 #[derive(Drop)]
 pub struct PatternMatcher<'p> {
     pub(crate) text: &'p str,
@@ -27,7 +27,7 @@ impl<'p> Model for PatternMatcher<'p> {
 }
 
 impl<'p> PatternMatcher<'p> {
-    /// Whether the pattern matches the whole value. It takes no memory that may be wanting.
+    /// Whether the pattern matches the whole value. Want of memory makes it slower, and is never answered.
     pub fn matches(&mut self, text: &str) -> bool
         ensures found { result ≡ matches self.old text.now }
         ensures same { self.new ≡ self.old }

@@ -2,10 +2,10 @@
 
 use crate::pattern::Pattern;
 
-/// Takes what threads may share.
+/// Takes what may be sent to another thread, and lent to several at once.
 fn is_shared<T: Send + Sync>(_item: &T) {}
 
-/// Proved only where a pattern may be sent to another thread, and lent to several at once.
+/// Proved only where a pattern is of that kind.
 fn patterns_are_shared(pattern: &Pattern) {
     is_shared(pattern);
 }
