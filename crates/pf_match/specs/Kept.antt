@@ -1,4 +1,4 @@
--- What a pattern keeps of its text, and what searches for it.
+-- What a pattern, and what searches for it, keep of its text.
 use Rattle.std.specs.Prelude.{◌≡◌, ℕ, List, IsSomeAnd}
 use Rattle.regex.specs.Patterns.{Re, SameCaptures}
 use Rattle.regex_syntax.specs.Grammar.{Names}
@@ -8,6 +8,6 @@ use Rattle.pf_match.specs.Meaning.{Reading, reading}
 abbrev pub IsAs : Re → Names → Reading → Type 0
 IsAs tree names r = SameCaptures tree r.tree × (names ≡ r.names)
 
--- the text is read as a tree that this one, with these names, does the same as
+-- the text is read, and this tree with these names does as what it is read as
 abbrev pub IsReadAs : List ℕ → Re → Names → Type 0
 IsReadAs text tree names = IsSomeAnd (reading text) (IsAs tree names)
