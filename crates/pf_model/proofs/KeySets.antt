@@ -64,7 +64,7 @@ placed_in k l m ms behind Equal e h =
 placed_in k l m ms behind Greater e h =
     ap (λ b. same_labels k m || b) h ∙ or_turned (same_labels k m) (same_labels k l) (stands_in k ms)
 
-put_in : (k l : Pairs) (ms : List Pairs) → stands_in k (put l ms) ≡ (same_labels k l || stands_in k ms)
+pub put_in : (k l : Pairs) (ms : List Pairs) → stands_in k (put l ms) ≡ (same_labels k l || stands_in k ms)
 put_in k l [] = refl
 put_in k l (m ∷ ms) = placed_in k l m ms (put l ms) (labels_cmp l m) refl (put_in k l ms)
 

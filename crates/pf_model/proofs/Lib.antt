@@ -2,7 +2,7 @@ pub mod FirstLines
 mod Fitting
 mod Folds
 mod GridPieces
-mod KeySets
+pub mod KeySets
 pub mod LegParts
 pub mod Levels
 pub mod MergeLaw
@@ -11,7 +11,7 @@ mod MergedParts
 pub mod OneAnswer
 pub mod OnePlace
 pub mod Places
-mod SelectorLabels
+pub mod SelectorLabels
 mod ShardSteps
 mod ShardedCells
 mod ShardedSelectors
