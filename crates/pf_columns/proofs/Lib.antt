@@ -1,0 +1,9 @@
+pub mod LabelRank
+pub mod Rising
+pub mod Parts
+pub mod PointWalk
+pub mod Occurring
+pub mod GatheredRows
+pub mod Below
+pub mod SortedColumns
+pub mod Fusing

@@ -1,0 +1,6 @@
+use Rattle.std.proofs.Common.{◌≡◌, ◌++◌, map, drop}
+use Rattle.pf_columns.specs.Columns.{cut_column}
+use Rattle.pf_columns.proofs.column.cut_columns.Given as goal
+
+abbrev pub invariant-loop-column : goal.invariant-loop-column
+invariant-loop-column l = l.found.items ++ map (cut_column l.from l.len) (drop l.column-index l.columns) ≡ map (cut_column l.from l.len) l.columns

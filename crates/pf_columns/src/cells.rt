@@ -1,0 +1,124 @@
+//! The cells of consecutive steps, which parts and copies share.
+
+ghost use Rattle.std.specs.Prelude.{◌≡◌, ◌+◌, ◌<◌, ◌≤◌, Some, drop, length, slice_get, take, IfOk};
+ghost use Rattle.pf_base.specs.Grids.{points};
+ghost use Rattle.pf_model.specs.Direct.{gather};
+ghost use Rattle.pf_columns.specs.Columns.{AreRising, cells_from, columns_labels, timed};
+
+use crate::column::{Column, cell_of, cut_columns};
+use crate::gather::rows_of;
+use pf_base::{Grid, OutOfMemory};
+use pf_matrix::Matrix;
+use pf_model::Cell;
+use std::alloc::{AllocError, Global};
+use std::marker::Model;
+use std::sync::Arc;
+
+/// The cells of consecutive steps, none of them an error. They lie as columns that copies and parts share, so that
+/// neither copies an element.
+#[derive(Debug, Drop)]
+pub struct Cells {
+    columns: Arc<Vec<Column>>,
+    /// How many steps the columns were made for.
+    held: u32,
+    from: u32,
+    len: u32,
+}
+
+impl Model for Cells {
+    ghost use Rattle.std.specs.Prelude.{List, ◌+◌, ◌≤◌};
+    ghost use Rattle.std.specs.Arc.{arc_value};
+    ghost use Rattle.pf_model.specs.declared.cell.Element.{Element};
+    ghost use Rattle.pf_columns.specs.Columns.{AreRising, cells_from, columns_labels};
+
+    ghost Value = { List (List Element) };
+
+    ghost view = { λ c. cells_from (arc_value c.columns).items c.from c.len };
+
+    ghost invariant = { λ c. AreRising (columns_labels (arc_value c.columns).items) × (c.from + c.len ≤ c.held) × (c.held ≤ 4294967295) };
+}
+
+impl Clone for Cells {
+    ghost is_clone = { λ x y. y ≡ x };
+
+    fn clone(&self) -> Result<Cells, AllocError>
+        ensures { IfOk result (λ c. c ≡ self.now) }
+    {
+        Ok(Cells {
+            columns: Arc::try_clone(&self.columns)?,
+            held: self.held,
+            from: self.from,
+            len: self.len,
+        })
+    }
+}
+
+impl Cells {
+    /// The cells of the first steps of columns whose label sets rise.
+    pub fn of(alloc: Global, columns: Vec<Column>, len: u32) -> Result<Cells, OutOfMemory>
+        requires { AreRising (columns_labels columns.items) }
+        ensures { IfOk result (λ c. c ≡ cells_from columns.items 0 len) }
+    {
+        Ok(Cells {
+            columns: Arc::new(alloc, columns)?,
+            held: len,
+            from: 0,
+            len,
+        })
+    }
+
+    /// The number of steps.
+    #[tactic(auto, using(crate::proofs::Parts::length_cells))]
+    pub fn count(&self) -> u32
+        ensures { result ≡ length self.now }
+    {
+        self.len
+    }
+
+    /// The cell of a step, counted from 0.
+    #[tactic(auto, using(crate::proofs::Parts::length_cells, crate::proofs::Parts::cell_of_step))]
+    pub fn cell(&self, alloc: Global, step: u32) -> Result<Cell, OutOfMemory>
+        requires { step < length self.now }
+        ensures { IfOk result (λ c. slice_get self.now step ≡ Some c) }
+    {
+        cell_of(alloc, &self.columns, self.from + step)
+    }
+
+    /// So many of the cells from one on. No element is copied.
+    #[tactic(auto, using(crate::proofs::Parts::length_cells, crate::proofs::Parts::part_is))]
+    pub fn part(&self, from: u32, len: u32) -> Result<Cells, OutOfMemory>
+        requires { from + len ≤ length self.now }
+        ensures { IfOk result (λ c. c ≡ take len (drop from self.now)) }
+    {
+        Ok(Cells {
+            columns: Arc::try_clone(&self.columns)?,
+            held: self.held,
+            from: self.from + from,
+            len,
+        })
+    }
+
+    /// A part that may outlive these cells. One of less than half of the steps that are shared is a copy, so that it
+    /// keeps no others alive.
+    #[tactic(auto, using(crate::proofs::Parts::length_cells, crate::proofs::Parts::part_is, crate::proofs::Parts::cut_is, crate::proofs::Parts::cut_rises))]
+    pub fn cut(&self, alloc: Global, from: u32, len: u32) -> Result<Cells, OutOfMemory>
+        requires { from + len ≤ length self.now }
+        ensures { IfOk result (λ c. c ≡ take len (drop from self.now)) }
+    {
+        if len >= self.held / 2 {
+            return self.part(from, len);
+        }
+        let columns = cut_columns(alloc, &self.columns, self.from + from, len)?;
+        Cells::of(alloc, columns, len)
+    }
+
+    /// The matrix of the cells at the times of a grid, a cell for each time.
+    #[tactic(auto, using(crate::proofs::Parts::length_cells))]
+    pub fn gather(&self, alloc: Global, grid: &Grid) -> Result<Matrix, OutOfMemory>
+        requires { length self.now ≡ grid.now.len }
+        ensures { IfOk result (λ m. m ≡ gather (timed (points grid.now) self.now)) }
+    {
+        let rows = rows_of(alloc, &self.columns, self.from, grid)?;
+        Ok(Matrix { rows })
+    }
+}

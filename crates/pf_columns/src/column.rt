@@ -1,0 +1,83 @@
+//! A column: a label set with its value at each step.
+
+ghost use Rattle.std.specs.Prelude.{◌≡◌, IfOk, map, take, drop};
+ghost use Rattle.pf_columns.specs.Columns.{cell_at, cut_column, value_in};
+
+use pf_base::{Labels, OutOfMemory, Value};
+use pf_model::{Cell, Element};
+use std::alloc::Global;
+use std::marker::Model;
+
+/// A label set with its value at each step, if it has one there. A step behind the last value has none.
+#[derive(Debug, Drop)]
+pub struct Column {
+    pub labels: Labels,
+    pub values: Vec<Option<Value>>,
+}
+
+impl Model for Column {
+    ghost use Rattle.pf_columns.specs.Columns.{ColumnData};
+
+    ghost Value = { ColumnData };
+
+    ghost view = { λ c. record { labels = c.labels; values = c.values.items } };
+}
+
+/// The value of a step, if it has one.
+pub(crate) fn value_of(values: &[Option<Value>], step: u32) -> Option<Value>
+    ensures { result ≡ value_in values.now step }
+{
+    match values.get(step as usize) {
+        Some(value) => *value,
+        None => None,
+    }
+}
+
+/// The elements of a step.
+pub(crate) fn cell_of(alloc: Global, columns: &[Column], step: u32) -> Result<Cell, OutOfMemory>
+    ensures { IfOk result (λ c. c ≡ cell_at columns.now step) }
+{
+    let mut elements = Vec::new(alloc);
+    for column in columns {
+        if let Some(value) = value_of(&column.values, step) {
+            elements.push(Element {
+                labels: column.labels.clone()?,
+                value,
+            })?;
+        }
+    }
+    Ok(Cell { elements })
+}
+
+/// The values of so many steps from one on.
+fn cut_values(
+    alloc: Global,
+    values: &[Option<Value>],
+    from: u32,
+    len: u32,
+) -> Result<Vec<Option<Value>>, OutOfMemory>
+    ensures { IfOk result (λ v. v.items ≡ take len (drop from values.now)) }
+{
+    let start = values.len().min(from as usize);
+    let end = values.len().min(start + len as usize);
+    Ok(Vec::from_slice(alloc, &values[start..end])?)
+}
+
+/// Each column with the values of so many steps from one on.
+pub(crate) fn cut_columns(
+    alloc: Global,
+    columns: &[Column],
+    from: u32,
+    len: u32,
+) -> Result<Vec<Column>, OutOfMemory>
+    ensures { IfOk result (λ v. v.items ≡ map (cut_column from len) columns.now) }
+{
+    let mut found = Vec::new(alloc);
+    for column in columns {
+        found.push(Column {
+            labels: column.labels.clone()?,
+            values: cut_values(alloc, &column.values, from, len)?,
+        })?;
+    }
+    Ok(found)
+}

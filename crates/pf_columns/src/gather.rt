@@ -1,0 +1,56 @@
+//! Rows of a matrix from columns.
+
+ghost use Rattle.std.specs.Prelude.{◌≡◌, ◌+◌, ◌≤◌, IfOk};
+ghost use Rattle.pf_base.specs.Grids.{points};
+ghost use Rattle.pf_columns.specs.Columns.{points_in, rows_in};
+
+use crate::column::{Column, value_of};
+use pf_base::{Grid, OutOfMemory, Sample, Value};
+use pf_matrix::MatrixRow;
+use std::alloc::Global;
+
+/// The points of a column at the times of a grid, the first of which is that of the step `from`.
+fn points_of(
+    alloc: Global,
+    values: &[Option<Value>],
+    from: u32,
+    grid: &Grid,
+) -> Result<Vec<Sample>, OutOfMemory>
+    requires { from + grid.now.len ≤ 4294967295 }
+    ensures { IfOk result (λ v. v.items ≡ points_in (points grid.now) from values.now) }
+{
+    let mut points = Vec::new(alloc);
+    for i in 0..grid.len() {
+        let time = grid.at(i);
+        if let Some(value) = value_of(values, from + i) {
+            points.push(Sample {
+                time: time as i64,
+                value,
+            })?;
+        }
+    }
+    Ok(points)
+}
+
+/// A row for each column that has a point.
+pub(crate) fn rows_of(
+    alloc: Global,
+    columns: &[Column],
+    from: u32,
+    grid: &Grid,
+) -> Result<Vec<MatrixRow>, OutOfMemory>
+    requires { from + grid.now.len ≤ 4294967295 }
+    ensures { IfOk result (λ v. v.items ≡ rows_in (points grid.now) from columns.now) }
+{
+    let mut rows = Vec::new(alloc);
+    for column in columns {
+        let points = points_of(alloc, &column.values, from, grid)?;
+        if !points.is_empty() {
+            rows.push(MatrixRow {
+                labels: column.labels.clone()?,
+                points,
+            })?;
+        }
+    }
+    Ok(rows)
+}

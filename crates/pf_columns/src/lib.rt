@@ -1,0 +1,34 @@
+//! The values of a query's node over a whole run of steps, as columns: a label set with its value at each step.
+//!
+//! What the layers above use:
+//!
+//! - `StepCells` is what a vector is at each step of a run: columns by rising label sets, and the errors of steps. `step`
+//!   gives one step, `first_bad` the first that has an error, and `cells` the cells of a run without one.
+//! - `normalised` makes it of what a node gives: of columns in any order and of any labels it makes, at each step, the
+//!   vector in label order, or `DoubleLabels`.
+//! - `Cells` are the cells of consecutive steps without errors. A copy, a `part` and a `cut` are lists of the same cells;
+//!   the first two share all elements. `gather` makes the matrix over a grid.
+//!
+//! Nothing uses it yet. A node that drops the metric name would go so:
+//!
+//! ```text
+//! let mut changed = Vec::new(alloc);
+//! for column in steps.columns {
+//!     changed.push(Column { labels: column.labels.without_name()?, values: column.values })?;
+//! }
+//! let steps = normalised(alloc, changed, steps.bads, grid.len())?;
+//! match steps.first_bad(grid.len()) {
+//!     Some(bad) => Err(Failure { time: grid.at(bad.step), kind: bad.kind }),
+//!     None => Ok(steps.cells(alloc, grid.len())?.gather(alloc, &grid)?),
+//! }
+//! ```
+#![tactic(auto)]
+
+mod cells;
+mod column;
+mod gather;
+mod steps;
+
+pub use cells::Cells;
+pub use column::Column;
+pub use steps::{BadStep, StepCells, normalised};
