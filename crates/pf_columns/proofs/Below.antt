@@ -27,7 +27,7 @@ in_below f (suc n) k d h = elim (lt_or_is k n h) [
 pub read_below : {X : Type 0} (d : X) (xs : List X) (f : ℕ → X) (n k : ℕ) → xs ≡ below f n → k < n → slice_index_or xs k d ≡ f k
 read_below d xs f n k e h = ap (λ ys. slice_index_or ys k d) e ∙ in_below f n k d h
 
-first_below : {X : Type 0} (f : ℕ → X) (n : ℕ) → below f (suc n) ≡ f 0 ∷ below (λ k. f (suc k)) n
+pub first_below : {X : Type 0} (f : ℕ → X) (n : ℕ) → below f (suc n) ≡ f 0 ∷ below (λ k. f (suc k)) n
 first_below f zero = refl
 first_below f (suc n) = ap (λ xs. xs ++ (f (suc n) ∷ [])) (first_below f n)
 

@@ -7,3 +7,9 @@ pub mod GatheredRows
 pub mod Below
 pub mod SortedColumns
 pub mod Fusing
+pub mod GroupKeys
+pub mod WithoutName
+pub mod GroupedCells
+pub mod GroupColumns
+pub mod Sums
+pub mod Bounds

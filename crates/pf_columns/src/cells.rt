@@ -105,7 +105,7 @@ impl Cells {
         requires { from + len ≤ length self.now }
         ensures { IfOk result (λ c. c ≡ take len (drop from self.now)) }
     {
-        if len >= self.held / 2 {
+        if len as u64 * 2 >= self.held as u64 {
             return self.part(from, len);
         }
         let columns = cut_columns(alloc, &self.columns, self.from + from, len)?;

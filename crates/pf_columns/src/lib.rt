@@ -8,6 +8,8 @@
 //!   vector in label order, or `DoubleLabels`.
 //! - `Cells` are the cells of consecutive steps without errors. A copy, a `part` and a `cut` are lists of the same cells;
 //!   the first two share all elements. `gather` makes the matrix over a grid.
+//! - `GroupIds` are the groups of columns, found once for all steps, and `aggregated` the aggregations that have one value
+//!   for each group.
 //!
 //! Nothing uses it yet. A node that drops the metric name would go so:
 //!
@@ -24,11 +26,15 @@
 //! ```
 #![tactic(auto)]
 
+mod aggregate;
 mod cells;
 mod column;
 mod gather;
+mod groups;
 mod steps;
 
+pub use aggregate::{GroupOp, aggregated};
 pub use cells::Cells;
 pub use column::Column;
+pub use groups::GroupIds;
 pub use steps::{BadStep, StepCells, normalised};

@@ -1,0 +1,20 @@
+use Rattle.std.proofs.Common.{rules, ◌∷◌, ◌+◌, drop, sym, ap, ◌∙◌}
+use Rattle.std.proofs.lemmas.List.{drop_more}
+use Rattle.pf_model.specs.Micros.{greatest}
+use Rattle.pf_columns.proofs.Bounds.{greatest_next, greatest_of_none}
+use Rattle.pf_columns.proofs.Bounds.{nothing_is}
+use Rattle.pf_columns.proofs.aggregate.greatest.Goals as goal
+
+-- one value more
+pub loop-value-preserved : goal.loop-value-preserved
+loop-value-preserved c =
+    let rest = c.in-Some.rest.now in
+    let i = c.loop-value.value-index in
+    ap (λ z. greatest (z ∷ drop (i + 1) rest)) c.greater-found.ensures
+    ∙ greatest_next c.loop-value.found c.value-item.result (drop (i + 1) rest)
+    ∙ ap (λ vs. greatest (c.loop-value.found ∷ vs)) (ap (λ z. z ∷ drop (i + 1) rest) c.value-item.is ∙ sym (drop_more rest i c.value-item.result (search rules)))
+    ∙ c.loop-value.invariant
+
+-- of no values
+pub returns-in_default : goal.returns-in_default
+returns-in_default c = c.new.ensures ∙ nothing_is ∙ sym (greatest_of_none c.args.values.now c.in_default.ensures.cases)

@@ -1,0 +1,283 @@
+//! Aggregations with one value for each group. The groups are found once for all steps, and each value is read once.
+
+ghost use Rattle.std.specs.Prelude.{◌≡◌, ◌++◌, ◌∷◌, ◌<◌, ℕ, Option, ℤ, [], true, map, length, slice_index_or, slice_set, IfOk, MatchOption, OnOk};
+ghost use Rattle.std.specs.Int.{int_max, int_min};
+ghost use Rattle.std.specs.List.{All};
+ghost use Rattle.pf_model.specs.Aggregation.{aggregate, group_key};
+ghost use Rattle.pf_model.specs.Cells.{values_of};
+ghost use Rattle.pf_model.specs.Merging.{below};
+ghost use Rattle.pf_model.specs.Micros.{greatest, least, mean, total};
+ghost use Rattle.pf_model.specs.declared.cell.StepCell.TheVariants.{Good};
+ghost use Rattle.pf_columns.specs.Columns.{cell_at, columns_labels};
+ghost use Rattle.pf_columns.specs.Groups.{bucket_columns, found_of, group_column, group_value, has_parameter, id_columns, keys_by, operator, those_of};
+ghost use Rattle.pf_columns.specs.Steps.{bad_in, step_at, unless_bad};
+
+use crate::column::{Column, value_of};
+use crate::groups::GroupIds;
+use crate::steps::StepCells;
+use pf_base::{Labels, OutOfMemory, Value};
+use pf_model::{AggOp, Grouping};
+use std::alloc::Global;
+
+/// An aggregation that has one value for each group and no parameter.
+#[derive(Clone, Copy, Debug, PartialEq, Eq)]
+pub enum GroupOp {
+    Sum,
+    Avg,
+    Min,
+    Max,
+    Count,
+    Group,
+}
+
+impl GroupOp {
+    /// The aggregation, where it is of this kind. None for `topk`, `bottomk` and `quantile`.
+    pub fn of(op: AggOp) -> Option<GroupOp>
+        ensures { MatchOption result (has_parameter op ≡ true) (λ g. operator g ≡ op) }
+    {
+        match op {
+            AggOp::Sum => Some(GroupOp::Sum),
+            AggOp::Avg => Some(GroupOp::Avg),
+            AggOp::Min => Some(GroupOp::Min),
+            AggOp::Max => Some(GroupOp::Max),
+            AggOp::Count => Some(GroupOp::Count),
+            AggOp::Group => Some(GroupOp::Group),
+            AggOp::Topk | AggOp::Bottomk | AggOp::Quantile => None,
+        }
+    }
+}
+
+/// The exact sum, in micros.
+fn total(values: &[Value]) -> i128
+    ensures { result ≡ total values.now }
+{
+    let mut sum = 0;
+    for value in values {
+        sum += value.micros() as i128;
+    }
+    sum
+}
+
+/// The exact sum by the number, cut toward zero.
+fn mean(values: &[Value]) -> Value
+    ensures { result ≡ mean values.now }
+{
+    if values.is_empty() {
+        return Value::new(0);
+    }
+    Value::new(total(values) / values.len() as i128)
+}
+
+fn less(a: Value, b: Value) -> Value
+    ensures { result ≡ int_min a b }
+{
+    if a.micros() <= b.micros() { a } else { b }
+}
+
+fn greater(a: Value, b: Value) -> Value
+    ensures { result ≡ int_max a b }
+{
+    if a.micros() <= b.micros() { b } else { a }
+}
+
+/// The least value, or 0 of none.
+fn least(values: &[Value]) -> Value
+    ensures { result ≡ least values.now }
+{
+    let Some((first, rest)) = values.split_first() else {
+        return Value::new(0);
+    };
+    let mut found = *first;
+    for value in rest {
+        found = less(found, *value);
+    }
+    found
+}
+
+/// The greatest value, or 0 of none.
+fn greatest(values: &[Value]) -> Value
+    ensures { result ≡ greatest values.now }
+{
+    let Some((first, rest)) = values.split_first() else {
+        return Value::new(0);
+    };
+    let mut found = *first;
+    for value in rest {
+        found = greater(found, *value);
+    }
+    found
+}
+
+#[tactic(auto, using(crate::proofs::Bounds::one_is))]
+fn group_value(op: GroupOp, values: &[Value]) -> Value
+    ensures { result ≡ group_value op values.now }
+{
+    match op {
+        GroupOp::Sum => Value::new(total(values)),
+        GroupOp::Avg => mean(values),
+        GroupOp::Min => least(values),
+        GroupOp::Max => greatest(values),
+        GroupOp::Count => Value::new(values.len() as i128 * 1_000_000),
+        GroupOp::Group => Value::new(1_000_000),
+    }
+}
+
+/// What is found of the values of a group, none where it has none.
+fn found_of(op: GroupOp, values: &[Value]) -> Option<Value>
+    ensures { result ≡ found_of (group_value op) values.now }
+{
+    if values.is_empty() {
+        return None;
+    }
+    Some(group_value(op, values))
+}
+
+/// Puts a column into a bucket.
+fn put_column<'a>(
+    buckets: &mut Vec<Vec<&'a Column>>,
+    place: usize,
+    column: &'a Column,
+) -> Result<(), OutOfMemory>
+    requires { place < length buckets.old.items }
+    ensures { OnOk result (map (λ b. map (λ c. c.now) b.items) buckets.new.items
+        ≡ slice_set (map (λ b. map (λ c. c.now) b.items) buckets.old.items) place (slice_index_or (map (λ b. map (λ c. c.now) b.items) buckets.old.items) place [] ++ column.now ∷ [])) }
+{
+    buckets[place].push(column)?;
+    Ok(())
+}
+
+fn empty_buckets<'a>(alloc: Global, count: usize) -> Result<Vec<Vec<&'a Column>>, OutOfMemory>
+    ensures { IfOk result (λ v. map (λ b. map (λ c. c.now) b.items) v.items ≡ below (λ g. []) count) }
+{
+    let mut found = Vec::new(alloc);
+    for _ in 0..count {
+        found.push(Vec::new(alloc))?;
+    }
+    Ok(found)
+}
+
+/// The columns of each group, in their order.
+fn buckets_of<'a>(
+    alloc: Global,
+    places: &[usize],
+    columns: &'a [Column],
+    count: usize,
+) -> Result<Vec<Vec<&'a Column>>, OutOfMemory>
+    requires alike { length places.now ≡ length columns.now }
+    requires within { All (λ o. o < count) places.now }
+    ensures { IfOk result (λ v. map (λ b. map (λ c. c.now) b.items) v.items ≡ below (λ g. those_of g places.now columns.now) count) }
+{
+    let mut found = empty_buckets(alloc, count)?;
+    for i in 0..columns.len() {
+        put_column(&mut found, places[i], &columns[i])?;
+    }
+    Ok(found)
+}
+
+/// The values of some columns at a step. They take the room of earlier ones.
+fn values_at(
+    mut values: Vec<Value>,
+    columns: &[&Column],
+    step: u32,
+) -> Result<Vec<Value>, OutOfMemory>
+    ensures { IfOk result (λ v. v.items ≡ values_of (cell_at (map (λ c. c.now) columns.now) step)) }
+{
+    values.clear();
+    for &column in columns {
+        if let Some(value) = value_of(&column.values, step) {
+            values.push(value)?;
+        }
+    }
+    Ok(values)
+}
+
+/// The values of a group at each step.
+fn group_values(
+    alloc: Global,
+    op: GroupOp,
+    columns: &[&Column],
+    len: u32,
+) -> Result<Vec<Option<Value>>, OutOfMemory>
+    ensures { IfOk result (λ v. v.items ≡ below (λ k. found_of (group_value op) (values_of (cell_at (map (λ c. c.now) columns.now) k))) len) }
+{
+    let mut found = Vec::new(alloc);
+    let mut values = Vec::new(alloc);
+    for i in 0..len {
+        values = values_at(values, columns, i)?;
+        found.push(found_of(op, &values))?;
+    }
+    Ok(found)
+}
+
+/// A column of each bucket.
+fn columns_of_buckets(
+    alloc: Global,
+    op: GroupOp,
+    keys: &[Labels],
+    buckets: &[Vec<&Column>],
+    len: u32,
+) -> Result<Vec<Column>, OutOfMemory>
+    requires { length buckets.now ≡ length keys.now }
+    ensures { IfOk result (λ v. v.items ≡ bucket_columns (group_value op) (map (λ b. map (λ c. c.now) b.items) buckets.now) len keys.now) }
+{
+    let mut found = Vec::new(alloc);
+    for i in 0..keys.len() {
+        found.push(Column {
+            labels: keys[i].clone()?,
+            values: group_values(alloc, op, &buckets[i], len)?,
+        })?;
+    }
+    Ok(found)
+}
+
+/// A column for each group.
+fn columns_by_place(
+    alloc: Global,
+    op: GroupOp,
+    keys: &[Labels],
+    places: &[usize],
+    columns: &[Column],
+    len: u32,
+) -> Result<Vec<Column>, OutOfMemory>
+    requires alike { length places.now ≡ length columns.now }
+    requires within { All (λ o. o < length keys.now) places.now }
+    ensures { IfOk result (λ v. v.items ≡ id_columns (group_value op) places.now columns.now len 0 keys.now) }
+{
+    let buckets = buckets_of(alloc, places, columns, keys.len())?;
+    let found = columns_of_buckets(alloc, op, keys, &buckets, len)?;
+    Ok(found)
+}
+
+/// The columns of an aggregation.
+fn grouped(
+    alloc: Global,
+    op: GroupOp,
+    grouping: &Grouping,
+    columns: &[Column],
+    len: u32,
+) -> Result<Vec<Column>, OutOfMemory>
+    ensures { IfOk result (λ v. v.items ≡ map (group_column (group_value op) (group_key grouping.now.without grouping.now.labels) columns.now len)
+        (keys_by (group_key grouping.now.without grouping.now.labels) (columns_labels columns.now))) }
+{
+    let ids = GroupIds::by(alloc, grouping, columns)?;
+    let found = columns_by_place(alloc, op, &ids.keys, &ids.of, columns, len)?;
+    Ok(found)
+}
+
+/// An aggregation with one value for each group, at each of so many steps. The errors of steps stay.
+pub fn aggregated(
+    alloc: Global,
+    op: GroupOp,
+    grouping: &Grouping,
+    steps: StepCells,
+    len: u32,
+) -> Result<StepCells, OutOfMemory>
+    ensures { IfOk result (λ s. (param : Option ℤ) → (k : ℕ) → k < len
+        → step_at s k ≡ unless_bad (bad_in steps.bads k) (Good (aggregate (operator op) grouping.now.without grouping.now.labels param (cell_at steps.columns k)))) }
+{
+    let columns = grouped(alloc, op, grouping, &steps.columns, len)?;
+    Ok(StepCells {
+        columns,
+        bads: steps.bads,
+    })
+}

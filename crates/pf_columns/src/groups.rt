@@ -1,0 +1,153 @@
+//! The groups of columns, found once for all steps.
+
+ghost use Rattle.std.specs.Prelude.{◌≡◌, true, map, None, IfOk};
+ghost use Rattle.std.specs.List.{All, list_any};
+ghost use Rattle.std.specs.Option.{option_copied};
+ghost use Rattle.pf_base.specs.LabelOrder.{labels_cmp};
+ghost use Rattle.pf_base.specs.Sorting.{isort};
+ghost use Rattle.pf_model.specs.Aggregation.{group_key};
+ghost use Rattle.pf_model.specs.Cells.{distinct};
+ghost use Rattle.pf_model.specs.Selection.{same_labels};
+ghost use Rattle.pf_columns.specs.Columns.{AreRising, columns_labels};
+ghost use Rattle.pf_columns.specs.Groups.{groups_by, is_again, place_in, unrepeated};
+
+use crate::column::Column;
+use pf_base::{Labels, OutOfMemory};
+use pf_model::Grouping;
+use std::alloc::Global;
+use std::marker::Model;
+
+/// The groups of columns: the keys, each once, in label order, and for each column the place of its key among them.
+#[derive(Debug, Drop)]
+pub struct GroupIds {
+    pub keys: Vec<Labels>,
+    pub of: Vec<usize>,
+}
+
+impl Model for GroupIds {
+    ghost use Rattle.pf_columns.specs.Groups.{GroupsData};
+
+    ghost Value = { GroupsData };
+
+    ghost view = { λ g. record { keys = g.keys.items; of = g.of.items } };
+}
+
+/// The labels that `by` keeps, or that `without` leaves.
+#[tactic(auto, using(crate::proofs::WithoutName::left_without_name))]
+fn group_key(grouping: &Grouping, labels: &Labels) -> Result<Labels, OutOfMemory>
+    ensures { IfOk result (λ l. l ≡ group_key grouping.now.without grouping.now.labels labels.now) }
+{
+    if grouping.without {
+        labels.without_name()?.leave_out(&grouping.labels)
+    } else {
+        labels.keep(&grouping.labels)
+    }
+}
+
+/// The key of each column.
+fn keys_of(
+    alloc: Global,
+    grouping: &Grouping,
+    columns: &[Column],
+) -> Result<Vec<Labels>, OutOfMemory>
+    ensures { IfOk result (λ v. v.items ≡ map (group_key grouping.now.without grouping.now.labels) (columns_labels columns.now)) }
+{
+    let mut found = Vec::new(alloc);
+    for column in columns {
+        found.push(group_key(grouping, &column.labels)?)?;
+    }
+    Ok(found)
+}
+
+fn copies_of(alloc: Global, all: &[Labels]) -> Result<Vec<Labels>, OutOfMemory>
+    ensures { IfOk result (λ v. v.items ≡ all.now) }
+{
+    let mut found = Vec::new(alloc);
+    for labels in all {
+        found.push(labels.clone()?)?;
+    }
+    Ok(found)
+}
+
+fn in_order(mut all: Vec<Labels>) -> Result<Vec<Labels>, OutOfMemory>
+    ensures { IfOk result (λ v. v.items ≡ isort labels_cmp all.items) }
+{
+    all.sort()?;
+    Ok(all)
+}
+
+#[tactic(auto, using(pf_base::specs::LabelOrder::labels_ties))]
+fn is_again(last: Option<&Labels>, labels: &Labels) -> bool
+    ensures { result ≡ is_again (option_copied last.entry) labels.now }
+{
+    match last {
+        Some(last) => last == labels,
+        None => false,
+    }
+}
+
+/// Label sets without those that are equal to the one before.
+fn unrepeated(alloc: Global, sorted: &[Labels]) -> Result<Vec<Labels>, OutOfMemory>
+    ensures { IfOk result (λ v. v.items ≡ unrepeated None sorted.now) }
+{
+    let mut found = Vec::new(alloc);
+    let mut last: Option<&Labels> = None;
+    for labels in sorted {
+        if !is_again(last, labels) {
+            found.push(labels.clone()?)?;
+        }
+        last = Some(labels);
+    }
+    Ok(found)
+}
+
+/// Label sets, each once, in label order.
+fn distinct(alloc: Global, all: &[Labels]) -> Result<Vec<Labels>, OutOfMemory>
+    ensures { IfOk result (λ v. v.items ≡ distinct all.now) }
+{
+    let copies = copies_of(alloc, all)?;
+    let sorted = in_order(copies)?;
+    let found = unrepeated(alloc, &sorted)?;
+    Ok(found)
+}
+
+/// The place of a label set among some that rise, where it stands.
+fn place_in(sets: &[Labels], labels: &Labels) -> usize
+    requires rising { AreRising sets.now }
+    requires there { list_any (same_labels labels.now) sets.now ≡ true }
+    ensures { result ≡ place_in sets.now labels.now }
+{
+    match sets.binary_search(labels) {
+        Ok(place) => place,
+        Err(place) => place,
+    }
+}
+
+/// The place of each of some label sets.
+fn places_in(alloc: Global, sets: &[Labels], all: &[Labels]) -> Result<Vec<usize>, OutOfMemory>
+    requires rising { AreRising sets.now }
+    requires there { All (λ l. list_any (same_labels l) sets.now ≡ true) all.now }
+    ensures { IfOk result (λ v. v.items ≡ map (place_in sets.now) all.now) }
+{
+    let mut found = Vec::new(alloc);
+    for labels in all {
+        found.push(place_in(sets, labels))?;
+    }
+    Ok(found)
+}
+
+impl GroupIds {
+    /// The groups of columns by their keys: the labels that `by` keeps, or that `without` leaves.
+    pub fn by(
+        alloc: Global,
+        grouping: &Grouping,
+        columns: &[Column],
+    ) -> Result<GroupIds, OutOfMemory>
+        ensures { IfOk result (λ g. g ≡ groups_by (group_key grouping.now.without grouping.now.labels) (columns_labels columns.now)) }
+    {
+        let all = keys_of(alloc, grouping, columns)?;
+        let keys = distinct(alloc, &all)?;
+        let of = places_in(alloc, &keys, &all)?;
+        Ok(GroupIds { keys, of })
+    }
+}
