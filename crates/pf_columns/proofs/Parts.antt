@@ -1,8 +1,14 @@
 -- Parts of the cells of columns, and columns that are cut.
-use Rattle.std.proofs.Common.{◌≡◌, ◌≤◌, ◌<◌, ℕ, zero, suc, ◌+◌, ℤ, Option, None, Some, List, [], ◌∷◌, ◌++◌, map, length, take, drop, refl, sym, ap, ◌∙◌, subst, arith}
+use Rattle.std.proofs.Common.{◌≡◌, ◌≤◌, ◌<◌, ℕ, zero, suc, ◌+◌, ℤ, Bool, true, false, cond, Option, None, Some, List, [], ◌∷◌, ◌++◌, length, take, drop, refl, sym, ap, ◌∙◌, arith}
 use Rattle.std.specs.Prelude.{slice_index_or, slice_get}
+use Rattle.std.specs.declared.cmp.Ordering.TheVariants.{Less}
+use Rattle.pf_base.specs.LabelSets.{Pairs}
+use Rattle.pf_base.specs.LabelOrder.{labels_cmp}
+use Rattle.pf_model.specs.declared.cell.Element.{Element}
 use Rattle.pf_model.specs.Cells.{element}
-use Rattle.pf_columns.specs.Columns.{AreRising, ColumnData, cell_at, cells_from, columns_labels, cut_column, value_in}
+use Rattle.pf_model.specs.Lists.{joined}
+use Rattle.pf_model.proofs.SelectorLabels.{AllAbove}
+use Rattle.pf_columns.specs.Columns.{AreRising, ColumnData, cell_at, cells_from, columns_labels, cut_column, has_value, value_in}
 
 pub length_cells : (cs : List ColumnData) (k n : ℕ) → length (cells_from cs k n) ≡ n
 length_cells cs k zero = refl
@@ -44,22 +50,49 @@ behind d (x ∷ xs) (suc f) k = let same : suc (f + k) ≡ suc f + k = omega ari
 cut_value : (vs : List (Option ℤ)) (f n k : ℕ) → k < n → value_in (take n (drop f vs)) k ≡ value_in vs (f + k)
 cut_value vs f n k h = in_front None (drop f vs) n k h ∙ behind None vs f k
 
-cut_cell : (cs : List ColumnData) (f n k : ℕ) → k < n → cell_at (map (cut_column f n) cs) k ≡ cell_at cs (f + k)
-cut_cell [] f n k h = refl
-cut_cell (c ∷ cs) f n k h = λ i. element c.labels (cut_value c.values f n k h i) ++ cut_cell cs f n k h i
+none_there : (vs : List (Option ℤ)) (k : ℕ) → has_value vs ≡ false → value_in vs k ≡ None
+none_there [] k h = none_of None k
+none_there (None ∷ vs) zero h = refl
+none_there (None ∷ vs) (suc k) h = none_there vs k h
+none_there (Some v ∷ vs) k h = cc
 
-cut_from : (cs : List ColumnData) (f n k m : ℕ) → k + m ≤ n → cells_from (map (cut_column f n) cs) k m ≡ cells_from cs (f + k) m
+cell_by : (l : Pairs) (us : List (Option ℤ)) (ds : List ColumnData) (k : ℕ) (o : Option ℤ) (es : List Element) (b : Bool) → has_value us ≡ b → value_in us k ≡ o → cell_at ds k ≡ es
+    → cell_at (cond b (record { labels = l; values = us } ∷ []) [] ++ ds) k ≡ element l o ++ es
+cell_by l us ds k o es true h e r = λ i. element l (e i) ++ r i
+cell_by l us ds k o es false h e r = r ∙ ap (λ p. element l p ++ es) (sym (none_there us k h) ∙ e)
+
+cut_cell : (cs : List ColumnData) (f n k : ℕ) → k < n → cell_at (joined (cut_column f n) cs) k ≡ cell_at cs (f + k)
+cut_cell [] f n k h = refl
+cut_cell (c ∷ cs) f n k h =
+    let us = take n (drop f c.values) in
+    cell_by c.labels us (joined (cut_column f n) cs) k (value_in c.values (f + k)) (cell_at cs (f + k)) (has_value us) refl (cut_value c.values f n k h) (cut_cell cs f n k h)
+
+cut_from : (cs : List ColumnData) (f n k m : ℕ) → k + m ≤ n → cells_from (joined (cut_column f n) cs) k m ≡ cells_from cs (f + k) m
 cut_from cs f n k zero h = refl
 cut_from cs f n k (suc m) h =
     let rest : cells_from cs (f + (k + 1)) m ≡ cells_from cs ((f + k) + 1) m = ap (λ j. cells_from cs j m) (omega arith) in
     λ i. cut_cell cs f n k (omega (arith, h)) i ∷ (cut_from cs f n (k + 1) m (omega (arith, h)) ∙ rest) i
 
-pub cut_is : (cs : List ColumnData) (f n : ℕ) → cells_from (map (cut_column f n) cs) 0 n ≡ cells_from cs f n
+pub cut_is : (cs : List ColumnData) (f n : ℕ) → cells_from (joined (cut_column f n) cs) 0 n ≡ cells_from cs f n
 cut_is cs f n = cut_from cs f n 0 n (omega arith) ∙ ap (λ j. cells_from cs j n) (omega arith)
 
-cut_labels : (cs : List ColumnData) (f n : ℕ) → columns_labels (map (cut_column f n) cs) ≡ columns_labels cs
-cut_labels [] f n = refl
-cut_labels (c ∷ cs) f n = ap (λ ls. c.labels ∷ ls) (cut_labels cs f n)
+above_by : (m l : Pairs) (us : List (Option ℤ)) (ds : List ColumnData) (b : Bool) → labels_cmp m l ≡ Less → AllAbove m (columns_labels ds)
+    → AllAbove m (columns_labels (cond b (record { labels = l; values = us } ∷ []) [] ++ ds))
+above_by m l us ds true p h = (p, h)
+above_by m l us ds false p h = h
 
-pub cut_rises : (cs : List ColumnData) (f n : ℕ) → AreRising (columns_labels cs) → AreRising (columns_labels (map (cut_column f n) cs))
-cut_rises cs f n = subst AreRising (sym (cut_labels cs f n))
+cut_above : (m : Pairs) (cs : List ColumnData) (f n : ℕ) → AllAbove m (columns_labels cs) → AllAbove m (columns_labels (joined (cut_column f n) cs))
+cut_above m [] f n h = tt
+cut_above m (c ∷ cs) f n h =
+    let us = take n (drop f c.values) in above_by m c.labels us (joined (cut_column f n) cs) (has_value us) h.0 (cut_above m cs f n h.1)
+
+rises_by : (l : Pairs) (us : List (Option ℤ)) (ds : List ColumnData) (b : Bool) → AllAbove l (columns_labels ds) → AreRising (columns_labels ds)
+    → AreRising (columns_labels (cond b (record { labels = l; values = us } ∷ []) [] ++ ds))
+rises_by l us ds true a h = (a, h)
+rises_by l us ds false a h = h
+
+pub cut_rises : (cs : List ColumnData) (f n : ℕ) → AreRising (columns_labels cs) → AreRising (columns_labels (joined (cut_column f n) cs))
+cut_rises [] f n h = tt
+cut_rises (c ∷ cs) f n h =
+    let us = take n (drop f c.values) in
+    rises_by c.labels us (joined (cut_column f n) cs) (has_value us) (cut_above c.labels cs f n h.0) (cut_rises cs f n h.1)

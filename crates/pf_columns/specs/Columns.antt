@@ -1,6 +1,6 @@
 -- Cells of consecutive steps as columns, a label set with its value at each step, and the matrix that they make: this
 -- project's own.
-use Rattle.std.specs.Prelude.{◌≡◌, ℕ, zero, suc, ◌+◌, ℤ, pos, Option, Some, None, List, [], ◌∷◌, ◌++◌, map, take, drop, slice_index_or}
+use Rattle.std.specs.Prelude.{◌≡◌, ℕ, zero, suc, ◌+◌, ℤ, pos, Bool, true, false, cond, Option, Some, None, List, [], ◌∷◌, ◌++◌, map, take, drop, slice_index_or}
 use Rattle.std.specs.declared.cmp.Ordering.TheVariants.{Less}
 use Rattle.pf_base.specs.declared.plain.Sample.{Sample}
 use Rattle.pf_base.specs.LabelSets.{Pairs}
@@ -36,9 +36,17 @@ AreRising (l ∷ ls) = Each (λ m. labels_cmp l m ≡ Less) ls × AreRising ls
 abbrev pub columns_labels : List ColumnData → List Pairs
 columns_labels cs = map (λ c. c.labels) cs
 
--- a column with the values of so many steps from one on
-abbrev pub cut_column : ℕ → ℕ → ColumnData → ColumnData
-cut_column from len c = record { labels = c.labels; values = take len (drop from c.values) }
+-- some step has a value
+abbrev pub has_value : List (Option ℤ) → Bool
+has_value [] = false
+has_value (None ∷ vs) = has_value vs
+has_value (Some v ∷ vs) = true
+
+-- a column with the values of so many steps from one on, none where none of them has a value
+abbrev pub cut_column : ℕ → ℕ → ColumnData → List ColumnData
+cut_column from len c =
+    let values = take len (drop from c.values) in
+    cond (has_value values) (record { labels = c.labels; values = values } ∷ []) []
 
 -- cells with their times
 abbrev pub timed : List ℕ → List (List Element) → List Step

@@ -98,8 +98,8 @@ impl Cells {
         })
     }
 
-    /// A part that may outlive these cells. One of less than half of the steps that are shared is a copy, so that it
-    /// keeps no others alive.
+    /// A part that may outlive these cells. One of under half of the steps that are shared is a copy, without the columns
+    /// that have no value there, so that it keeps no others alive.
     #[tactic(auto, using(crate::proofs::Parts::length_cells, crate::proofs::Parts::part_is, crate::proofs::Parts::cut_is, crate::proofs::Parts::cut_rises))]
     pub fn cut(&self, alloc: Global, from: u32, len: u32) -> Result<Cells, OutOfMemory>
         requires { from + len ≤ length self.now }

@@ -1,7 +1,8 @@
 //! A column: a label set with its value at each step.
 
-ghost use Rattle.std.specs.Prelude.{◌≡◌, IfOk, map, take, drop};
-ghost use Rattle.pf_columns.specs.Columns.{cell_at, cut_column, value_in};
+ghost use Rattle.std.specs.Prelude.{◌≡◌, IfOk, take, drop};
+ghost use Rattle.pf_model.specs.Lists.{joined};
+ghost use Rattle.pf_columns.specs.Columns.{cell_at, cut_column, has_value, value_in};
 
 use pf_base::{Labels, OutOfMemory, Value};
 use pf_model::{Cell, Element};
@@ -63,21 +64,36 @@ fn cut_values(
     Ok(Vec::from_slice(alloc, &values[start..end])?)
 }
 
-/// Each column with the values of so many steps from one on.
+/// Whether some step has a value.
+fn has_value(values: &[Option<Value>]) -> bool
+    ensures { result ≡ has_value values.now }
+{
+    for value in values {
+        if value.is_some() {
+            return true;
+        }
+    }
+    false
+}
+
+/// The columns that have a value at one of so many steps, with these steps' values.
 pub(crate) fn cut_columns(
     alloc: Global,
     columns: &[Column],
     from: u32,
     len: u32,
 ) -> Result<Vec<Column>, OutOfMemory>
-    ensures { IfOk result (λ v. v.items ≡ map (cut_column from len) columns.now) }
+    ensures { IfOk result (λ v. v.items ≡ joined (cut_column from len) columns.now) }
 {
     let mut found = Vec::new(alloc);
     for column in columns {
-        found.push(Column {
-            labels: column.labels.clone()?,
-            values: cut_values(alloc, &column.values, from, len)?,
-        })?;
+        let values = cut_values(alloc, &column.values, from, len)?;
+        if has_value(&values) {
+            found.push(Column {
+                labels: column.labels.clone()?,
+                values,
+            })?;
+        }
     }
     Ok(found)
 }

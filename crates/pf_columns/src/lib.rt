@@ -6,8 +6,8 @@
 //!   gives one step, `first_bad` the first that has an error, and `cells` the cells of a run without one.
 //! - `normalised` makes it of what a node gives: of columns in any order and of any labels it makes, at each step, the
 //!   vector in label order, or `DoubleLabels`.
-//! - `Cells` are the cells of consecutive steps without errors. A copy, a `part` and a `cut` are lists of the same cells;
-//!   the first two share all elements. `gather` makes the matrix over a grid.
+//! - `Cells` are the cells of consecutive steps without errors. A copy and a `part` share all elements, and so does a `cut`
+//!   but where it keeps few of them. `gather` makes the matrix over a grid.
 //! - `GroupIds` are the groups of columns, found once for all steps, and `aggregated` the aggregations that have one value
 //!   for each group.
 //!
