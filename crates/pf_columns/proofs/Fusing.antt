@@ -1,9 +1,7 @@
 -- Columns of equal labels, one behind the other, are fused, and each step stays what it was.
 use Rattle.std.proofs.Common.{◌≡◌, ◌<◌, ℕ, ℤ, Bool, true, false, cond, ◌||◌, Option, Some, None, List, [], ◌∷◌, ◌++◌, refl, sym, ap, ◌∙◌, subst, append_assoc, append-nil, length, arith}
 use Rattle.std.specs.List.{list_any}
-use Rattle.std.specs.Ordering.{is_gt, is_eq}
-use Rattle.std.specs.declared.cmp.Ordering.{Ordering}
-use Rattle.std.specs.declared.cmp.Ordering.TheVariants.{Less, Equal, Greater}
+use Rattle.std.specs.declared.cmp.Ordering.TheVariants.{Less}
 use Rattle.pf_base.specs.LabelSets.{Pairs}
 use Rattle.pf_base.specs.LabelOrder.{labels_cmp, labels_total}
 use Rattle.pf_base.specs.Sorting.{isort}
@@ -20,12 +18,12 @@ use Rattle.pf_model.proofs.SelectorLabels.{AllAbove}
 use Rattle.pf_columns.specs.Columns.{AreRising, ColumnData, cell_at, columns_labels, value_in}
 use Rattle.pf_columns.specs.Steps.{AddsClashes, IsFusion, bad_in, clash, column_cmp, either, step_at, unless_bad}
 use Rattle.pf_columns.proofs.Below.{read_below}
-use Rattle.pf_columns.proofs.Rising.{cell_rising}
+use Rattle.pf_columns.proofs.Rising.{cell_rising, less_of}
 use Rattle.pf_columns.proofs.SortedColumns.{NeverFall, NoneBelow, sorted_alike, sorted_never_fall}
 
 -- ---- two elements with equal labels
 
-or_true : (b : Bool) → (b || true) ≡ true
+pub or_true : (b : Bool) → (b || true) ≡ true
 or_true true = refl
 or_true false = refl
 
@@ -77,11 +75,6 @@ above_behind n l m (x ∷ xs) p h = (h.0, above_behind n l m xs p h.1)
 rises_behind : (l m : Pairs) (ls : List Pairs) → labels_cmp l m ≡ Less → AreRising (ls ++ (l ∷ [])) → AreRising ((ls ++ (l ∷ [])) ++ (m ∷ []))
 rises_behind l m [] p h = ((p, tt), (tt, tt))
 rises_behind l m (x ∷ xs) p h = (above_behind x l m xs p h.0, rises_behind l m xs p h.1)
-
-less_of : (o : Ordering) → is_gt o ≡ false → is_eq o ≡ false → o ≡ Less
-less_of Less g e = refl
-less_of Equal g e = cc
-less_of Greater g e = cc
 
 joined_append : {X Y : Type 0} (f : X → List Y) (xs ys : List X) → joined f (xs ++ ys) ≡ joined f xs ++ joined f ys
 joined_append f [] ys = refl

@@ -18,7 +18,8 @@ use Rattle.pf_model.proofs.KeySets.{alike, distinct_ascends, distinct_in, same_i
 use Rattle.pf_model.proofs.SelectorLabels.{AllAbove, above_all}
 use Rattle.pf_columns.specs.Columns.{AreRising}
 use Rattle.pf_columns.specs.Groups.{place_in, unrepeated}
-use Rattle.pf_columns.proofs.Rising.{ascends, rising}
+use Rattle.pf_columns.proofs.Fusing.{or_true}
+use Rattle.pf_columns.proofs.Rising.{ascends, less_of, rising}
 
 -- ---- what stands in a sorted list
 
@@ -40,11 +41,6 @@ any_isort p R [] = refl
 any_isort p R (x ∷ xs) = any_ins p R x (isort R xs) ∙ ap (λ b. p x || b) (any_isort p R xs)
 
 -- ---- each once
-
-less_of : (o : Ordering) → is_gt o ≡ false → is_eq o ≡ false → o ≡ Less
-less_of Less g e = refl
-less_of Equal g e = cc
-less_of Greater g e = cc
 
 once_by : (m l : Pairs) (ls : List Pairs) (b : Bool) → same_labels m l ≡ b → is_gt (labels_cmp m l) ≡ false
     → AllAbove l (unrepeated (Some l) ls) × AreRising (unrepeated (Some l) ls)
@@ -94,10 +90,6 @@ pub distinct_rising : (ls : List Pairs) → AreRising (distinct ls)
 distinct_rising ls = rising (distinct ls) (distinct_ascends ls)
 
 -- ---- each of some label sets stands among their distinct ones
-
-or_true : (b : Bool) → (b || true) ≡ true
-or_true true = refl
-or_true false = refl
 
 each_in : (ls all : List Pairs) → ((l : Pairs) → stands_in l ls ≡ true → stands_in l all ≡ true) → Each (λ l. stands_in l all ≡ true) ls
 each_in [] all f = tt

@@ -1,7 +1,7 @@
 -- Columns whose label sets rise: their elements at each step are a cell as they stand.
-use Rattle.std.proofs.Common.{◌≡◌, ℕ, ℤ, true, Option, Some, None, List, [], ◌∷◌, ◌++◌, sym, refl}
+use Rattle.std.proofs.Common.{◌≡◌, ℕ, ℤ, true, false, Option, Some, None, List, [], ◌∷◌, ◌++◌, sym, refl}
 use Rattle.std.specs.Cmp.{first_so, second_so}
-use Rattle.std.specs.Ordering.{is_lt}
+use Rattle.std.specs.Ordering.{is_eq, is_gt, is_lt}
 use Rattle.std.specs.declared.cmp.Ordering.{Ordering}
 use Rattle.std.specs.declared.cmp.Ordering.TheVariants.{Less, Equal, Greater}
 use Rattle.pf_base.specs.LabelSets.{Pairs}
@@ -43,6 +43,11 @@ pub cell_rising : (k : ℕ) (cs : List ColumnData) → AreRising (columns_labels
 cell_rising k cs h = sym (cell_in_order (cell_at cs k) (order_cell k cs h))
 
 -- ---- the test
+
+pub less_of : (o : Ordering) → is_gt o ≡ false → is_eq o ≡ false → o ≡ Less
+less_of Less g e = refl
+less_of Equal g e = cc
+less_of Greater g e = cc
 
 less : (o : Ordering) → is_lt o ≡ true → o ≡ Less
 less Less h = refl
