@@ -1,0 +1,5 @@
+pub mod Ends
+pub mod Extrapolation
+pub mod Steps
+pub mod Values
+pub mod Windows
