@@ -1,10 +1,9 @@
 //! Rows of numbers, values, durations, grids, tenants' names and label sets.
 
-use crate::setting::text_of;
-use crate::trouble::Trouble;
+use crate::output::{Output, cut};
 use pf_base::{
-    DurationError, Grid, GridError, Labels, LabelsError, Read, Tenant, TenantError, Text, Value,
-    is_label_name, push_value, read_duration, read_value,
+    DurationError, Grid, GridError, Labels, LabelsError, OutOfMemory, Read, Tenant, TenantError,
+    Text, Value, is_label_name, read_duration, read_value,
 };
 use pf_types::grid_text;
 use std::alloc::Global;
@@ -47,127 +46,273 @@ impl Form {
         Some(form)
     }
 
-    /// What is found of a row.
-    pub fn answer(self, alloc: Global, given: &[u8]) -> Result<Vec<u8>, Trouble> {
+    /// Writes what is found of a row.
+    pub fn answer(self, out: &mut Output, given: &[u8]) {
         match self {
-            Form::Number => number(alloc, given),
-            Form::Value => value(alloc, given),
-            Form::Arithmetic => arithmetic(alloc, given),
-            Form::Duration => duration(alloc, given),
-            Form::Grid => grid(alloc, given),
-            Form::Tenant => tenant(alloc, given),
-            Form::SameTenant => same_tenant(alloc, given),
-            Form::Labels => labels(alloc, given),
+            Form::Number => number(out, given),
+            Form::Duration => duration(out, given),
+            _ => {
+                let text = out.utf8(given);
+                self.answer_text(out, text);
+            }
+        }
+    }
+
+    fn answer_text(self, out: &mut Output, given: &str) {
+        match self {
+            Form::Value => value(out, given),
+            Form::Arithmetic => arithmetic(out, given),
+            Form::Grid => grid(out, given),
+            Form::Tenant => tenant(out, given),
+            Form::SameTenant => same_tenant(out, given),
+            Form::Labels => labels(out, given),
+            Form::Number | Form::Duration => {}
         }
     }
 }
 
-/// A text's bytes.
-pub fn said(alloc: Global, text: &str) -> Result<Vec<u8>, Trouble> {
-    Ok(Vec::from_slice(alloc, text.as_bytes())?)
-}
-
-fn number(alloc: Global, given: &[u8]) -> Result<Vec<u8>, Trouble> {
-    let Ok(read) = read_value(given) else {
-        return said(alloc, "bad number");
-    };
+/// Appends what a number's text says.
+fn push_read(out: &mut Output, read: Read) {
     match read {
-        Read::Number(value) => {
-            let micros = value.micros();
-            said(alloc, &format!(in alloc; "{micros}")?)
-        }
-        Read::NotANumber => said(alloc, "not a number"),
+        Read::Number(value) => out.show(value.micros()),
+        Read::NotANumber => out.text("not a number"),
     }
 }
 
-fn value(alloc: Global, given: &[u8]) -> Result<Vec<u8>, Trouble> {
-    let micros = text_of(given)?.parse::<i128>()?;
-    let mut out = Vec::new(alloc);
-    push_value(&mut out, Value::new(micros))?;
-    Ok(out)
+fn number(out: &mut Output, given: &[u8]) {
+    match read_value(given) {
+        Ok(read) => push_read(out, read),
+        Err(_) => out.text("bad number"),
+    }
 }
 
-fn arithmetic(alloc: Global, given: &[u8]) -> Result<Vec<u8>, Trouble> {
-    let mut words = text_of(given)?.split(' ');
-    let (Some(left), Some(sign), Some(right)) = (words.next(), words.next(), words.next()) else {
-        return Err(Trouble::NotOfForm);
-    };
-    let left = Value::new(left.parse()?);
-    let right = Value::new(right.parse()?);
-    let found = match sign {
+/// The value of a text of micros.
+pub fn value_of(out: &mut Output, micros: &str) -> Value {
+    Value::new(out.number(micros))
+}
+
+fn value(out: &mut Output, given: &str) {
+    let value = value_of(out, given);
+    out.value(value);
+}
+
+/// What an operator's sign makes of two values.
+fn computed(out: &mut Output, left: Value, sign: &str, right: Value) -> Option<Value> {
+    match sign {
         "+" => Some(left.add(right)),
         "-" => Some(left.sub(right)),
         "*" => Some(left.mul(right)),
         "/" => left.div(right),
         "%" => left.rem(right),
-        _ => return Err(Trouble::NotOfForm),
-    };
-    match found {
-        Some(value) => {
-            let micros = value.micros();
-            said(alloc, &format!(in alloc; "{micros}")?)
+        _ => {
+            out.refuse();
+            None
         }
-        None => said(alloc, "none"),
     }
 }
 
-fn duration(alloc: Global, given: &[u8]) -> Result<Vec<u8>, Trouble> {
+fn arithmetic(out: &mut Output, given: &str) {
+    let (left, rest) = cut(given);
+    let (sign, right) = cut(rest);
+    let left = value_of(out, left);
+    let right = value_of(out, right);
+    match computed(out, left, sign, right) {
+        Some(value) => out.show(value.micros()),
+        None => out.text("none"),
+    }
+}
+
+fn duration(out: &mut Output, given: &[u8]) {
     match read_duration(given) {
-        Ok(millis) => said(alloc, &format!(in alloc; "{millis}")?),
-        Err(DurationError::BadForm) => said(alloc, "bad form"),
-        Err(DurationError::TooLarge) => said(alloc, "too large"),
+        Ok(millis) => out.show(millis),
+        Err(DurationError::BadForm) => out.text("bad form"),
+        Err(DurationError::TooLarge) => out.text("too large"),
     }
 }
 
 /// The grid of three numbers, a start, an end and a step, or of a single time.
-pub fn grid_of(text: &str) -> Result<Result<Grid, GridError>, Trouble> {
-    let mut words = text.split(' ');
-    let start = words.next().ok_or(Trouble::NotOfForm)?.parse()?;
-    let Some(end) = words.next() else {
-        return Ok(Grid::single(start));
-    };
-    let step = words.next().ok_or(Trouble::NotOfForm)?;
-    Ok(Grid::aligned(start, end.parse()?, step.parse()?))
+pub fn grid_of(out: &mut Output, text: &str) -> Result<Grid, GridError> {
+    let (start, rest) = cut(text);
+    let start = out.number(start);
+    if rest.is_empty() {
+        return Grid::single(start);
+    }
+    let (end, step) = cut(rest);
+    Grid::aligned(start, out.number(end), out.number(step))
 }
 
-fn grid(alloc: Global, given: &[u8]) -> Result<Vec<u8>, Trouble> {
-    match grid_of(text_of(given)?)? {
+fn grid(out: &mut Output, given: &str) {
+    match grid_of(out, given) {
         Ok(grid) => {
-            let first = grid.at(0);
-            let last = grid.at(grid.len() - 1);
-            let count = grid.len();
-            said(alloc, &format!(in alloc; "{first} {last} {count}")?)
+            out.show(grid.at(0));
+            out.text(" ");
+            out.show(grid.at(grid.len() - 1));
+            out.text(" ");
+            out.show(grid.len());
         }
-        Err(error) => said(alloc, grid_text(alloc, error)?.as_str()),
+        Err(error) => out.made(&grid_text(out.alloc(), error)),
     }
 }
 
-fn tenant(alloc: Global, given: &[u8]) -> Result<Vec<u8>, Trouble> {
-    match Tenant::read(alloc, text_of(given)?) {
-        Ok(tenant) => said(alloc, tenant.as_str()),
-        Err(TenantError::BadTenant) => said(alloc, "bad tenant"),
-        Err(TenantError::OutOfMemory) => Err(Trouble::OutOfMemory),
+fn tenant(out: &mut Output, given: &str) {
+    match &Tenant::read(out.alloc(), given) {
+        Ok(tenant) => out.text(tenant.as_str()),
+        Err(TenantError::BadTenant) => out.text("bad tenant"),
+        Err(TenantError::OutOfMemory) => out.lose(),
     }
 }
 
 /// Compares a copy of the one tenant with the other.
-fn same_tenant(alloc: Global, given: &[u8]) -> Result<Vec<u8>, Trouble> {
-    let (left, right) = text_of(given)?.split_once(' ').ok_or(Trouble::NotOfForm)?;
-    let left = Tenant::read(alloc, left).or(Err(Trouble::NotOfForm))?;
-    let right = Tenant::read(alloc, right).or(Err(Trouble::NotOfForm))?;
-    let is_same = left.clone()? == right;
-    said(alloc, &format!(in alloc; "{is_same}")?)
+fn compare_tenants(out: &mut Output, left: &Tenant, right: &Tenant) {
+    let copy: Result<_, _> = left.clone();
+    if let Some(copy) = &out.or_lose(copy) {
+        out.show(*copy == *right);
+    }
+}
+
+fn compare_with(out: &mut Output, left: &Tenant, right: &str) {
+    let right = Tenant::read(out.alloc(), right);
+    if let Some(right) = &out.or_refuse(right) {
+        compare_tenants(out, left, right);
+    }
+}
+
+fn same_tenant(out: &mut Output, given: &str) {
+    let (left, right) = cut(given);
+    let left = Tenant::read(out.alloc(), left);
+    if let Some(left) = &out.or_refuse(left) {
+        compare_with(out, left, right);
+    }
+}
+
+fn pair_of(alloc: Global, name: &str, value: &str) -> Result<(Text, Text), OutOfMemory> {
+    Ok((Text::of(alloc, name)?, Text::of(alloc, value)?))
 }
 
 /// The pairs that a text lists, as in `b=2,a=1`.
-pub fn pairs_of(alloc: Global, list: &str) -> Result<Vec<(Text, Text)>, Trouble> {
-    let mut pairs = Vec::new(alloc);
+fn pairs_of(out: &mut Output, list: &str) -> Vec<(Text, Text)> {
+    let mut pairs = Vec::new(out.alloc());
     for part in list.split(',') {
         if let Some((name, value)) = part.split_once('=') {
-            pairs.push((Text::of(alloc, name)?, Text::of(alloc, value)?))?;
+            out.add(&mut pairs, pair_of(out.alloc(), name, value));
         }
     }
-    Ok(pairs)
+    pairs
+}
+
+/// The label set that a text lists.
+pub fn labels_of(out: &mut Output, list: &str) -> Option<Labels> {
+    let pairs = pairs_of(out, list);
+    let built = Labels::build(out.alloc(), pairs);
+    out.or_refuse(built)
+}
+
+/// Appends the pairs of a label set, listed as they are given.
+pub fn push_labels(out: &mut Output, labels: &Labels) {
+    for i in 0..labels.count() {
+        if i > 0 {
+            out.text(",");
+        }
+        out.text(labels.name(i));
+        out.text("=");
+        out.text(labels.value(i));
+    }
+}
+
+/// Appends a label set that was built, or why there is none.
+fn push_built(out: &mut Output, built: &Result<Labels, LabelsError>) {
+    match built {
+        Ok(labels) => push_labels(out, labels),
+        Err(LabelsError::BadName { name }) => {
+            out.text("bad name ");
+            out.text(name.as_str());
+        }
+        Err(LabelsError::Repeated { name }) => {
+            out.text("repeated ");
+            out.text(name.as_str());
+        }
+        Err(LabelsError::TooMany) => out.text("too many"),
+        Err(LabelsError::OutOfMemory) => out.lose(),
+    }
+}
+
+fn build(out: &mut Output, list: &str) {
+    let pairs = pairs_of(out, list);
+    push_built(out, &Labels::build(out.alloc(), pairs));
+}
+
+/// Appends a label set that was made of another one.
+fn push_made(out: &mut Output, made: &Result<Labels, OutOfMemory>) {
+    match made {
+        Ok(labels) => push_labels(out, labels),
+        Err(_) => out.lose(),
+    }
+}
+
+/// The texts between the signs of this kind.
+pub fn texts_of(out: &mut Output, list: &str, sign: char) -> Vec<Text> {
+    let mut texts = Vec::new(out.alloc());
+    for text in list.split(sign) {
+        out.add(&mut texts, Text::of(out.alloc(), text));
+    }
+    texts
+}
+
+fn keep(out: &mut Output, labels: &Labels, list: &str) {
+    let names = texts_of(out, list, ',');
+    push_made(out, &labels.keep(&names));
+}
+
+fn leave_out(out: &mut Output, labels: &Labels, list: &str) {
+    let names = texts_of(out, list, ',');
+    push_made(out, &labels.leave_out(&names));
+}
+
+/// Tells these labels with a name's value set, as in `a=1`.
+fn with(out: &mut Output, labels: &Labels, pair: &str) {
+    let (name, value) = pair.split_once('=').unwrap_or(("", ""));
+    if is_label_name(name) {
+        push_made(out, &labels.with(name, value));
+    } else {
+        out.refuse();
+    }
+}
+
+/// Tells whether a copy of a label set equals it.
+fn is_copy_same(out: &mut Output, labels: &Labels) -> bool {
+    let copy: Result<_, _> = labels.clone();
+    match &out.or_lose(copy) {
+        Some(copy) => *copy == *labels,
+        None => false,
+    }
+}
+
+/// Tells how two label sets compare, by all that compares them.
+fn compare_labels(out: &mut Output, left: &Labels, right: &Labels) {
+    let order = left.cmp(right);
+    let is_equal = *left == *right;
+    if !is_copy_same(out, left) {
+        out.text("a copy differs");
+    } else if left.partial_cmp(right) != Some(order) {
+        out.text("two orders");
+    } else {
+        out.show(format_args!("{order:?} {is_equal}"));
+    }
+}
+
+fn compare(out: &mut Output, left: &Labels, list: &str) {
+    if let Some(right) = &labels_of(out, list) {
+        compare_labels(out, left, right);
+    }
+}
+
+fn shard(out: &mut Output, labels: &Labels, count: &str) {
+    let count = out.number::<u32>(count);
+    if count == 0 {
+        out.refuse();
+    } else {
+        out.show(labels.shard(count));
+    }
 }
 
 /// A value that threads may share and hand on.
@@ -175,96 +320,29 @@ fn shared<T: Send + Sync>(value: &T) -> &T {
     value
 }
 
-/// The label set that a text lists.
-pub fn labels_of(alloc: Global, list: &str) -> Result<Labels, Trouble> {
-    Labels::build(alloc, pairs_of(alloc, list)?).or(Err(Trouble::NotOfForm))
-}
-
-/// The pairs of a label set, listed as they are given.
-pub fn listed(alloc: Global, labels: &Labels) -> Result<Vec<u8>, Trouble> {
-    let mut out = Vec::new(alloc);
-    for i in 0..labels.count() {
-        if i > 0 {
-            out.push(b',')?;
-        }
-        out.extend_from_slice(labels.name(i).as_bytes())?;
-        out.push(b'=')?;
-        out.extend_from_slice(labels.value(i).as_bytes())?;
+/// Makes a call of a label set.
+fn call(out: &mut Output, labels: &Labels, verb: &str, argument: &str) {
+    match verb {
+        "get" => out.text(shared(labels).get(argument)),
+        "without_name" => push_made(out, &labels.without_name()),
+        "keep" => keep(out, labels, argument),
+        "leave_out" => leave_out(out, labels, argument),
+        "with" => with(out, labels, argument),
+        "compare" => compare(out, labels, argument),
+        "shard" => shard(out, labels, argument),
+        _ => out.refuse(),
     }
-    Ok(out)
-}
-
-fn built(alloc: Global, list: &str) -> Result<Vec<u8>, Trouble> {
-    match Labels::build(alloc, pairs_of(alloc, list)?) {
-        Ok(labels) => listed(alloc, &labels),
-        Err(LabelsError::BadName { name }) => {
-            said(alloc, &format!(in alloc; "bad name {}", name.as_str())?)
-        }
-        Err(LabelsError::Repeated { name }) => {
-            said(alloc, &format!(in alloc; "repeated {}", name.as_str())?)
-        }
-        Err(LabelsError::TooMany) => said(alloc, "too many"),
-        Err(LabelsError::OutOfMemory) => Err(Trouble::OutOfMemory),
-    }
-}
-
-fn names_of(alloc: Global, list: &str) -> Result<Vec<Text>, Trouble> {
-    let mut names = Vec::new(alloc);
-    for name in list.split(',') {
-        names.push(Text::of(alloc, name)?)?;
-    }
-    Ok(names)
-}
-
-/// These labels with a name's value set, as in `a=1`.
-fn changed(alloc: Global, labels: &Labels, pair: &str) -> Result<Vec<u8>, Trouble> {
-    let (name, value) = pair.split_once('=').ok_or(Trouble::NotOfForm)?;
-    if !is_label_name(name) {
-        return Err(Trouble::NotOfForm);
-    }
-    listed(alloc, &labels.with(name, value)?)
-}
-
-/// How two label sets compare, by all that compares them.
-fn compared(alloc: Global, left: &Labels, right: &Labels) -> Result<Vec<u8>, Trouble> {
-    let is_equal = *left == *right;
-    let same = left.clone()?;
-    if same != *left {
-        return said(alloc, "a copy differs");
-    }
-    let order = left.cmp(right);
-    if left.partial_cmp(right) != Some(order) {
-        return said(alloc, "two orders");
-    }
-    said(alloc, &format!(in alloc; "{order:?} {is_equal}")?)
-}
-
-fn sharded(alloc: Global, labels: &Labels, count: &str) -> Result<Vec<u8>, Trouble> {
-    let count = count.parse::<u32>()?;
-    if count == 0 {
-        return Err(Trouble::NotOfForm);
-    }
-    let shard = labels.shard(count);
-    said(alloc, &format!(in alloc; "{shard}")?)
 }
 
 /// Answers `build LABELS`, `get LABELS NAME`, `without_name LABELS`, `keep LABELS NAMES`, `leave_out LABELS NAMES`,
 /// `with LABELS NAME=VALUE`, `compare LABELS LABELS` and `shard LABELS COUNT`. The empty label set is `-`.
-fn labels(alloc: Global, given: &[u8]) -> Result<Vec<u8>, Trouble> {
-    let (verb, rest) = text_of(given)?.split_once(' ').ok_or(Trouble::NotOfForm)?;
+fn labels(out: &mut Output, given: &str) {
+    let (verb, rest) = cut(given);
     if verb == "build" {
-        return built(alloc, rest);
+        return build(out, rest);
     }
-    let (list, argument) = rest.split_once(' ').unwrap_or((rest, ""));
-    let labels = labels_of(alloc, list)?;
-    match verb {
-        "get" => said(alloc, shared(&labels).get(argument)),
-        "without_name" => listed(alloc, &labels.without_name()?),
-        "keep" => listed(alloc, &labels.keep(&names_of(alloc, argument)?)?),
-        "leave_out" => listed(alloc, &labels.leave_out(&names_of(alloc, argument)?)?),
-        "with" => changed(alloc, &labels, argument),
-        "compare" => compared(alloc, &labels, &labels_of(alloc, argument)?),
-        "shard" => sharded(alloc, &labels, argument),
-        _ => Err(Trouble::NotOfForm),
+    let (list, argument) = cut(rest);
+    if let Some(labels) = &labels_of(out, list) {
+        call(out, labels, verb, argument);
     }
 }

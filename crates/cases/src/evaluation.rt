@@ -4,19 +4,19 @@
 //! rows of grids. Above rows of the plain evaluator stand `page`, exposition lines, `time`, in milliseconds, and maybe
 //! `include NAME`, a name that the query's operator takes from the one side beside those of its text.
 
-use crate::base::{grid_of, listed, said};
-use crate::setting::{Setting, text_of};
+use crate::base::{grid_of, push_labels};
+use crate::output::Output;
+use crate::setting::Setting;
 use crate::stores::files::batch_of;
-use crate::stores::logs::log_of;
+use crate::stores::logs::last_pin;
 use crate::stores::matchers::matchers_of;
-use crate::trouble::Trouble;
-use pf_base::{Text, push_value};
+use pf_base::{OutOfMemory, Text};
+use pf_block::Snap;
 use pf_eval::plain::{PlainError, plain_value};
 use pf_eval::selector_matrix;
-use pf_matrix::MatrixRow;
-use pf_model::{Cell, Expr, StepCell};
+use pf_matrix::{Matrix, MatrixRow};
+use pf_model::{Cell, Element, Expr, Matchers, Matching, StepCell};
 use pf_parse::parse;
-use std::alloc::Global;
 
 /// A form of rows.
 #[derive(Clone, Copy)]
@@ -37,88 +37,120 @@ impl Form {
         }
     }
 
-    /// What is found of a row.
-    pub fn answer(
-        self,
-        alloc: Global,
-        setting: &Setting,
-        given: &[u8],
-    ) -> Result<Vec<u8>, Trouble> {
-        let text = text_of(given)?;
+    /// Writes what is found of a row.
+    pub fn answer(self, out: &mut Output, setting: &Setting, given: &[u8]) {
+        let text = out.utf8(given);
         match self {
-            Form::Selector => selector(alloc, setting, text),
-            Form::Plain => plain(alloc, setting, text),
+            Form::Selector => selector(out, setting, text),
+            Form::Plain => plain(out, setting, text),
         }
     }
-}
-
-fn tree_of(alloc: Global, text: &str) -> Result<Expr, Trouble> {
-    parse(alloc, text).or(Err(Trouble::NotOfForm))
 }
 
 /// Appends a series: its labels, and the times and values of its points.
-fn push_series(alloc: Global, out: &mut Vec<u8>, row: &MatrixRow) -> Result<(), Trouble> {
-    if !out.is_empty() {
-        out.extend_from_slice("; ".as_bytes())?;
-    }
-    out.extend_from_slice(&listed(alloc, &row.labels)?)?;
+fn push_series(out: &mut Output, row: &MatrixRow) {
+    push_labels(out, &row.labels);
     for point in &row.points {
-        let time = point.time;
-        out.extend_from_slice(format!(in alloc; " {time}:")?.as_bytes())?;
-        push_value(out, point.value)?;
+        out.text(" ");
+        out.show(point.time);
+        out.text(":");
+        out.value(point.value);
     }
-    Ok(())
 }
 
-fn selector(alloc: Global, setting: &Setting, text: &str) -> Result<Vec<u8>, Trouble> {
-    let log = log_of(alloc, setting)?;
-    let matchers = matchers_of(alloc, text)?.or(Err(Trouble::NotOfForm))?;
-    let grid = setting.part("grid").ok_or(Trouble::NotOfForm)?;
-    let grid = grid_of(grid.words.as_str())?.or(Err(Trouble::NotOfForm))?;
-    let matrix = selector_matrix(alloc, &matchers, &log.pin()?.snap, &grid)?;
-    let mut out = Vec::new(alloc);
-    for row in &matrix.rows {
-        push_series(alloc, &mut out, row)?;
+fn push_rows(out: &mut Output, rows: &[MatrixRow]) {
+    for row in rows {
+        if !out.is_empty() {
+            out.text("; ");
+        }
+        push_series(out, row);
     }
-    Ok(out)
+}
+
+fn push_matrix(out: &mut Output, matrix: &Result<Matrix, OutOfMemory>) {
+    match matrix {
+        Ok(matrix) => push_rows(out, &matrix.rows),
+        Err(_) => out.lose(),
+    }
+}
+
+/// Selects from a snapshot on the grid of the setting.
+fn select(out: &mut Output, setting: &Setting, matchers: &Matchers, snap: &Snap) {
+    let words = setting.words(out, "grid");
+    match grid_of(out, words) {
+        Ok(grid) => push_matrix(out, &selector_matrix(out.alloc(), matchers, snap, &grid)),
+        Err(_) => out.refuse(),
+    }
+}
+
+fn select_of(out: &mut Output, setting: &Setting, matchers: &Matchers) {
+    if let Some(pin) = &last_pin(out, setting) {
+        select(out, setting, matchers, &pin.snap);
+    }
+}
+
+fn selector(out: &mut Output, setting: &Setting, text: &str) {
+    if let Some(matchers) = &matchers_of(out, text) {
+        select_of(out, setting, matchers);
+    }
+}
+
+/// Adds a name to those that a query's operator takes from the one side.
+fn include(out: &mut Output, query: &mut Expr, name: &str) {
+    match query {
+        Expr::Binary { matching, .. } => {
+            out.add(&mut matching.include, Text::of(out.alloc(), name));
+        }
+        _ => out.refuse(),
+    }
 }
 
 /// The tree of a query, with the name of a part `include`.
-fn query_of(alloc: Global, setting: &Setting, text: &str) -> Result<Expr, Trouble> {
-    let mut query = tree_of(alloc, text)?;
+fn query_of(out: &mut Output, setting: &Setting, text: &str) -> Option<Expr> {
+    let mut query = out.or_refuse(parse(out.alloc(), text))?;
     if let Some(part) = setting.part("include") {
-        let Expr::Binary { matching, .. } = &mut query else {
-            return Err(Trouble::NotOfForm);
-        };
-        let name = Text::of(alloc, part.words.as_str())?;
-        matching.include.push(name)?;
+        include(out, &mut query, part.words.as_str());
     }
-    Ok(query)
+    Some(query)
 }
 
-/// The elements of a vector, each by its label `s` and its whole units.
-fn elements(alloc: Global, cell: &Cell) -> Result<Vec<u8>, Trouble> {
-    let mut out = Vec::new(alloc);
+/// Appends an element by its label `s` and its whole units.
+fn push_element(out: &mut Output, element: &Element) {
+    out.text(element.labels.get("s"));
+    out.text("=");
+    out.show(element.value.micros() / 1_000_000);
+}
+
+/// Appends the elements of a vector.
+fn push_cell(out: &mut Output, cell: &Cell) {
     for element in &cell.elements {
         if !out.is_empty() {
-            out.push(b' ')?;
+            out.text(" ");
         }
-        let units = element.value.micros() / 1_000_000;
-        out.extend_from_slice(element.labels.get("s").as_bytes())?;
-        out.extend_from_slice(format!(in alloc; "={units}")?.as_bytes())?;
+        push_element(out, element);
     }
-    Ok(out)
 }
 
-fn plain(alloc: Global, setting: &Setting, text: &str) -> Result<Vec<u8>, Trouble> {
-    let page = batch_of(alloc, setting, setting.text("page"))?;
-    let query = query_of(alloc, setting, text)?;
-    let time = setting.part("time").ok_or(Trouble::NotOfForm)?;
-    let time = time.words.as_str().parse::<i64>()?;
-    match plain_value(alloc, &page.rows, &query, time) {
-        Ok(StepCell::Good(cell)) => elements(alloc, &cell),
-        Ok(StepCell::Bad(kind)) => said(alloc, format!(in alloc; "{kind:?}")?.as_str()),
-        Err(PlainError::NotBuilt) => said(alloc, "NotBuilt"),
-        Err(PlainError::OutOfMemory) => Err(Trouble::OutOfMemory),
+fn push_value(out: &mut Output, value: &Result<StepCell, PlainError>) {
+    match value {
+        Ok(StepCell::Good(cell)) => push_cell(out, cell),
+        Ok(StepCell::Bad(kind)) => out.show(format_args!("{kind:?}")),
+        Err(PlainError::NotBuilt) => out.text("NotBuilt"),
+        Err(PlainError::OutOfMemory) => out.lose(),
+    }
+}
+
+/// Evaluates a query at the time of the setting.
+fn evaluate(out: &mut Output, setting: &Setting, query: &Expr) {
+    let time = setting.words(out, "time");
+    let time = out.number::<i64>(time);
+    if let Some(page) = &batch_of(out, setting, setting.text("page")) {
+        push_value(out, &plain_value(out.alloc(), &page.rows, query, time));
+    }
+}
+
+fn plain(out: &mut Output, setting: &Setting, text: &str) {
+    if let Some(query) = &query_of(out, setting, text) {
+        evaluate(out, setting, query);
     }
 }

@@ -6,12 +6,11 @@
 //! `gives WORDS` is a row whose given text is the case's title; it wants its words, a line feed and its text. Empty lines
 //! and lines that begin with `#` are passed over.
 
-use crate::escapes::{push_shown, unescaped};
+use crate::escapes::{push_shown, push_unescaped};
 use crate::forms::{Form, answer};
-use crate::setting::{Setting, text_of};
-use crate::trouble::Trouble;
+use crate::output::{Output, Trouble};
+use crate::setting::Setting;
 use std::alloc::Global;
-use std::fmt::Write;
 
 /// A row that waits for the lines of what it wants.
 #[derive(Drop)]
@@ -26,12 +25,20 @@ pub struct Reader<'a> {
     rt: HostRuntime,
     name: &'a str,
     form: Option<Form>,
-    title: Vec<u8>,
+    title: &'a str,
     setting: Setting,
     waiting: Option<Waiting>,
     rows: u32,
     wrong: u32,
-    out: String,
+    out: Output,
+}
+
+/// The bytes that a text stands for, with an end behind them.
+fn unescaped(alloc: Global, text: &str, end: &str) -> Result<Vec<u8>, Trouble> {
+    let mut out = Output::new(alloc);
+    push_unescaped(&mut out, text);
+    out.text(end);
+    out.finish()
 }
 
 impl<'a> Reader<'a> {
@@ -41,99 +48,136 @@ impl<'a> Reader<'a> {
             rt,
             name,
             form: None,
-            title: Vec::new(alloc),
+            title: "",
             setting: Setting::new(alloc),
             waiting: None,
             rows: 0,
             wrong: 0,
-            out: String::new(alloc),
+            out: Output::new(alloc),
         }
+    }
+
+    /// Begins to tell what is wrong with a line.
+    fn begin_wrong(&mut self, line: u32) {
+        self.wrong = self.wrong.saturating_add(1);
+        self.out.text(self.name);
+        self.out.text(":");
+        self.out.show(line);
+        self.out.text(": ");
+    }
+
+    /// Says that a line is not of the form.
+    fn refuse(&mut self, line: u32, text: &str) {
+        self.begin_wrong(line);
+        self.out.text("not of the form: ");
+        self.out.text(text);
+        self.out.text("\n");
+    }
+
+    /// Says that another text was found than is wanted.
+    fn differ(&mut self, line: u32, wanted: &[u8], found: &[u8]) {
+        self.begin_wrong(line);
+        self.out.text("wanted ");
+        push_shown(&mut self.out, wanted);
+        self.out.text(", found ");
+        push_shown(&mut self.out, found);
+        self.out.text("\n");
+    }
+
+    /// Says why a line was not read.
+    fn note(&mut self, line: u32, text: &str, read: Result<(), Trouble>) {
+        match read {
+            Ok(()) => {}
+            Err(Trouble::NotOfForm) => self.refuse(line, text),
+            Err(Trouble::OutOfMemory) => self.out.lose(),
+        }
+    }
+
+    /// What is found of a row.
+    fn found(&self, form: Form, given: &[u8]) -> Output {
+        let mut out = Output::new(self.rt.alloc());
+        answer(&mut out, self.rt, form, &self.setting, given);
+        out
+    }
+
+    /// Compares what is found of a row with what is wanted.
+    fn compare(&mut self, line: u32, wanted: &[u8], found: &Output) -> Result<(), Trouble> {
+        if let Some(trouble) = found.trouble() {
+            return Err(trouble);
+        }
+        if found.as_slice() != wanted {
+            self.differ(line, wanted, found.as_slice());
+        }
+        Ok(())
     }
 
     /// Answers a row, and says what is wrong.
     fn judge(&mut self, line: u32, given: &[u8], wanted: &[u8]) -> Result<(), Trouble> {
         self.rows = self.rows.saturating_add(1);
-        let form = self.form.ok_or(Trouble::NotOfForm)?;
-        let found = answer(self.rt, form, &self.setting, given)?;
-        if found.as_slice() == wanted {
-            return Ok(());
+        match self.form {
+            Some(form) => {
+                let found = self.found(form, given);
+                self.compare(line, wanted, &found)
+            }
+            None => Err(Trouble::NotOfForm),
         }
-        self.wrong = self.wrong.saturating_add(1);
-        write!(self.out, "{}:{line}: wanted ", self.name)?;
-        push_shown(&mut self.out, wanted)?;
-        self.out.push_str(", found ")?;
-        push_shown(&mut self.out, &found)?;
-        self.out.push('\n')?;
-        Ok(())
-    }
-
-    /// Says that a line is not of the form.
-    fn refuse(&mut self, line: u32, text: &str) -> Result<(), Trouble> {
-        self.wrong = self.wrong.saturating_add(1);
-        write!(self.out, "{}:{line}: not of the form: {text}\n", self.name)?;
-        Ok(())
     }
 
     /// Answers the row that waits, whose wanted text is read.
-    fn settle(&mut self) -> Result<(), Trouble> {
-        let alloc = self.rt.alloc();
-        let Some(waiting) = self.waiting.take() else {
-            return Ok(());
-        };
-        let title = std::mem::replace(&mut self.title, Vec::new(alloc));
-        let judged = self.judge(waiting.line, &title, &waiting.wanted);
-        self.title = title;
-        match judged {
-            Err(Trouble::NotOfForm) => self.refuse(waiting.line, "gives"),
-            other => other,
+    fn settle(&mut self) {
+        if let Some(waiting) = &self.waiting.take() {
+            let judged = self.judge(waiting.line, self.title.as_bytes(), &waiting.wanted);
+            self.note(waiting.line, "gives", judged);
         }
     }
 
     /// Adds a line of a text.
     fn extend(&mut self, bytes: &[u8]) -> Result<(), Trouble> {
         match &mut self.waiting {
-            Some(waiting) => Ok(waiting.wanted.extend_from_slice(bytes)?),
+            Some(waiting) => waiting
+                .wanted
+                .extend_from_slice(bytes)
+                .or(Err(Trouble::OutOfMemory)),
             None => self.setting.extend(bytes),
         }
     }
 
     fn read_text(&mut self, text: &str, end: &str) -> Result<(), Trouble> {
-        let alloc = self.rt.alloc();
-        let mut bytes = unescaped(alloc, text)?;
-        bytes.extend_from_slice(end.as_bytes())?;
+        let bytes = unescaped(self.rt.alloc(), text, end)?;
         self.extend(&bytes)
     }
 
     fn read_row(&mut self, line: u32, given: &str, wanted: &str) -> Result<(), Trouble> {
-        let alloc = self.rt.alloc();
-        let given = unescaped(alloc, given)?;
-        let wanted = unescaped(alloc, wanted)?;
+        let given = unescaped(self.rt.alloc(), given, "")?;
+        let wanted = unescaped(self.rt.alloc(), wanted, "")?;
         self.judge(line, &given, &wanted)
     }
 
     fn read_gives(&mut self, line: u32, words: &str) -> Result<(), Trouble> {
-        let mut wanted = unescaped(self.rt.alloc(), words)?;
-        wanted.push(b'\n')?;
+        let wanted = unescaped(self.rt.alloc(), words, "\n")?;
         self.waiting = Some(Waiting { line, wanted });
         Ok(())
     }
 
-    fn read_case(&mut self, title: &str) -> Result<(), Trouble> {
-        let alloc = self.rt.alloc();
-        self.title = Vec::from_slice(alloc, title.as_bytes())?;
-        self.setting = Setting::new(alloc);
+    fn read_form(&mut self, name: &str) -> Result<(), Trouble> {
+        let form = Form::named(name).ok_or(Trouble::NotOfForm)?;
+        self.form = Some(form);
+        Ok(())
+    }
+
+    fn read_case(&mut self, title: &'a str) -> Result<(), Trouble> {
+        self.title = title;
+        self.setting = Setting::new(self.rt.alloc());
         Ok(())
     }
 
     /// Reads a line that is no text of a part.
-    fn read_head(&mut self, line: u32, text: &str) -> Result<(), Trouble> {
-        self.settle()?;
+    fn read_head(&mut self, line: u32, text: &'a str) -> Result<(), Trouble> {
         if text.is_empty() || text.starts_with('#') {
             return Ok(());
         }
         if let Some(name) = text.strip_prefix("form ") {
-            self.form = Some(Form::named(name).ok_or(Trouble::NotOfForm)?);
-            return Ok(());
+            return self.read_form(name);
         }
         if let Some(title) = text.strip_prefix("case ") {
             return self.read_case(title);
@@ -147,7 +191,7 @@ impl<'a> Reader<'a> {
         }
     }
 
-    fn read_line(&mut self, line: u32, text: &str) -> Result<(), Trouble> {
+    fn read_line(&mut self, line: u32, text: &'a str) -> Result<(), Trouble> {
         if let Some(text) = text.strip_prefix("| ") {
             return self.read_text(text, "\n");
         }
@@ -157,48 +201,60 @@ impl<'a> Reader<'a> {
         if let Some(text) = text.strip_prefix(": ") {
             return self.read_text(text, "");
         }
+        self.settle();
         self.read_head(line, text)
     }
 
-    /// Reads a line, and says where it is no line of a case file.
-    fn read_numbered(&mut self, line: u32, text: &str) -> Result<(), Trouble> {
-        match self.read_line(line, text) {
-            Err(Trouble::NotOfForm) => self.refuse(line, text),
-            other => other,
+    /// Reads all lines, and says which are no lines of a case file.
+    fn read_lines(&mut self, text: &'a str) {
+        let mut line = 0u32;
+        for row in text.split('\n') {
+            line = line.saturating_add(1);
+            let read = self.read_line(line, row);
+            self.note(line, row, read);
+            if self.out.trouble().is_some() {
+                return;
+            }
+        }
+        self.settle();
+    }
+
+    /// Tells how many rows hold, and whether all do. A file without rows doesn't hold.
+    fn sum_up(&mut self) -> bool {
+        if self.rows == 0 {
+            self.wrong = self.wrong.saturating_add(1);
+        }
+        self.out.text(self.name);
+        self.out.text(": ");
+        if self.wrong > 0 {
+            self.out.show(self.wrong);
+            self.out.text(" of ");
+            self.out.show(self.rows);
+            self.out.text(" rows do not hold\n");
+            return false;
+        }
+        self.out.show(self.rows);
+        self.out.text(" rows hold\n");
+        true
+    }
+}
+
+/// Answers all rows of a file, appends what is printed of it, and says whether all of them hold.
+pub fn judge_file(
+    out: &mut Output,
+    rt: HostRuntime,
+    name: &str,
+    bytes: &[u8],
+) -> Result<bool, Trouble> {
+    let text = std::str::from_utf8(bytes).or(Err(Trouble::NotOfForm))?;
+    let mut reader = Reader::new(rt, name);
+    reader.read_lines(text);
+    let all_hold = reader.sum_up();
+    match reader.out.trouble() {
+        Some(trouble) => Err(trouble),
+        None => {
+            out.bytes(reader.out.as_slice());
+            Ok(all_hold)
         }
     }
-}
-
-/// What is printed of a file, and how many of its lines are wrong.
-#[derive(Drop)]
-pub struct Judged {
-    pub text: String,
-    pub wrong: u32,
-}
-
-/// Answers all rows of a file.
-pub fn judge_file(rt: HostRuntime, name: &str, bytes: &[u8]) -> Result<Judged, Trouble> {
-    let mut reader = Reader::new(rt, name);
-    let text = text_of(bytes)?;
-    let mut line = 0u32;
-    for row in text.split('\n') {
-        line = line.saturating_add(1);
-        reader.read_numbered(line, row)?;
-    }
-    reader.read_numbered(line, "")?;
-    if reader.rows == 0 {
-        reader.wrong = reader.wrong.saturating_add(1);
-    }
-    let Reader {
-        rows,
-        wrong,
-        mut out,
-        ..
-    } = reader;
-    if wrong == 0 {
-        write!(out, "{name}: {rows} rows hold\n")?;
-    } else {
-        write!(out, "{name}: {wrong} of {rows} rows do not hold\n")?;
-    }
-    Ok(Judged { text: out, wrong })
 }

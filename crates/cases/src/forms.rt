@@ -1,7 +1,7 @@
 //! The forms of rows: for each kind of call, what is given and what is found, as texts.
 
+use crate::output::Output;
 use crate::setting::Setting;
-use crate::trouble::Trouble;
 use crate::{base, evaluation, language, outside, reports, runs, stores};
 
 /// A form of rows, by what it is about.
@@ -41,21 +41,15 @@ impl Form {
     }
 }
 
-/// What is found of a row.
-pub fn answer(
-    rt: HostRuntime,
-    form: Form,
-    setting: &Setting,
-    given: &[u8],
-) -> Result<Vec<u8>, Trouble> {
-    let alloc = rt.alloc();
+/// Writes what is found of a row.
+pub fn answer(out: &mut Output, rt: HostRuntime, form: Form, setting: &Setting, given: &[u8]) {
     match form {
-        Form::Base(form) => form.answer(alloc, given),
-        Form::Stores(form) => form.answer(alloc, setting, given),
-        Form::Language(form) => form.answer(alloc, given),
-        Form::Evaluation(form) => form.answer(alloc, setting, given),
-        Form::Reports(form) => form.answer(alloc, setting, given),
-        Form::Outside(form) => form.answer(rt, setting, given),
-        Form::Runs(form) => form.answer(rt, setting, given),
+        Form::Base(form) => form.answer(out, given),
+        Form::Stores(form) => form.answer(out, setting, given),
+        Form::Language(form) => form.answer(out, given),
+        Form::Evaluation(form) => form.answer(out, setting, given),
+        Form::Reports(form) => form.answer(out, setting, given),
+        Form::Outside(form) => form.answer(out, rt, setting, given),
+        Form::Runs(form) => form.answer(out, rt, setting, given),
     }
 }

@@ -2,9 +2,7 @@
 
 ghost use Rattle.pf_lex.specs.Seen.{IsTokenOf};
 
-use crate::base::said;
-use crate::setting::text_of;
-use crate::trouble::Trouble;
+use crate::output::Output;
 use pf_lex::{LexError, Token, TokenSort, string_value, token_text, tokens};
 use pf_model::{Expr, Kind};
 use pf_parse::{ParseError, parse};
@@ -13,7 +11,6 @@ use pf_types::{
     Obstacle, QueryError, TypeError, check, error_text, first_obstacle, has_pattern, read_query,
 };
 use std::alloc::Global;
-use std::fmt::Write;
 
 /// A form of rows.
 #[derive(Clone, Copy)]
@@ -53,28 +50,29 @@ impl Form {
         Some(form)
     }
 
-    /// What is found of a row.
-    pub fn answer(self, alloc: Global, given: &[u8]) -> Result<Vec<u8>, Trouble> {
-        let text = text_of(given)?;
+    /// Writes what is found of a row.
+    pub fn answer(self, out: &mut Output, given: &[u8]) {
+        let text = out.utf8(given);
         match self {
-            Form::Tokens => listed_tokens(alloc, text),
-            Form::TokenCount => token_count(alloc, text),
-            Form::Canonical => canonical(alloc, text),
-            Form::Kind => kind(alloc, text),
-            Form::Query => query(alloc, text),
-            Form::Obstacle => obstacle(alloc, text),
-            Form::Pattern => pattern(alloc, text),
-            Form::Error => error(alloc, text),
+            Form::Tokens => listed_tokens(out, text),
+            Form::TokenCount => token_count(out, text),
+            Form::Canonical => canonical(out, text),
+            Form::Kind => kind(out, text),
+            Form::Query => query(out, text),
+            Form::Obstacle => obstacle(out, text),
+            Form::Pattern => pattern(out, text),
+            Form::Error => error(out, text),
         }
     }
 }
 
-/// The text of a refusal.
-fn refused(alloc: Global, error: QueryError) -> Result<Vec<u8>, Trouble> {
-    if error == QueryError::OutOfMemory {
-        return Err(Trouble::OutOfMemory);
+/// Appends the text of a refusal.
+fn push_refusal(out: &mut Output, error: &QueryError) {
+    if *error == QueryError::OutOfMemory {
+        out.lose();
+    } else {
+        out.made(&error_text(out.alloc(), error));
     }
-    said(alloc, error_text(alloc, &error)?.as_str())
 }
 
 /// The refusal of a text that has no tokens.
@@ -86,53 +84,72 @@ fn without_tokens(error: LexError) -> QueryError {
     }
 }
 
-/// Appends a token's sort or its sign, its places and its value.
-fn push_token(alloc: Global, out: &mut String, text: &str, token: &Token) -> Result<(), Trouble>
+/// Appends a token's sort or its sign, and its places.
+fn push_place(out: &mut Output, sort: &str, token: &Token) {
+    out.text(sort);
+    out.text(" ");
+    out.show(token.from);
+    out.text("-");
+    out.show(token.to);
+}
+
+/// Appends the value of a string.
+fn push_string(out: &mut Output, text: &str, token: &Token)
     requires { IsTokenOf text.now token.now }
 {
-    let from = token.from;
-    let to = token.to;
+    push_place(out, "string", token);
+    out.text(" ");
+    out.made(&string_value(out.alloc(), text, token));
+}
+
+/// Appends a token's sort or its sign, its places and its value.
+fn push_token(out: &mut Output, text: &str, token: &Token)
+    requires { IsTokenOf text.now token.now }
+{
     match token.sort {
-        TokenSort::Word => write!(out, "word {from}-{to}")?,
-        TokenSort::Number(value) => write!(out, "number {from}-{to} {}", value.micros())?,
-        TokenSort::Duration(Some(millis)) => write!(out, "duration {from}-{to} {millis}")?,
-        TokenSort::Duration(None) => write!(out, "late duration {from}-{to}")?,
-        TokenSort::String => {
-            let value = string_value(alloc, text, token)?;
-            write!(out, "string {from}-{to} {}", value.as_str())?;
+        TokenSort::Word => push_place(out, "word", token),
+        TokenSort::Number(value) => {
+            push_place(out, "number", token);
+            out.text(" ");
+            out.show(value.micros());
         }
-        TokenSort::Mark(_) => write!(out, "{} {from}-{to}", token_text(text, token))?,
+        TokenSort::Duration(Some(millis)) => {
+            push_place(out, "duration", token);
+            out.text(" ");
+            out.show(millis);
+        }
+        TokenSort::Duration(None) => push_place(out, "late duration", token),
+        TokenSort::String => push_string(out, text, token),
+        TokenSort::Mark(_) => push_place(out, token_text(text, token), token),
     }
-    Ok(())
 }
 
 /// The tokens with semicolons between them.
-fn listed_tokens(alloc: Global, text: &str) -> Result<Vec<u8>, Trouble> {
-    let found = match tokens(alloc, text) {
-        Ok(found) => found,
-        Err(error) => return refused(alloc, without_tokens(error)),
-    };
-    let mut out = String::new(alloc);
-    for token in &found {
-        if !out.is_empty() {
-            out.push_str("; ")?;
+fn listed_tokens(out: &mut Output, text: &str) {
+    match &tokens(out.alloc(), text) {
+        Ok(found) => {
+            for token in found {
+                if !out.is_empty() {
+                    out.text("; ");
+                }
+                push_token(out, text, token);
+            }
         }
-        push_token(alloc, &mut out, text, token)?;
-    }
-    said(alloc, out.as_str())
-}
-
-fn token_count(alloc: Global, text: &str) -> Result<Vec<u8>, Trouble> {
-    match tokens(alloc, text) {
-        Ok(found) => said(alloc, format!(in alloc; "{}", found.len())?.as_str()),
-        Err(error) => refused(alloc, without_tokens(error)),
+        Err(error) => push_refusal(out, &without_tokens(*error)),
     }
 }
 
-fn canonical(alloc: Global, text: &str) -> Result<Vec<u8>, Trouble> {
-    match parse(alloc, text) {
-        Ok(tree) => said(alloc, print(alloc, &tree)?.as_str()),
-        Err(error) => refused(alloc, QueryError::from(error)),
+fn token_count(out: &mut Output, text: &str) {
+    match &tokens(out.alloc(), text) {
+        Ok(found) => out.show(found.len()),
+        Err(error) => push_refusal(out, &without_tokens(*error)),
+    }
+}
+
+fn canonical(out: &mut Output, text: &str) {
+    match &parse(out.alloc(), text) {
+        Ok(tree) => out.made(&print(out.alloc(), tree)),
+        Err(error) => push_refusal(out, &QueryError::from(*error)),
     }
 }
 
@@ -141,42 +158,43 @@ fn kind_of(alloc: Global, text: &str) -> Result<Kind, QueryError> {
     Ok(check(&tree)?)
 }
 
-fn kind(alloc: Global, text: &str) -> Result<Vec<u8>, Trouble> {
-    match kind_of(alloc, text) {
-        Ok(kind) => said(alloc, format!(in alloc; "{kind:?}")?.as_str()),
-        Err(error) => refused(alloc, error),
+fn kind(out: &mut Output, text: &str) {
+    match kind_of(out.alloc(), text) {
+        Ok(kind) => out.show(format_args!("{kind:?}")),
+        Err(error) => push_refusal(out, &error),
     }
 }
 
-fn query(alloc: Global, text: &str) -> Result<Vec<u8>, Trouble> {
-    match read_query(alloc, text) {
-        Ok(_) => said(alloc, "lawful"),
-        Err(error) => refused(alloc, error),
+fn query(out: &mut Output, text: &str) {
+    match &read_query(out.alloc(), text) {
+        Ok(_) => out.text("lawful"),
+        Err(error) => push_refusal(out, error),
     }
 }
 
-fn obstacle(alloc: Global, text: &str) -> Result<Vec<u8>, Trouble> {
-    let tree = match read_query(alloc, text) {
-        Ok(tree) => tree,
-        Err(error) => return refused(alloc, error),
-    };
-    match first_obstacle(&tree) {
-        None => said(alloc, "none"),
-        Some(Obstacle::Pattern) => said(alloc, "pattern"),
+fn push_obstacle(out: &mut Output, obstacle: Option<Obstacle>) {
+    match obstacle {
+        None => out.text("none"),
+        Some(Obstacle::Pattern) => out.text("pattern"),
         Some(Obstacle::Empty { which }) => {
-            said(alloc, format!(in alloc; "empty {which}")?.as_str())
+            out.text("empty ");
+            out.show(which);
         }
     }
 }
 
-fn pattern(alloc: Global, text: &str) -> Result<Vec<u8>, Trouble> {
-    match read_query(alloc, text) {
-        Ok(Expr::Select { selector, .. }) => {
-            let found = has_pattern(&selector);
-            said(alloc, format!(in alloc; "{found}")?.as_str())
-        }
-        Ok(_) => Err(Trouble::NotOfForm),
-        Err(error) => refused(alloc, error),
+fn obstacle(out: &mut Output, text: &str) {
+    match &read_query(out.alloc(), text) {
+        Ok(tree) => push_obstacle(out, first_obstacle(tree)),
+        Err(error) => push_refusal(out, error),
+    }
+}
+
+fn pattern(out: &mut Output, text: &str) {
+    match &read_query(out.alloc(), text) {
+        Ok(Expr::Select { selector, .. }) => out.show(has_pattern(selector)),
+        Ok(_) => out.refuse(),
+        Err(error) => push_refusal(out, error),
     }
 }
 
@@ -205,12 +223,20 @@ const ERRORS: [QueryError; 17] = [
     QueryError::OutOfMemory,
 ];
 
+/// Whether an error is written so for debugging.
+fn is_named(out: &mut Output, error: QueryError, name: &str) -> bool {
+    let mut written = Output::new(out.alloc());
+    written.show(format_args!("{error:?}"));
+    out.share(&written);
+    written.as_slice() == name.as_bytes()
+}
+
 /// The text of the error that is written so for debugging.
-fn error(alloc: Global, name: &str) -> Result<Vec<u8>, Trouble> {
+fn error(out: &mut Output, name: &str) {
     for error in ERRORS {
-        if format!(in alloc; "{error:?}")?.as_str() == name {
-            return said(alloc, error_text(alloc, &error)?.as_str());
+        if is_named(out, error, name) {
+            return out.made(&error_text(out.alloc(), &error));
         }
     }
-    Err(Trouble::NotOfForm)
+    out.refuse();
 }

@@ -9,57 +9,71 @@ mod evaluation;
 mod file;
 mod forms;
 mod language;
+mod output;
 mod outside;
 mod reports;
 mod runs;
 mod setting;
 mod stores;
-mod trouble;
 
 use file::judge_file;
+use output::{Output, Trouble};
 use pf_io::{DiskFiles, Files, StdSink, put_all};
-use std::alloc::AllocError;
 use std::env;
 use std::process::ExitCode;
-use trouble::Trouble;
 
 /// The most bytes of a file of cases.
 const MOST_BYTES: usize = 16_777_216;
 
-/// What is printed of a file, and whether all its rows hold.
-fn file_report(rt: HostRuntime, name: &str) -> Result<(String, bool), AllocError> {
-    let alloc = rt.alloc();
-    let mut bytes = Vec::new(alloc);
+/// Says why no row of a file was answered.
+fn push_failed(out: &mut Output, name: &str, why: &str) {
+    out.text(name);
+    out.text(why);
+}
+
+/// Appends what is printed of a file, and says whether all its rows hold.
+fn push_file(out: &mut Output, rt: HostRuntime, name: &str) -> bool {
+    let mut bytes = Vec::new(out.alloc());
     if DiskFiles::new(rt)
         .read(name, &mut bytes, MOST_BYTES)
         .is_err()
     {
-        return Ok((format!(in alloc; "{name}: not read\n")?, false));
+        push_failed(out, name, ": not read\n");
+        return false;
     }
-    match judge_file(rt, name, &bytes) {
-        Ok(judged) => Ok((judged.text, judged.wrong == 0)),
-        Err(Trouble::NotOfForm) => Ok((format!(in alloc; "{name}: not UTF-8\n")?, false)),
-        Err(Trouble::OutOfMemory) => Ok((format!(in alloc; "{name}: out of memory\n")?, false)),
+    match judge_file(out, rt, name, &bytes) {
+        Ok(all_hold) => return all_hold,
+        Err(Trouble::NotOfForm) => push_failed(out, name, ": not UTF-8\n"),
+        Err(Trouble::OutOfMemory) => push_failed(out, name, ": out of memory\n"),
     }
+    false
+}
+
+/// Reports a file, and says whether all its rows hold and that is printed.
+fn report_file(rt: HostRuntime, name: &str) -> bool {
+    let mut out = Output::new(rt.alloc());
+    let all_hold = push_file(&mut out, rt, name);
+    let is_put = put_all(&mut StdSink::new(rt), out.as_slice()).is_ok();
+    all_hold && is_put && out.trouble().is_none()
 }
 
 /// Reports each file that the words name, and says whether all rows hold.
-fn report(rt: HostRuntime) -> Result<bool, AllocError> {
+fn report(rt: HostRuntime) -> bool {
     let Ok(args) = env::args(&rt) else {
-        return Ok(false);
+        return false;
     };
     let mut all_hold = true;
     for name in args.skip(1) {
-        let (text, holds) = file_report(rt, name.as_str())?;
-        let is_put = put_all(&mut StdSink::new(rt), text.as_bytes()).is_ok();
-        all_hold = all_hold && holds && is_put;
+        let holds = report_file(rt, name.as_str());
+        all_hold = all_hold && holds;
     }
-    Ok(all_hold)
+    all_hold
 }
 
 fn main(rt: HostRuntime) -> ExitCode {
-    match report(rt) {
-        Ok(true) => ExitCode::SUCCESS,
-        _ => ExitCode::FAILURE,
+    if report(rt) {
+        ExitCode::SUCCESS
+    } else {
+        ExitCode::FAILURE
     }
 }

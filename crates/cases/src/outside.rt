@@ -1,16 +1,13 @@
 //! Rows of the outside: files in memory and on a disk, outputs that fail, connections, hops and gates.
 
-use crate::base::said;
-use crate::reports::cut;
+use crate::output::{Output, cut};
 use crate::runs::{failing, files_of};
-use crate::setting::{Setting, text_of};
-use crate::trouble::Trouble;
+use crate::setting::Setting;
 use pf_base::JobHead;
 use pf_io::{
-    DiskFiles, Doors, Files, Gate, Hop, MemDoors, MemSink, OpenGate, ReadError, SteadyHop, put_all,
+    DiskFiles, Doors, Failed, Files, Gate, Hop, MemDoors, MemSink, OpenGate, ReadError, SteadyHop,
+    put_all,
 };
-use std::alloc::Global;
-use std::fmt::Write;
 
 /// A form of rows.
 #[derive(Clone, Copy)]
@@ -43,90 +40,91 @@ impl Form {
         Some(form)
     }
 
-    /// What is found of a row.
-    pub fn answer(
-        self,
-        rt: HostRuntime,
-        setting: &Setting,
-        given: &[u8],
-    ) -> Result<Vec<u8>, Trouble> {
-        let alloc = rt.alloc();
-        let text = text_of(given)?;
+    /// Writes what is found of a row.
+    pub fn answer(self, out: &mut Output, rt: HostRuntime, setting: &Setting, given: &[u8]) {
+        let text = out.utf8(given);
         match self {
-            Form::MemoryFiles => reads(alloc, &mut files_of(alloc, setting)?, text),
-            Form::DiskFiles => reads(alloc, &mut DiskFiles::new(rt), text),
-            Form::Write => writes(alloc, setting, text),
-            Form::Connections => connections(alloc, text),
-            Form::Job => job(alloc),
+            Form::MemoryFiles => memory_files(out, setting, text),
+            Form::DiskFiles => reads(out, &mut DiskFiles::new(rt), text),
+            Form::Write => write(out, setting, text),
+            Form::Connections => connections(out, text),
+            Form::Job => job(out),
         }
     }
 }
 
 /// Appends the answer to a call that read a file.
-fn push_answer(
-    out: &mut Vec<u8>,
-    answer: Result<(), ReadError>,
-    read: &[u8],
-) -> Result<(), Trouble> {
+fn push_read(out: &mut Output, answer: Result<(), ReadError>, read: &[u8]) {
     match answer {
         Ok(()) => {
-            out.extend_from_slice(b"ok ")?;
-            out.extend_from_slice(read)?;
+            out.text("ok ");
+            out.bytes(read);
         }
-        Err(ReadError::TooLong) => out.extend_from_slice(b"too long")?,
-        Err(ReadError::Failed) => out.extend_from_slice(b"failed")?,
-        Err(ReadError::OutOfMemory) => return Err(Trouble::OutOfMemory),
+        Err(ReadError::TooLong) => out.text("too long"),
+        Err(ReadError::Failed) => out.text("failed"),
+        Err(ReadError::OutOfMemory) => out.lose(),
     }
-    Ok(())
 }
 
-fn reads<F: Files>(alloc: Global, files: &mut F, calls: &str) -> Result<Vec<u8>, Trouble> {
-    let mut out = Vec::new(alloc);
-    let mut into = Vec::new(alloc);
+/// Makes the call `NAME MOST`.
+fn read<F: Files>(out: &mut Output, files: &mut F, into: &mut Vec<u8>, call: &str) {
+    let (name, most) = cut(call);
+    let most = out.number::<u32>(most) as usize;
+    let answer = files.read(name, into, most);
+    push_read(out, answer, into);
+}
+
+fn reads<F: Files>(out: &mut Output, files: &mut F, calls: &str) {
+    let mut into = Vec::new(out.alloc());
     for call in calls.split('|') {
-        let (name, most) = cut(call);
-        let most = most.parse::<u32>()?;
-        let answer = files.read(name, &mut into, most as usize);
         if !out.is_empty() {
-            out.push(b'|')?;
+            out.text("|");
         }
-        push_answer(&mut out, answer, &into)?;
+        read(out, files, &mut into, call);
     }
-    Ok(out)
 }
 
-fn writes(alloc: Global, setting: &Setting, given: &str) -> Result<Vec<u8>, Trouble> {
+fn memory_files(out: &mut Output, setting: &Setting, calls: &str) {
+    let mut files = files_of(out, setting);
+    reads(out, &mut files, calls);
+}
+
+fn write(out: &mut Output, setting: &Setting, given: &str) {
     let (most, text) = cut(given);
-    let most = most.parse::<u32>()? as usize;
-    let mut sink = MemSink::new(alloc, failing(alloc, setting, "writes")?, most);
-    let word = match put_all(&mut sink, text.as_bytes()) {
-        Ok(()) => "ok ",
-        Err(_) => "failed ",
-    };
-    let mut out = said(alloc, word)?;
-    out.extend_from_slice(sink.bytes())?;
-    Ok(out)
+    let most = out.number::<u32>(most) as usize;
+    let failing = failing(out, setting, "writes");
+    let mut sink = MemSink::new(out.alloc(), failing, most);
+    match put_all(&mut sink, text.as_bytes()) {
+        Ok(()) => out.text("ok "),
+        Err(_) => out.text("failed "),
+    }
+    out.bytes(sink.bytes());
 }
 
-fn connections(alloc: Global, given: &str) -> Result<Vec<u8>, Trouble> {
-    let mut numbers = Vec::new(alloc);
+fn push_connection(out: &mut Output, connection: Result<Option<u8>, Failed>) {
+    match connection {
+        Ok(Some(number)) => {
+            out.show(number);
+            out.text(" ");
+        }
+        Ok(None) => out.text("none "),
+        Err(_) => out.text("failed "),
+    }
+}
+
+fn connections(out: &mut Output, given: &str) {
+    let mut numbers = Vec::new(out.alloc());
     for number in given.split(' ') {
-        numbers.push(number.parse::<u8>()?)?;
+        out.add(&mut numbers, number.parse::<u8>());
     }
     let calls = numbers.len().saturating_add(2);
     let mut doors = MemDoors::new(numbers);
-    let mut out = String::new(alloc);
     for _call in 0..calls {
-        match doors.next() {
-            Ok(Some(number)) => write!(out, "{number} ")?,
-            Ok(None) => out.push_str("none ")?,
-            Err(_) => out.push_str("failed ")?,
-        }
+        push_connection(out, doors.next());
     }
-    Ok(out.into_bytes())
 }
 
-fn job(alloc: Global) -> Result<Vec<u8>, Trouble> {
+fn job(out: &mut Output) {
     let head = JobHead {
         tenant: 0,
         query: 1,
@@ -139,7 +137,7 @@ fn job(alloc: Global) -> Result<Vec<u8>, Trouble> {
     OpenGate.at(0, &head);
     let mut hop = SteadyHop;
     match hop.call(&head) {
-        Ok(()) => said(alloc, "ok"),
-        Err(_) => said(alloc, "failed"),
+        Ok(()) => out.text("ok"),
+        Err(_) => out.text("failed"),
     }
 }

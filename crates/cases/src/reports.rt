@@ -1,17 +1,15 @@
 //! Rows of scripts that are read, and of the lines of reports.
 
-use crate::base::{labels_of, said};
-use crate::setting::{Setting, text_of};
-use crate::trouble::Trouble;
-use pf_base::{Sample, Value};
+use crate::base::{labels_of, value_of};
+use crate::output::{Output, cut};
+use crate::setting::{Part, Setting};
+use pf_base::{OutOfMemory, Sample};
 use pf_matrix::{Matrix, MatrixRow};
 use pf_report::{
     Word, push_entry, push_error_answer, push_ingested, push_line, push_matrix_answer, push_reply,
 };
 use pf_script::{Line, NumberedLine, ScriptError, read_script};
 use pf_store::{Verdict, Verdicts};
-use std::alloc::Global;
-use std::fmt::Write;
 
 /// A form of rows. Words stand with `|` between them, and those of digits alone are numbers; `none` is no words.
 #[derive(Clone, Copy)]
@@ -49,40 +47,40 @@ impl Form {
         Some(form)
     }
 
-    /// What is found of a row.
-    pub fn answer(
-        self,
-        alloc: Global,
-        setting: &Setting,
-        given: &[u8],
-    ) -> Result<Vec<u8>, Trouble> {
+    /// Writes what is found of a row.
+    pub fn answer(self, out: &mut Output, setting: &Setting, given: &[u8]) {
         if let Form::Script = self {
-            return script(alloc, given);
+            return script(out, given);
         }
-        let mut out = Vec::from_slice(alloc, BEFORE)?;
-        self.push(alloc, &mut out, setting, text_of(given)?)?;
-        match out.strip_prefix(BEFORE) {
-            Some(behind) => Ok(Vec::from_slice(alloc, behind)?),
-            None => said(alloc, "what stood before is lost"),
+        let text = out.utf8(given);
+        let mut line = Vec::new(out.alloc());
+        let before = line.extend_from_slice(BEFORE);
+        let pushed = self.push(out, &mut line, setting, text);
+        if before.is_err() || pushed.is_err() {
+            out.lose();
+        }
+        match line.strip_prefix(BEFORE) {
+            Some(behind) => out.bytes(behind),
+            None => out.text("what stood before is lost"),
         }
     }
 
-    /// Appends what is found behind what stands there.
+    /// Appends what is found to a line, behind what stands there.
     fn push(
         self,
-        alloc: Global,
-        out: &mut Vec<u8>,
+        out: &mut Output,
+        line: &mut Vec<u8>,
         setting: &Setting,
         text: &str,
-    ) -> Result<(), Trouble> {
+    ) -> Result<(), OutOfMemory> {
         match self {
-            Form::Script => Err(Trouble::NotOfForm),
-            Form::Words => Ok(push_line(out, &words_of(alloc, text)?)?),
-            Form::Reply => reply(alloc, out, text),
-            Form::Entry => entry(alloc, out, text),
-            Form::Ingested => ingested(alloc, out, text),
-            Form::ErrorAnswer => error_answer(alloc, out, text),
-            Form::MatrixAnswer => matrix_answer(alloc, out, setting, text),
+            Form::Script => Ok(()),
+            Form::Words => push_line(line, &words_of(out, text)),
+            Form::Reply => reply(out, line, text),
+            Form::Entry => entry(out, line, text),
+            Form::Ingested => ingested(out, line, text),
+            Form::ErrorAnswer => error_answer(out, line, text),
+            Form::MatrixAnswer => matrix_answer(out, line, setting, text),
         }
     }
 }
@@ -90,144 +88,187 @@ impl Form {
 /// What stands before the text that is appended.
 const BEFORE: &[u8] = b"before\n";
 
-/// What stands before the next blank, and what is behind it.
-pub fn cut(text: &str) -> (&str, &str) {
-    text.split_once(' ').unwrap_or((text, ""))
-}
-
 /// What stands for no words.
 const NO_WORDS: &str = "none";
 
-/// The words of a line.
-fn words_of(alloc: Global, text: &str) -> Result<Vec<Word<'_>>, Trouble> {
-    let mut words = Vec::new(alloc);
-    if text == NO_WORDS {
-        return Ok(words);
+/// A number, where it is one of digits alone, or a text.
+fn word_of(word: &str) -> Word<'_> {
+    match word.parse::<u64>() {
+        Ok(number) => Word::Number(number),
+        Err(_) => Word::Text(word),
     }
-    for word in text.split('|') {
-        let word = match word.parse::<u64>() {
-            Ok(number) => Word::Number(number),
-            Err(_) => Word::Text(word),
-        };
-        words.push(word)?;
-    }
-    Ok(words)
 }
 
-fn reply(alloc: Global, out: &mut Vec<u8>, text: &str) -> Result<(), Trouble> {
+/// The words of a line.
+fn words_of<'a>(out: &mut Output, text: &'a str) -> Vec<Word<'a>> {
+    let mut words = Vec::new(out.alloc());
+    if text != NO_WORDS {
+        for word in text.split('|') {
+            out.push(&mut words, word_of(word));
+        }
+    }
+    words
+}
+
+fn reply(out: &mut Output, line: &mut Vec<u8>, text: &str) -> Result<(), OutOfMemory> {
     let (number, rest) = cut(text);
     let (verb, rest) = cut(rest);
     let (name, words) = cut(rest);
-    push_reply(out, number.parse()?, verb, name, &words_of(alloc, words)?)?;
-    Ok(())
+    let words = words_of(out, words);
+    push_reply(line, out.number(number), verb, name, &words)
 }
 
-fn entry(alloc: Global, out: &mut Vec<u8>, text: &str) -> Result<(), Trouble> {
+fn entry(out: &mut Output, line: &mut Vec<u8>, text: &str) -> Result<(), OutOfMemory> {
     let (place, rest) = cut(text);
     let (client, rest) = cut(rest);
-    let (line, words) = cut(rest);
-    let words = words_of(alloc, words)?;
-    push_entry(out, place.parse()?, client.parse()?, line.parse()?, &words)?;
-    Ok(())
+    let (number, words) = cut(rest);
+    let words = words_of(out, words);
+    push_entry(
+        line,
+        out.number(place),
+        out.number(client),
+        out.number(number),
+        &words,
+    )
 }
 
 /// `taken`, `repeated`, `too_old:FLOOR` in milliseconds, or `differs:HELD` in micros.
-fn verdict_of(word: &str) -> Result<Verdict, Trouble> {
+fn verdict_of(out: &mut Output, word: &str) -> Verdict {
     let (word, number) = word.split_once(':').unwrap_or((word, "0"));
     match word {
-        "taken" => Ok(Verdict::Taken),
-        "repeated" => Ok(Verdict::Repeated),
-        "too_old" => Ok(Verdict::TooOld {
-            floor: number.parse()?,
-        }),
-        "differs" => Ok(Verdict::Differs {
-            held: Value::new(number.parse()?),
-        }),
-        _ => Err(Trouble::NotOfForm),
+        "taken" => Verdict::Taken,
+        "repeated" => Verdict::Repeated,
+        "too_old" => Verdict::TooOld {
+            floor: out.number(number),
+        },
+        "differs" => Verdict::Differs {
+            held: value_of(out, number),
+        },
+        _ => {
+            out.refuse();
+            Verdict::Taken
+        }
     }
 }
 
-fn verdicts_of(alloc: Global, entry: u64, words: &str) -> Result<Verdicts, Trouble> {
-    let mut list = Vec::new(alloc);
+fn verdicts_of(out: &mut Output, entry: &str, words: &str) -> Verdicts {
+    let mut list = Vec::new(out.alloc());
     for word in words.split_ascii_whitespace() {
-        list.push(verdict_of(word)?)?;
+        let verdict = verdict_of(out, word);
+        out.push(&mut list, verdict);
     }
-    Ok(Verdicts { list, entry })
+    let entry = out.number(entry);
+    Verdicts { list, entry }
 }
 
-fn ingested(alloc: Global, out: &mut Vec<u8>, text: &str) -> Result<(), Trouble> {
+fn ingested(out: &mut Output, line: &mut Vec<u8>, text: &str) -> Result<(), OutOfMemory> {
     let (number, rest) = cut(text);
     let (tenant, rest) = cut(rest);
     let (skipped, rest) = cut(rest);
     let (entry, words) = cut(rest);
-    let verdicts = verdicts_of(alloc, entry.parse()?, words)?;
-    push_ingested(out, number.parse()?, tenant, skipped.parse()?, &verdicts)?;
-    Ok(())
+    let verdicts = verdicts_of(out, entry, words);
+    push_ingested(
+        line,
+        out.number(number),
+        tenant,
+        out.number(skipped),
+        &verdicts,
+    )
 }
 
-fn error_answer(alloc: Global, out: &mut Vec<u8>, text: &str) -> Result<(), Trouble> {
+fn error_answer(out: &mut Output, line: &mut Vec<u8>, text: &str) -> Result<(), OutOfMemory> {
     let (number, rest) = cut(text);
     let (id, rest) = cut(rest);
     let (code, rest) = cut(rest);
     let (kind, message) = cut(rest);
-    push_error_answer(alloc, out, number.parse()?, id, code, kind, message)?;
-    Ok(())
+    push_error_answer(
+        out.alloc(),
+        line,
+        out.number(number),
+        id,
+        code,
+        kind,
+        message,
+    )
 }
 
-fn points_of(alloc: Global, text: &str) -> Result<Vec<Sample>, Trouble> {
-    let mut points = Vec::new(alloc);
+/// A point `TIME MICROS`.
+fn point_of(out: &mut Output, line: &str) -> Sample {
+    let (time, micros) = cut(line);
+    Sample {
+        time: out.number(time),
+        value: value_of(out, micros),
+    }
+}
+
+fn points_of(out: &mut Output, text: &str) -> Vec<Sample> {
+    let mut points = Vec::new(out.alloc());
     for line in text.lines() {
-        let (time, micros) = cut(line);
-        points.push(Sample {
-            time: time.parse()?,
-            value: Value::new(micros.parse()?),
-        })?;
+        let point = point_of(out, line);
+        out.push(&mut points, point);
     }
-    Ok(points)
+    points
 }
 
-fn matrix_of(alloc: Global, setting: &Setting) -> Result<Matrix, Trouble> {
-    let mut rows = Vec::new(alloc);
+/// A row of the labels of a part, and the points of its text.
+fn row_of(out: &mut Output, part: &Part) -> Option<MatrixRow> {
+    let labels = labels_of(out, part.words.as_str())?;
+    let text = out.utf8(&part.text);
+    let points = points_of(out, text);
+    Some(MatrixRow { labels, points })
+}
+
+fn matrix_of(out: &mut Output, setting: &Setting) -> Matrix {
+    let mut rows = Vec::new(out.alloc());
     for part in &setting.parts {
-        rows.push(MatrixRow {
-            labels: labels_of(alloc, part.words.as_str())?,
-            points: points_of(alloc, text_of(&part.text)?)?,
-        })?;
+        if let Some(row) = row_of(out, part) {
+            out.push(&mut rows, row);
+        }
     }
-    Ok(Matrix { rows })
+    Matrix { rows }
 }
 
 fn matrix_answer(
-    alloc: Global,
-    out: &mut Vec<u8>,
+    out: &mut Output,
+    line: &mut Vec<u8>,
     setting: &Setting,
     text: &str,
-) -> Result<(), Trouble> {
+) -> Result<(), OutOfMemory> {
     let (number, rest) = cut(text);
     let (id, rest) = cut(rest);
     let (cached, evaluated) = cut(rest);
-    let matrix = matrix_of(alloc, setting)?;
-    let number = number.parse()?;
+    let matrix = matrix_of(out, setting);
     push_matrix_answer(
-        alloc,
-        out,
-        number,
+        out.alloc(),
+        line,
+        out.number(number),
         id,
-        cached.parse()?,
-        evaluated.parse()?,
+        out.number(cached),
+        out.number(evaluated),
         &matrix,
-    )?;
-    Ok(())
+    )
 }
 
-/// Writes what was read of a line.
-fn tell(out: &mut String, line: &NumberedLine) -> Result<(), Trouble> {
-    let number = line.number;
-    match &line.line {
+/// Appends a word behind a blank.
+fn push_word(out: &mut Output, word: &str) {
+    out.text(" ");
+    out.text(word);
+}
+
+/// Appends a number behind a blank.
+fn push_number(out: &mut Output, number: u64) {
+    out.text(" ");
+    out.show(number);
+}
+
+/// Appends what was read of a line.
+fn push_read(out: &mut Output, line: &Line) {
+    match line {
         Line::Ingest { tenant, file, time } => {
-            let tenant = tenant.as_str();
-            let file = file.as_str();
-            write!(out, "{number} ingest {tenant} {file} {time}; ")?;
+            out.text(" ingest");
+            push_word(out, tenant.as_str());
+            push_word(out, file.as_str());
+            push_number(out, *time);
         }
         Line::Delete {
             tenant,
@@ -235,9 +276,11 @@ fn tell(out: &mut String, line: &NumberedLine) -> Result<(), Trouble> {
             to,
             selector,
         } => {
-            let tenant = tenant.as_str();
-            let selector = selector.as_str();
-            write!(out, "{number} delete {tenant} {from} {to} {selector}; ")?;
+            out.text(" delete");
+            push_word(out, tenant.as_str());
+            push_number(out, *from);
+            push_number(out, *to);
+            push_word(out, selector.as_str());
         }
         Line::Ask {
             id,
@@ -247,32 +290,34 @@ fn tell(out: &mut String, line: &NumberedLine) -> Result<(), Trouble> {
             step,
             query,
         } => {
-            let id = id.as_str();
-            let tenant = tenant.as_str();
-            let query = query.as_str();
-            write!(
-                out,
-                "{number} ask {id} {tenant} {start} {end} {step} {query}; "
-            )?;
+            out.text(" ask");
+            push_word(out, id.as_str());
+            push_word(out, tenant.as_str());
+            push_number(out, *start);
+            push_number(out, *end);
+            push_number(out, *step);
+            push_word(out, query.as_str());
         }
         Line::Answer { id, asked } => {
-            let id = id.as_str();
-            write!(out, "{number} answer {id} {asked}; ")?;
+            out.text(" answer");
+            push_word(out, id.as_str());
+            push_number(out, u64::from(*asked));
         }
     }
-    Ok(())
 }
 
-fn script(alloc: Global, given: &[u8]) -> Result<Vec<u8>, Trouble> {
-    let mut out = String::new(alloc);
-    match read_script(alloc, given) {
-        Ok(script) => {
-            for line in &script.lines {
-                tell(&mut out, line)?;
-            }
-        }
-        Err(ScriptError::NotBuilt) => out.push_str("not built")?,
-        Err(ScriptError::OutOfMemory) => return Err(Trouble::OutOfMemory),
+fn push_lines(out: &mut Output, lines: &[NumberedLine]) {
+    for line in lines {
+        out.show(line.number);
+        push_read(out, &line.line);
+        out.text("; ");
     }
-    Ok(out.into_bytes())
+}
+
+fn script(out: &mut Output, given: &[u8]) {
+    match &read_script(out.alloc(), given) {
+        Ok(script) => push_lines(out, &script.lines),
+        Err(ScriptError::NotBuilt) => out.text("not built"),
+        Err(ScriptError::OutOfMemory) => out.lose(),
+    }
 }

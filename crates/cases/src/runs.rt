@@ -1,11 +1,11 @@
 //! Whole runs, over files and outputs in memory.
 
-ghost use Rattle.std.specs.Prelude.{◌≤◌, IfOk};
+ghost use Rattle.std.specs.Prelude.{◌≤◌};
 
-use crate::base::said;
-use crate::setting::{Setting, text_of};
-use crate::trouble::Trouble;
-use pf_base::{Limits, Text};
+use crate::base::texts_of;
+use crate::output::{Output, cut};
+use crate::setting::{Part, Setting};
+use pf_base::{Limits, OutOfMemory, Text};
 use pf_io::{DiskFiles, Files, MemFiles, MemSink};
 use pf_top::{DEFAULT_LIMITS, run_within};
 use std::alloc::Global;
@@ -33,134 +33,158 @@ impl Form {
         }
     }
 
-    /// What is found of a row.
-    pub fn answer(
-        self,
-        rt: HostRuntime,
-        setting: &Setting,
-        given: &[u8],
-    ) -> Result<Vec<u8>, Trouble> {
+    /// Writes what is found of a row.
+    pub fn answer(self, out: &mut Output, rt: HostRuntime, setting: &Setting, given: &[u8]) {
         match self {
-            Form::Run => run_of(rt, setting),
-            Form::Example => example(rt, text_of(given)?),
+            Form::Run => run(out, setting),
+            Form::Example => {
+                let text = out.utf8(given);
+                example(out, rt, text);
+            }
         }
     }
 }
 
-/// Texts with blanks between them.
-fn texts_of(alloc: Global, list: &str) -> Result<Vec<Text>, Trouble> {
-    let mut texts = Vec::new(alloc);
-    for text in list.split(' ') {
-        texts.push(Text::of(alloc, text)?)?;
+/// The words of the run.
+fn words_of(out: &mut Output, setting: &Setting) -> Vec<Text> {
+    match setting.part("words") {
+        Some(part) if part.words.is_empty() => Vec::new(out.alloc()),
+        Some(part) => texts_of(out, part.words.as_str(), ' '),
+        None => texts_of(out, "replay script", ' '),
     }
-    Ok(texts)
 }
 
-/// The words of the run.
-fn words_of(alloc: Global, setting: &Setting) -> Result<Vec<Text>, Trouble> {
-    match setting.part("words") {
-        Some(part) if part.words.is_empty() => Ok(Vec::new(alloc)),
-        Some(part) => texts_of(alloc, part.words.as_str()),
-        None => texts_of(alloc, "replay script"),
+fn push_numbers(out: &mut Output, numbers: &mut Vec<u64>, list: &str) {
+    for number in list.split_ascii_whitespace() {
+        let number = out.number(number);
+        out.push(numbers, number);
     }
 }
 
 /// The numbers of the calls that fail, by a part `failing WHAT NUMBERS`.
-pub fn failing(alloc: Global, setting: &Setting, what: &str) -> Result<Vec<u64>, Trouble> {
-    let mut numbers = Vec::new(alloc);
+pub fn failing(out: &mut Output, setting: &Setting, what: &str) -> Vec<u64> {
+    let mut numbers = Vec::new(out.alloc());
     for part in &setting.parts {
-        if part.key.as_str() != "failing" {
-            continue;
-        }
-        if let Some(list) = part.words.as_str().strip_prefix(what) {
-            for number in list.split_ascii_whitespace() {
-                numbers.push(number.parse()?)?;
+        if part.key.as_str() == "failing" {
+            if let Some(list) = part.words.as_str().strip_prefix(what) {
+                push_numbers(out, &mut numbers, list);
             }
         }
     }
-    Ok(numbers)
+    numbers
+}
+
+/// A file of a run: its name, and the text of a part.
+fn file_of(alloc: Global, name: &str, text: &Vec<u8>) -> Result<(Text, Vec<u8>), OutOfMemory> {
+    Ok((Text::of(alloc, name)?, text.clone()?))
+}
+
+/// The name of the file that a part tells.
+fn file_name(part: &Part) -> Option<&str> {
+    match part.key.as_str() {
+        "script" => Some("script"),
+        "file" => Some(part.words.as_str()),
+        _ => None,
+    }
 }
 
 /// The files of the run.
-pub fn files_of(alloc: Global, setting: &Setting) -> Result<MemFiles, Trouble> {
-    let mut files = Vec::new(alloc);
+pub fn files_of(out: &mut Output, setting: &Setting) -> MemFiles {
+    let mut files = Vec::new(out.alloc());
     for part in &setting.parts {
-        let name = match part.key.as_str() {
-            "script" => "script",
-            "file" => part.words.as_str(),
-            _ => continue,
-        };
-        files.push((Text::of(alloc, name)?, part.text.clone()?))?;
+        if let Some(name) = file_name(part) {
+            out.add(&mut files, file_of(out.alloc(), name, &part.text));
+        }
     }
-    Ok(MemFiles::new(files, failing(alloc, setting, "reads")?))
+    MemFiles::new(files, failing(out, setting, "reads"))
 }
 
 /// The limits of the run.
-fn limits_of(setting: &Setting) -> Result<Limits, Trouble>
-    ensures journal { IfOk result (λ l. l.journal ≤ 4000000) }
-    ensures some { IfOk result (λ l. 1 ≤ l.outstanding) }
+fn limits_of(out: &mut Output, setting: &Setting) -> Limits
+    ensures journal { result.journal ≤ 4000000 }
+    ensures some { 1 ≤ result.outstanding }
 {
-    let outstanding = setting.number("outstanding", 100)?.clamp(1, 1_000_000);
-    let journal = setting.number("journal", 4_000_000)?.min(4_000_000);
-    Ok(Limits {
+    let outstanding = setting.number(out, "outstanding", 100).clamp(1, 1_000_000);
+    let journal = setting.number(out, "journal", 4_000_000).min(4_000_000);
+    Limits {
         outstanding: outstanding as u32,
         journal,
         ..DEFAULT_LIMITS
-    })
+    }
 }
 
-/// A status, a line feed and what was written.
-fn ended(alloc: Global, status: u8, written: &[u8]) -> Result<Vec<u8>, Trouble> {
-    let mut found = said(alloc, &format!(in alloc; "status {status}\n")?)?;
-    found.extend_from_slice(written)?;
-    Ok(found)
+/// Appends a status, and what is behind it.
+fn push_ended(out: &mut Output, status: u8, behind: &[u8]) {
+    out.text("status ");
+    out.show(status);
+    out.bytes(behind);
 }
 
-fn run_of(rt: HostRuntime, setting: &Setting) -> Result<Vec<u8>, Trouble> {
-    let alloc = rt.alloc();
-    let words = words_of(alloc, setting)?;
-    let mut files = files_of(alloc, setting)?;
-    let most = setting.number("most", 0)?.min(1_000_000) as usize;
-    let mut out = MemSink::new(alloc, failing(alloc, setting, "writes")?, most);
-    let status = run_within(alloc, limits_of(setting)?, &words, &mut files, &mut out);
-    ended(alloc, status, out.bytes())
+fn run(out: &mut Output, setting: &Setting) {
+    let words = words_of(out, setting);
+    let mut files = files_of(out, setting);
+    let most = setting.number(out, "most", 0).min(1_000_000) as usize;
+    let limits = limits_of(out, setting);
+    let failing = failing(out, setting, "writes");
+    let mut sink = MemSink::new(out.alloc(), failing, most);
+    let status = run_within(out.alloc(), limits, &words, &mut files, &mut sink);
+    push_ended(out, status, b"\n");
+    out.bytes(sink.bytes());
 }
 
 /// The most bytes of an example's file.
 const MOST_BYTES: usize = 1_048_576;
 
 /// The bytes of a file of a folder.
-fn read_of(rt: HostRuntime, folder: &str, name: &str) -> Result<Vec<u8>, Trouble> {
-    let alloc = rt.alloc();
-    let mut bytes = Vec::new(alloc);
-    let path = format!(in alloc; "{folder}/{name}")?;
-    match DiskFiles::new(rt).read(path.as_str(), &mut bytes, MOST_BYTES) {
-        Ok(()) => Ok(bytes),
-        Err(_) => Err(Trouble::NotOfForm),
+fn read_of(out: &mut Output, rt: HostRuntime, folder: &str, name: &str) -> Vec<u8> {
+    let mut path = Output::new(out.alloc());
+    path.text(folder);
+    path.text("/");
+    path.text(name);
+    let path = out.utf8(path.as_slice());
+    let mut bytes = Vec::new(out.alloc());
+    if DiskFiles::new(rt)
+        .read(path, &mut bytes, MOST_BYTES)
+        .is_err()
+    {
+        out.refuse();
     }
+    bytes
 }
 
 /// The files of these names in a folder.
-fn folder_files(rt: HostRuntime, folder: &str, names: &str) -> Result<MemFiles, Trouble> {
-    let alloc = rt.alloc();
-    let mut files = Vec::new(alloc);
+fn folder_files(out: &mut Output, rt: HostRuntime, folder: &str, names: &str) -> MemFiles {
+    let mut files = Vec::new(out.alloc());
     for name in names.split(' ') {
-        files.push((Text::of(alloc, name)?, read_of(rt, folder, name)?))?;
+        let bytes = read_of(out, rt, folder, name);
+        out.add(&mut files, file_of(out.alloc(), name, &bytes));
     }
-    Ok(MemFiles::new(files, Vec::new(alloc)))
+    MemFiles::new(files, Vec::new(out.alloc()))
 }
 
-fn example(rt: HostRuntime, given: &str) -> Result<Vec<u8>, Trouble> {
-    let alloc = rt.alloc();
-    let (folder, names) = given.split_once(' ').ok_or(Trouble::NotOfForm)?;
-    let (script, _) = names.split_once(' ').unwrap_or((names, ""));
-    let mut words = texts_of(alloc, "replay")?;
-    words.push(Text::of(alloc, script)?)?;
-    let mut files = folder_files(rt, folder, names)?;
-    let mut out = MemSink::new(alloc, Vec::new(alloc), 0);
-    let status = run_within(alloc, DEFAULT_LIMITS, &words, &mut files, &mut out);
-    if out.bytes() == read_of(rt, folder, "report.txt")?.as_slice() {
-        return said(alloc, &format!(in alloc; "status {status} report.txt")?);
+/// The words of a run of a script.
+fn replay_of(out: &mut Output, script: &str) -> Vec<Text> {
+    let mut words = texts_of(out, "replay", ' ');
+    out.add(&mut words, Text::of(out.alloc(), script));
+    words
+}
+
+fn push_example(out: &mut Output, status: u8, written: &[u8], report: &[u8]) {
+    if written == report {
+        push_ended(out, status, b" report.txt");
+    } else {
+        push_ended(out, status, b"\n");
+        out.bytes(written);
     }
-    ended(alloc, status, out.bytes())
+}
+
+fn example(out: &mut Output, rt: HostRuntime, given: &str) {
+    let (folder, names) = cut(given);
+    let (script, _) = cut(names);
+    let words = replay_of(out, script);
+    let mut files = folder_files(out, rt, folder, names);
+    let mut sink = MemSink::new(out.alloc(), Vec::new(out.alloc()), 0);
+    let status = run_within(out.alloc(), DEFAULT_LIMITS, &words, &mut files, &mut sink);
+    let report = read_of(out, rt, folder, "report.txt");
+    push_example(out, status, sink.bytes(), &report);
 }

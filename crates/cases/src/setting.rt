@@ -1,8 +1,8 @@
 //! What the rows of a file are answered over.
 
-use crate::escapes::unescaped;
-use crate::trouble::Trouble;
-use std::alloc::Global;
+use crate::escapes::push_unescaped;
+use crate::output::{Output, Trouble, cut};
+use std::alloc::{AllocError, Global};
 
 /// A part of a setting: its key, its words, and the text of the lines below it.
 #[derive(Drop)]
@@ -18,6 +18,13 @@ pub struct Setting {
     pub parts: Vec<Part>,
 }
 
+/// The words of a part, their escapes undone.
+fn words_of(alloc: Global, words: &str) -> Result<String, Trouble> {
+    let mut out = Output::new(alloc);
+    push_unescaped(&mut out, words);
+    String::from_utf8(out.finish()?).or(Err(Trouble::NotOfForm))
+}
+
 impl Setting {
     pub fn new(alloc: Global) -> Setting {
         Setting {
@@ -25,31 +32,42 @@ impl Setting {
         }
     }
 
-    /// Adds a part by its line, `KEY` or `KEY WORDS`.
-    pub fn add(&mut self, alloc: Global, line: &str) -> Result<(), Trouble> {
-        let (key, words) = line.split_once(' ').unwrap_or((line, ""));
-        let words = String::from_utf8(unescaped(alloc, words)?).or(Err(Trouble::NotOfForm))?;
-        self.parts.push(Part {
+    /// Adds a part.
+    fn push(&mut self, alloc: Global, key: &str, words: String) -> Result<(), AllocError> {
+        let part = Part {
             key: String::from_str(alloc, key)?,
             words,
             text: Vec::new(alloc),
-        })?;
-        Ok(())
+        };
+        Ok(self.parts.push(part)?)
+    }
+
+    /// Adds a part by its line, `KEY` or `KEY WORDS`.
+    pub fn add(&mut self, alloc: Global, line: &str) -> Result<(), Trouble> {
+        let (key, words) = cut(line);
+        let words = words_of(alloc, words)?;
+        self.push(alloc, key, words).or(Err(Trouble::OutOfMemory))
     }
 
     /// Adds bytes to the text of the last part.
     pub fn extend(&mut self, bytes: &[u8]) -> Result<(), Trouble> {
-        let part = self.parts.last_mut().ok_or(Trouble::NotOfForm)?;
-        part.text.extend_from_slice(bytes)?;
-        Ok(())
+        match self.parts.last_mut() {
+            Some(part) => part
+                .text
+                .extend_from_slice(bytes)
+                .or(Err(Trouble::OutOfMemory)),
+            None => Err(Trouble::NotOfForm),
+        }
     }
 
     /// The last part of this key.
     pub fn part(&self, key: &str) -> Option<&Part> {
-        self.parts
-            .iter()
-            .rev()
-            .find(|part| part.key.as_str() == key)
+        for part in self.parts.iter().rev() {
+            if part.key.as_str() == key {
+                return Some(part);
+            }
+        }
+        None
     }
 
     /// The text of the last part of this key, or none.
@@ -60,16 +78,22 @@ impl Setting {
         }
     }
 
-    /// The number that the last part of this key has for its words, or another where there is none.
-    pub fn number(&self, key: &str, other: u64) -> Result<u64, Trouble> {
+    /// The words of the last part of this key, or a note that there is none.
+    pub fn words(&self, out: &mut Output, key: &str) -> &str {
         match self.part(key) {
-            Some(part) => Ok(part.words.as_str().parse()?),
-            None => Ok(other),
+            Some(part) => part.words.as_str(),
+            None => {
+                out.refuse();
+                ""
+            }
         }
     }
-}
 
-/// What is given as a text.
-pub fn text_of(bytes: &[u8]) -> Result<&str, Trouble> {
-    std::str::from_utf8(bytes).or(Err(Trouble::NotOfForm))
+    /// The number that the last part of this key has for its words, or another where there is none.
+    pub fn number(&self, out: &mut Output, key: &str, other: u64) -> u64 {
+        match self.part(key) {
+            Some(part) => out.number(part.words.as_str()),
+            None => other,
+        }
+    }
 }

@@ -5,9 +5,8 @@ pub mod logs;
 pub mod matchers;
 mod snapshots;
 
+use crate::output::Output;
 use crate::setting::Setting;
-use crate::trouble::Trouble;
-use std::alloc::Global;
 
 /// A form of rows.
 #[derive(Clone, Copy)]
@@ -45,21 +44,26 @@ impl Form {
         Some(form)
     }
 
-    /// What is found of a row.
-    pub fn answer(
-        self,
-        alloc: Global,
-        setting: &Setting,
-        given: &[u8],
-    ) -> Result<Vec<u8>, Trouble> {
+    /// Writes what is found of a row.
+    pub fn answer(self, out: &mut Output, setting: &Setting, given: &[u8]) {
         match self {
-            Form::Line => files::line(alloc, given),
-            Form::Accepts => matchers::accepts(alloc, setting, given),
-            Form::Exposition => files::exposition(alloc, setting, given),
-            Form::Page => files::page(alloc, setting, given),
-            Form::Snapshot => snapshots::snapshot(alloc, setting, given),
-            Form::Window => snapshots::window(alloc, given),
-            Form::Log => logs::log(alloc, setting, given),
+            Form::Line => files::line(out, given),
+            Form::Exposition => files::exposition(out, setting, given),
+            _ => {
+                let text = out.utf8(given);
+                self.answer_text(out, setting, text);
+            }
+        }
+    }
+
+    fn answer_text(self, out: &mut Output, setting: &Setting, given: &str) {
+        match self {
+            Form::Accepts => matchers::accepts(out, setting, given),
+            Form::Page => files::page(out, setting, given),
+            Form::Snapshot => snapshots::snapshot(out, setting, given),
+            Form::Window => snapshots::window(out, given),
+            Form::Log => logs::log(out, setting, given),
+            Form::Line | Form::Exposition => {}
         }
     }
 }

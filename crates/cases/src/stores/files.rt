@@ -1,125 +1,140 @@
 //! Rows of lines and of exposition files.
 
-use crate::base::{listed, said};
-use crate::setting::{Setting, text_of};
-use crate::trouble::Trouble;
-use pf_base::{Batch, MAXT, Row, push_value};
+use crate::base::push_labels;
+use crate::output::{Output, cut};
+use crate::setting::Setting;
+use pf_base::{Batch, MAXT, Row};
 use pf_expo::{ExpoError, read_exposition};
 use pf_model::next_line;
-use std::alloc::Global;
 
 /// The first line of the given text, and what follows it.
-pub fn line(alloc: Global, given: &[u8]) -> Result<Vec<u8>, Trouble> {
-    let Some((line, rest)) = next_line(given) else {
-        return said(alloc, "none");
-    };
-    let mut out = Vec::from_slice(alloc, line)?;
-    out.push(b'|')?;
-    out.extend_from_slice(rest)?;
-    Ok(out)
+pub fn line(out: &mut Output, given: &[u8]) {
+    match next_line(given) {
+        Some((line, rest)) => {
+            out.bytes(line);
+            out.text("|");
+            out.bytes(rest);
+        }
+        None => out.text("none"),
+    }
 }
 
 /// What an exposition file gives. Its samples without a time have that of the part `time`, or 0.
-fn read(
-    alloc: Global,
-    setting: &Setting,
-    file: &[u8],
-) -> Result<Result<Batch, ExpoError>, Trouble> {
-    let time = setting.number("time", 0)?;
+fn read(out: &mut Output, setting: &Setting, file: &[u8]) -> Result<Batch, ExpoError> {
+    let time = setting.number(out, "time", 0);
     if time > MAXT {
-        return Err(Trouble::NotOfForm);
+        out.refuse();
     }
-    Ok(read_exposition(alloc, file, time))
+    read_exposition(out.alloc(), file, time.min(MAXT))
 }
 
-/// Which line of a file is refused, and why.
-fn refusal(alloc: Global, error: ExpoError) -> Result<Vec<u8>, Trouble> {
-    let (line, why) = match error {
-        ExpoError::BadLine { line } => (line, "bad"),
-        ExpoError::TimeTooLarge { line } => (line, "time too large"),
-        ExpoError::TooMany { line } => (line, "too many rows"),
-        ExpoError::OutOfMemory => return Err(Trouble::OutOfMemory),
-    };
-    said(alloc, &format!(in alloc; "line {line}: {why}")?)
+/// What the page gives, or a note that it is not to be read.
+pub fn batch_of(out: &mut Output, setting: &Setting, file: &[u8]) -> Option<Batch> {
+    let read = read(out, setting, file);
+    out.or_refuse(read)
+}
+
+fn push_refused(out: &mut Output, line: u32, why: &str) {
+    out.text("line ");
+    out.show(line);
+    out.text(why);
+}
+
+/// Appends which line of a file is refused, and why.
+fn push_refusal(out: &mut Output, error: &ExpoError) {
+    match error {
+        ExpoError::BadLine { line } => push_refused(out, *line, ": bad"),
+        ExpoError::TimeTooLarge { line } => push_refused(out, *line, ": time too large"),
+        ExpoError::TooMany { line } => push_refused(out, *line, ": too many rows"),
+        ExpoError::OutOfMemory => out.lose(),
+    }
 }
 
 /// Appends a row as `LABELS VALUE TIME`.
-fn push_row(out: &mut Vec<u8>, row: &Row) -> Result<(), Trouble> {
-    let alloc = *out.allocator();
-    out.extend_from_slice(&listed(alloc, &row.labels)?)?;
-    out.push(b' ')?;
-    push_value(out, row.value)?;
-    let time = row.time;
-    out.extend_from_slice(format!(in alloc; " {time}")?.as_bytes())?;
-    Ok(())
+fn push_row(out: &mut Output, row: &Row) {
+    push_labels(out, &row.labels);
+    out.text(" ");
+    out.value(row.value);
+    out.text(" ");
+    out.show(row.time);
+}
+
+fn push_rows(out: &mut Output, rows: &[Row]) {
+    for row in rows {
+        if !out.is_empty() {
+            out.text("; ");
+        }
+        push_row(out, row);
+    }
 }
 
 /// The rows of the given file.
-pub fn exposition(alloc: Global, setting: &Setting, given: &[u8]) -> Result<Vec<u8>, Trouble> {
-    let batch = match read(alloc, setting, given)? {
-        Ok(batch) => batch,
-        Err(error) => return refusal(alloc, error),
-    };
-    let mut out = Vec::new(alloc);
-    for row in &batch.rows {
-        if !out.is_empty() {
-            out.extend_from_slice(b"; ")?;
-        }
-        push_row(&mut out, row)?;
+pub fn exposition(out: &mut Output, setting: &Setting, given: &[u8]) {
+    match &read(out, setting, given) {
+        Ok(batch) => push_rows(out, &batch.rows),
+        Err(error) => push_refusal(out, error),
     }
-    Ok(out)
+}
+
+/// What becomes of the front of the page that ends at a byte.
+fn fate(out: &mut Output, setting: &Setting, end: usize) -> Output {
+    let mut found = Output::new(out.alloc());
+    match setting.text("page").get(..end) {
+        Some(front) => push_fate(&mut found, setting, front),
+        None => out.refuse(),
+    }
+    out.share(&found);
+    found
+}
+
+fn push_fate(out: &mut Output, setting: &Setting, file: &[u8]) {
+    match &read(out, setting, file) {
+        Ok(_) => out.text("read"),
+        Err(error) => push_refusal(out, error),
+    }
 }
 
 /// What becomes of each front of the page that ends at a byte `FROM` to `TO`, where all share it.
-fn fronts(alloc: Global, setting: &Setting, ends: &str) -> Result<Vec<u8>, Trouble> {
-    let (from, to) = ends.split_once(' ').ok_or(Trouble::NotOfForm)?;
-    let from = from.parse::<usize>()?;
-    let to = to.parse::<usize>()?;
-    let mut shared = Vec::new(alloc);
+fn fronts(out: &mut Output, setting: &Setting, ends: &str) {
+    let (from, to) = cut(ends);
+    let from = out.number::<usize>(from);
+    let to = out.number::<usize>(to);
+    let first = fate(out, setting, from);
     for end in from..=to {
-        let front = setting.text("page").get(..end).ok_or(Trouble::NotOfForm)?;
-        let found = match read(alloc, setting, front)? {
-            Ok(_) => said(alloc, "read")?,
-            Err(error) => refusal(alloc, error)?,
-        };
-        if end > from && found != shared {
-            return said(alloc, &format!(in alloc; "another at {end}")?);
+        let found = fate(out, setting, end);
+        if found.as_slice() != first.as_slice() {
+            out.text("another at ");
+            return out.show(end);
         }
-        shared = found;
     }
-    Ok(shared)
+    out.append(&first);
 }
 
 /// A row of a file by its number, from 0.
-fn row_at(alloc: Global, batch: &Batch, number: &str) -> Result<Vec<u8>, Trouble> {
-    let row = batch
-        .rows
-        .get(number.parse::<usize>()?)
-        .ok_or(Trouble::NotOfForm)?;
-    let mut out = Vec::new(alloc);
-    push_row(&mut out, row)?;
-    Ok(out)
+fn row_at(out: &mut Output, batch: &Batch, number: &str) {
+    let number = out.number::<usize>(number);
+    match batch.rows.get(number) {
+        Some(row) => push_row(out, row),
+        None => out.refuse(),
+    }
+}
+
+fn call(out: &mut Output, batch: &Batch, verb: &str, argument: &str) {
+    match verb {
+        "rows" => out.show(batch.rows.len()),
+        "skipped" => out.show(batch.skipped),
+        "row" => row_at(out, batch, argument),
+        _ => out.refuse(),
+    }
 }
 
 /// Answers `rows`, `skipped`, `row NUMBER` and `fronts FROM TO` of the page.
-pub fn page(alloc: Global, setting: &Setting, given: &[u8]) -> Result<Vec<u8>, Trouble> {
-    let given = text_of(given)?;
-    let (verb, argument) = given.split_once(' ').unwrap_or((given, ""));
+pub fn page(out: &mut Output, setting: &Setting, given: &str) {
+    let (verb, argument) = cut(given);
     if verb == "fronts" {
-        return fronts(alloc, setting, argument);
+        return fronts(out, setting, argument);
     }
-    let batch = batch_of(alloc, setting, setting.text("page"))?;
-    let rows = batch.rows.len();
-    let skipped = batch.skipped;
-    match verb {
-        "rows" => said(alloc, &format!(in alloc; "{rows}")?),
-        "skipped" => said(alloc, &format!(in alloc; "{skipped}")?),
-        "row" => row_at(alloc, &batch, argument),
-        _ => Err(Trouble::NotOfForm),
+    if let Some(batch) = &batch_of(out, setting, setting.text("page")) {
+        call(out, batch, verb, argument);
     }
-}
-
-/// What a file gives that is to be read.
-pub fn batch_of(alloc: Global, setting: &Setting, file: &[u8]) -> Result<Batch, Trouble> {
-    read(alloc, setting, file)?.or(Err(Trouble::NotOfForm))
 }

@@ -3,23 +3,14 @@
 ghost use Rattle.std.specs.Prelude.{◌≡◌};
 ghost use Rattle.pf_block.specs.Snaps.{are_timed};
 
-use crate::base::{labels_of, said};
-use crate::setting::{Setting, text_of};
+use crate::base::labels_of;
+use crate::output::{Output, cut};
+use crate::setting::{Part, Setting};
 use crate::stores::files::batch_of;
 use crate::stores::matchers::matchers_of;
-use crate::stores::snapshots::held_by;
-use crate::trouble::Trouble;
-use pf_base::{Batch, MAXT, Row};
-use pf_store::{Pin, TenantLog, Verdict, Verdicts};
-use std::alloc::Global;
-
-/// A log, what its last call answered, and the pins that were taken.
-#[derive(Drop)]
-struct Played {
-    log: TenantLog,
-    answer: Vec<u8>,
-    pins: Vec<(String, Pin)>,
-}
+use crate::stores::snapshots::push_held;
+use pf_base::{Batch, MAXT, OutOfMemory, Row};
+use pf_store::{Deleted, Pin, TenantLog, Verdict, Verdicts};
 
 /// Whether a log may take these rows.
 fn are_timed(rows: &[Row]) -> bool
@@ -29,113 +20,181 @@ fn are_timed(rows: &[Row]) -> bool
 }
 
 /// Appends a batch to a log.
-pub fn append(log: &mut TenantLog, batch: &Batch) -> Result<Verdicts, Trouble> {
+pub fn append(out: &mut Output, log: &mut TenantLog, batch: &Batch) -> Option<Verdicts> {
     if !are_timed(&batch.rows) {
-        return Err(Trouble::NotOfForm);
+        out.refuse();
+        return None;
     }
-    Ok(log.append(batch)?)
+    out.or_lose(log.append(batch))
 }
 
-fn verdict_text(alloc: Global, verdict: Verdict) -> Result<Vec<u8>, Trouble> {
+fn push_verdict(out: &mut Output, verdict: Verdict) {
     match verdict {
-        Verdict::Taken => said(alloc, "taken"),
-        Verdict::Repeated => said(alloc, "repeated"),
-        Verdict::TooOld { floor } => said(alloc, &format!(in alloc; "below {floor}")?),
+        Verdict::Taken => out.text("taken"),
+        Verdict::Repeated => out.text("repeated"),
+        Verdict::TooOld { floor } => {
+            out.text("below ");
+            out.show(floor);
+        }
         Verdict::Differs { held } => {
-            let micros = held.micros();
-            said(alloc, &format!(in alloc; "differs from {micros}")?)
+            out.text("differs from ");
+            out.show(held.micros());
         }
     }
 }
 
-/// The verdicts on a batch, and the number of entries.
-fn told(alloc: Global, verdicts: &Verdicts) -> Result<Vec<u8>, Trouble> {
-    let mut out = Vec::new(alloc);
+/// Appends the verdicts on a batch, and the number of entries.
+fn push_verdicts(out: &mut Output, verdicts: &Verdicts) {
     for verdict in &verdicts.list {
-        out.extend_from_slice(&verdict_text(alloc, *verdict)?)?;
-        out.extend_from_slice(b", ")?;
+        push_verdict(out, *verdict);
+        out.text(", ");
     }
-    let entry = verdicts.entry;
-    out.extend_from_slice(format!(in alloc; "entry {entry}")?.as_bytes())?;
-    Ok(out)
+    out.text("entry ");
+    out.show(verdicts.entry);
 }
 
-/// Makes the call `delete FROM TO SELECTOR`, and tells what it answers.
-fn delete(alloc: Global, log: &mut TenantLog, words: &str) -> Result<Vec<u8>, Trouble> {
-    let (from, rest) = words.split_once(' ').ok_or(Trouble::NotOfForm)?;
-    let (to, selector) = rest.split_once(' ').ok_or(Trouble::NotOfForm)?;
-    let matchers = matchers_of(alloc, selector)?.or(Err(Trouble::NotOfForm))?;
-    let from = from.parse::<u64>()?;
-    let to = to.parse::<u64>()?;
-    if from > to {
-        return Err(Trouble::NotOfForm);
+/// Appends what a call of `delete` answers.
+fn push_deleted(out: &mut Output, deleted: &Result<Deleted, OutOfMemory>) {
+    match deleted {
+        Ok(deleted) => {
+            out.text("generation ");
+            out.show(deleted.generation);
+            out.text(", entry ");
+            out.show(deleted.entry);
+        }
+        Err(_) => out.lose(),
     }
-    let deleted = log.delete(&matchers, from, to)?;
-    let generation = deleted.generation;
-    let entry = deleted.entry;
-    said(
-        alloc,
-        &format!(in alloc; "generation {generation}, entry {entry}")?,
-    )
 }
 
-/// Makes the calls that the parts tell, in their order.
-fn play(alloc: Global, setting: &Setting) -> Result<Played, Trouble> {
-    let mut log = TenantLog::open(alloc, setting.number("window", MAXT)?)?;
-    let mut answer = Vec::new(alloc);
-    let mut pins = Vec::new(alloc);
-    for part in &setting.parts {
-        match part.key.as_str() {
-            "append" => {
-                let batch = batch_of(alloc, setting, &part.text)?;
-                answer = told(alloc, &append(&mut log, &batch)?)?;
+/// Makes the call `delete FROM TO SELECTOR`, and appends what it answers.
+fn delete(out: &mut Output, log: &mut TenantLog, words: &str) {
+    let (from, rest) = cut(words);
+    let (to, selector) = cut(rest);
+    let from = out.number::<u64>(from);
+    let to = out.number::<u64>(to);
+    match &matchers_of(out, selector) {
+        Some(matchers) if from <= to => push_deleted(out, &log.delete(matchers, from, to)),
+        _ => out.refuse(),
+    }
+}
+
+/// A pin with its name.
+fn named_pin(name: &String, log: &TenantLog) -> Result<(String, Pin), OutOfMemory> {
+    Ok((name.clone()?, log.pin()?))
+}
+
+/// A log, what its last call answered, and the pins that were taken.
+#[derive(Drop)]
+struct Played {
+    log: TenantLog,
+    answer: Output,
+    pins: Vec<(String, Pin)>,
+}
+
+impl Played {
+    fn append(&mut self, setting: &Setting, file: &[u8]) {
+        self.answer.clear();
+        if let Some(batch) = &batch_of(&mut self.answer, setting, file) {
+            if let Some(verdicts) = &append(&mut self.answer, &mut self.log, batch) {
+                push_verdicts(&mut self.answer, verdicts);
             }
-            "delete" => answer = delete(alloc, &mut log, part.words.as_str())?,
-            "pin" => pins.push((part.words.clone()?, log.pin()?))?,
+        }
+    }
+
+    fn delete(&mut self, words: &str) {
+        self.answer.clear();
+        delete(&mut self.answer, &mut self.log, words);
+    }
+
+    fn pin(&mut self, name: &String) {
+        self.answer.add(&mut self.pins, named_pin(name, &self.log));
+    }
+
+    /// Makes the call that a part tells.
+    fn play(&mut self, setting: &Setting, part: &Part) {
+        match part.key.as_str() {
+            "append" => self.append(setting, &part.text),
+            "delete" => self.delete(part.words.as_str()),
+            "pin" => self.pin(&part.words),
             _ => {}
         }
     }
-    Ok(Played { log, answer, pins })
+
+    /// The pin of this name.
+    fn pinned(&self, name: &str) -> Option<&Pin> {
+        for (known, pin) in &self.pins {
+            if known.as_str() == name {
+                return Some(pin);
+            }
+        }
+        None
+    }
+
+    /// Tells the last answer, or what is asked of a pin.
+    fn tell(&self, out: &mut Output, given: &str) {
+        let (verb, rest) = cut(given);
+        if verb == "answer" {
+            return out.bytes(self.answer.as_slice());
+        }
+        let (name, words) = cut(rest);
+        match self.pinned(name) {
+            Some(pin) => call(out, pin, verb, words),
+            None => out.refuse(),
+        }
+    }
 }
 
-/// The log of a setting.
-pub fn log_of(alloc: Global, setting: &Setting) -> Result<TenantLog, Trouble> {
-    Ok(play(alloc, setting)?.log)
+/// Makes the calls that the parts tell, in their order.
+fn play(out: &mut Output, setting: &Setting) -> Option<Played> {
+    let window = setting.number(out, "window", MAXT);
+    let mut played = Played {
+        log: out.or_lose(TenantLog::open(out.alloc(), window))?,
+        answer: Output::new(out.alloc()),
+        pins: Vec::new(out.alloc()),
+    };
+    for part in &setting.parts {
+        played.play(setting, part);
+    }
+    out.share(&played.answer);
+    Some(played)
 }
 
-/// How a pin stands: the number of its entries, its floor and its generation.
-fn standing(alloc: Global, pin: &Pin) -> Result<Vec<u8>, Trouble> {
-    let Pin {
-        number,
-        floor,
-        generation,
-        ..
-    } = pin;
-    let text = format!(in alloc; "entry {number}, floor {floor:?}, generation {generation}")?;
-    said(alloc, text.as_str())
+/// The pin of the log that a setting makes.
+pub fn last_pin(out: &mut Output, setting: &Setting) -> Option<Pin> {
+    let played = play(out, setting)?;
+    out.or_lose(played.log.pin())
 }
 
-/// The value of a pin at `LABELS TIME`, in millionths.
-fn held(alloc: Global, pin: &Pin, words: &str) -> Result<Vec<u8>, Trouble> {
-    let (list, time) = words.split_once(' ').ok_or(Trouble::NotOfForm)?;
-    held_by(alloc, &pin.snap, &labels_of(alloc, list)?, time.parse()?)
+/// Appends how a pin stands: the number of its entries, its floor and its generation.
+fn push_standing(out: &mut Output, pin: &Pin) {
+    out.text("entry ");
+    out.show(pin.number);
+    let floor = pin.floor;
+    out.show(format_args!(", floor {floor:?}, generation "));
+    out.show(pin.generation);
+}
+
+/// Appends the value of a pin at `LABELS TIME`, in millionths.
+fn held(out: &mut Output, pin: &Pin, words: &str) {
+    let (list, time) = cut(words);
+    let time = out.number(time);
+    if let Some(labels) = &labels_of(out, list) {
+        push_held(out, &pin.snap, labels, time);
+    }
+}
+
+fn call(out: &mut Output, pin: &Pin, verb: &str, words: &str) {
+    match verb {
+        "pin" => push_standing(out, pin),
+        "held" => held(out, pin, words),
+        _ => out.refuse(),
+    }
 }
 
 /// Answers `answer` by what the last call answered, `pin NAME` by how this pin stands, and `held NAME LABELS TIME` by the
 /// value that it has.
-pub fn log(alloc: Global, setting: &Setting, given: &[u8]) -> Result<Vec<u8>, Trouble> {
-    let Played { answer, pins, .. } = play(alloc, setting)?;
-    let Some((verb, rest)) = text_of(given)?.split_once(' ') else {
-        return Ok(answer);
-    };
-    let (name, words) = rest.split_once(' ').unwrap_or((rest, ""));
-    let (_, pin) = pins
-        .iter()
-        .find(|pin| pin.0.as_str() == name)
-        .ok_or(Trouble::NotOfForm)?;
-    match verb {
-        "pin" => standing(alloc, pin),
-        "held" => held(alloc, pin, words),
-        _ => Err(Trouble::NotOfForm),
+pub fn log(out: &mut Output, setting: &Setting, given: &str) {
+    if let Some(played) = &play(out, setting) {
+        played.tell(out, given);
     }
 }

@@ -1,158 +1,214 @@
 //! Rows of snapshots and windows.
 
-ghost use Rattle.std.specs.Prelude.{◌<◌, IfOk, length};
+ghost use Rattle.std.specs.Prelude.{◌<◌, IfSome, length};
 
-use crate::base::{labels_of, listed, said};
-use crate::setting::{Setting, text_of};
+use crate::base::{labels_of, push_labels, value_of};
+use crate::output::{Output, cut};
+use crate::setting::Setting;
 use crate::stores::files::batch_of;
 use crate::stores::logs::append;
-use crate::trouble::Trouble;
-use pf_base::{Labels, MAXT, Sample, Value};
+use pf_base::{Labels, MAXT, OutOfMemory, Sample, Value};
 use pf_block::{Snap, Window};
-use pf_store::TenantLog;
-use std::alloc::Global;
+use pf_store::{Pin, TenantLog};
 use std::sync::Arc;
 
-/// The snapshot of the page's samples.
-fn snap_of(alloc: Global, setting: &Setting) -> Result<Arc<Snap>, Trouble> {
-    let mut log = TenantLog::open(alloc, MAXT)?;
-    let batch = batch_of(alloc, setting, setting.text("page"))?;
-    append(&mut log, &batch)?;
-    Ok(log.pin()?.snap)
+/// A pin of a log that has the page's samples.
+fn pin_of(out: &mut Output, setting: &Setting) -> Option<Pin> {
+    let batch = batch_of(out, setting, setting.text("page"))?;
+    let mut log = out.or_lose(TenantLog::open(out.alloc(), MAXT))?;
+    append(out, &mut log, &batch);
+    out.or_lose(log.pin())
 }
 
 /// The id of a series that is there.
-fn id_of(snap: &Snap, text: &str) -> Result<u32, Trouble>
-    ensures { IfOk result (λ id. id < length snap.now.labels) }
+fn id_of(out: &mut Output, snap: &Snap, text: &str) -> Option<u32>
+    ensures { IfSome result (λ id. id < length snap.now.labels) }
 {
-    let id = text.parse::<u32>()?;
-    if id >= snap.series_count() {
-        return Err(Trouble::NotOfForm);
+    let id = out.number::<u32>(text);
+    if id < snap.series_count() {
+        return Some(id);
     }
-    Ok(id)
+    out.refuse();
+    None
+}
+
+fn push_id(out: &mut Output, ids: &mut Vec<u32>, text: &str) {
+    let id = out.number(text);
+    out.push(ids, id);
 }
 
 /// The ids of series that a text lists, as in `0,2`, or `-` for none.
-fn ids_of(alloc: Global, list: &str) -> Result<Vec<u32>, Trouble> {
-    let mut ids = Vec::new(alloc);
+fn ids_of(out: &mut Output, list: &str) -> Vec<u32> {
+    let mut ids = Vec::new(out.alloc());
     for id in list.split(',') {
         if id != "-" {
-            ids.push(id.parse()?)?;
+            push_id(out, &mut ids, id);
         }
     }
-    Ok(ids)
+    ids
 }
 
-/// The two words of a text.
-fn two(text: &str) -> Result<(&str, &str), Trouble> {
-    text.split_once(' ').ok_or(Trouble::NotOfForm)
-}
-
-fn or_none(alloc: Global, found: Option<i64>) -> Result<Vec<u8>, Trouble> {
-    match found {
-        Some(number) => said(alloc, &format!(in alloc; "{number}")?),
-        None => said(alloc, "none"),
+/// Appends a time, or `none`.
+fn push_time(out: &mut Output, sample: Option<Sample>) {
+    match sample {
+        Some(sample) => out.show(sample.time),
+        None => out.text("none"),
     }
 }
 
-/// The samples of a window as `TIME:MICROS`.
-fn walked(alloc: Global, window: Window) -> Result<Vec<u8>, Trouble> {
-    let mut out = Vec::new(alloc);
+/// Appends a value in millionths, or `none`.
+fn push_micros(out: &mut Output, value: Option<Value>) {
+    match value {
+        Some(value) => out.show(value.micros()),
+        None => out.text("none"),
+    }
+}
+
+fn push_sample(out: &mut Output, sample: Sample) {
+    out.show(sample.time);
+    out.text(":");
+    out.show(sample.value.micros());
+}
+
+/// Appends the samples of a window as `TIME:MICROS`.
+fn push_window(out: &mut Output, window: Window) {
+    let mut is_first = true;
     for sample in window {
-        if !out.is_empty() {
-            out.push(b' ')?;
+        if !is_first {
+            out.text(" ");
         }
-        let time = sample.time;
-        let micros = sample.value.micros();
-        out.extend_from_slice(format!(in alloc; "{time}:{micros}")?.as_bytes())?;
+        is_first = false;
+        push_sample(out, sample);
     }
-    Ok(out)
 }
 
-/// The value of a label set at a time, in millionths.
-pub fn held_by(alloc: Global, snap: &Snap, labels: &Labels, time: u64) -> Result<Vec<u8>, Trouble> {
-    let value = match snap.find(labels) {
-        Some(id) if id < snap.series_count() => snap.held(id, time),
-        _ => None,
-    };
-    or_none(alloc, value.map(|value| value.micros()))
+/// Appends the value of a label set at a time.
+pub fn push_held(out: &mut Output, snap: &Snap, labels: &Labels, time: u64) {
+    match snap.find(labels) {
+        Some(id) if id < snap.series_count() => push_micros(out, snap.held(id, time)),
+        _ => out.text("none"),
+    }
+}
+
+fn push_series(out: &mut Output, snap: &Snap) {
+    for id in 0..snap.series_count() {
+        out.text("[");
+        push_window(out, snap.window(id, -1, i64::MAX));
+        out.text("]");
+    }
+}
+
+fn push_left(out: &mut Output, left: &Result<Arc<Snap>, OutOfMemory>) {
+    match left {
+        Ok(snap) => push_series(out, snap),
+        Err(_) => out.lose(),
+    }
 }
 
 /// What is left of each series without the samples of `IDS` at times `FROM` to `TO`.
-fn without(alloc: Global, snap: &Snap, words: &str) -> Result<Vec<u8>, Trouble> {
-    let (ids, times) = two(words)?;
-    let (from, to) = two(times)?;
-    let left = snap.without(&ids_of(alloc, ids)?, from.parse()?, to.parse()?)?;
-    let mut out = Vec::new(alloc);
-    for id in 0..left.series_count() {
-        out.push(b'[')?;
-        out.extend_from_slice(&walked(alloc, left.window(id, -1, i64::MAX))?)?;
-        out.push(b']')?;
+fn without(out: &mut Output, snap: &Snap, words: &str) {
+    let (ids, times) = cut(words);
+    let (from, to) = cut(times);
+    let ids = ids_of(out, ids);
+    let from = out.number(from);
+    let to = out.number(to);
+    push_left(out, &snap.without(&ids, from, to));
+}
+
+/// Tells the window `ID AFTER UPTO`.
+fn window_of(out: &mut Output, snap: &Snap, words: &str) {
+    let (id, times) = cut(words);
+    let (after, upto) = cut(times);
+    let after = out.number(after);
+    let upto = out.number(upto);
+    if let Some(id) = id_of(out, snap, id) {
+        push_window(out, snap.window(id, after, upto));
     }
-    Ok(out)
 }
 
-/// Answers a call at `ID AFTER UPTO`.
-fn between(alloc: Global, snap: &Snap, verb: &str, words: &str) -> Result<Vec<u8>, Trouble> {
-    let (id, times) = two(words)?;
-    let id = id_of(snap, id)?;
-    let (after, upto) = two(times)?;
-    let after = after.parse()?;
-    let upto = upto.parse()?;
-    if verb == "last" {
-        return or_none(alloc, snap.last(id, after, upto).map(|sample| sample.time));
+/// Tells the time of the last sample of `ID AFTER UPTO`.
+fn last(out: &mut Output, snap: &Snap, words: &str) {
+    let (id, times) = cut(words);
+    let (after, upto) = cut(times);
+    let after = out.number(after);
+    let upto = out.number(upto);
+    if let Some(id) = id_of(out, snap, id) {
+        push_time(out, snap.last(id, after, upto));
     }
-    walked(alloc, snap.window(id, after, upto))
 }
 
-fn held(alloc: Global, snap: &Snap, words: &str) -> Result<Vec<u8>, Trouble> {
-    let (id, time) = two(words)?;
-    let id = id_of(snap, id)?;
-    let value = snap.held(id, time.parse()?);
-    or_none(alloc, value.map(|value| value.micros()))
+fn held(out: &mut Output, snap: &Snap, words: &str) {
+    let (id, time) = cut(words);
+    let time = out.number(time);
+    if let Some(id) = id_of(out, snap, id) {
+        push_micros(out, snap.held(id, time));
+    }
 }
 
-fn postings(alloc: Global, snap: &Snap, pair: &str) -> Result<Vec<u8>, Trouble> {
-    let (name, value) = pair.split_once('=').ok_or(Trouble::NotOfForm)?;
+fn postings(out: &mut Output, snap: &Snap, pair: &str) {
+    let (name, value) = pair.split_once('=').unwrap_or((pair, ""));
     let ids = snap.postings(name, value);
-    said(alloc, &format!(in alloc; "{ids:?}")?)
+    out.show(format_args!("{ids:?}"));
+}
+
+/// Appends the id of a series, or `none`.
+fn push_found(out: &mut Output, id: Option<u32>) {
+    match id {
+        Some(id) => out.show(id),
+        None => out.text("none"),
+    }
+}
+
+fn find(out: &mut Output, snap: &Snap, list: &str) {
+    if let Some(labels) = &labels_of(out, list) {
+        push_found(out, snap.find(labels));
+    }
+}
+
+fn labels(out: &mut Output, snap: &Snap, id: &str) {
+    if let Some(id) = id_of(out, snap, id) {
+        push_labels(out, snap.labels(id));
+    }
+}
+
+fn call(out: &mut Output, snap: &Snap, verb: &str, words: &str) {
+    match verb {
+        "count" => out.show(snap.series_count()),
+        "find" => find(out, snap, words),
+        "labels" => labels(out, snap, words),
+        "postings" => postings(out, snap, words),
+        "window" => window_of(out, snap, words),
+        "last" => last(out, snap, words),
+        "held" => held(out, snap, words),
+        "without" => without(out, snap, words),
+        _ => out.refuse(),
+    }
 }
 
 /// Answers `count`, `find LABELS`, `labels ID`, `postings NAME=VALUE`, `window ID AFTER UPTO`, `last ID AFTER UPTO`,
 /// `held ID TIME` and `without IDS FROM TO`.
-pub fn snapshot(alloc: Global, setting: &Setting, given: &[u8]) -> Result<Vec<u8>, Trouble> {
-    let snap = snap_of(alloc, setting)?;
-    let given = text_of(given)?;
-    let (verb, words) = given.split_once(' ').unwrap_or((given, ""));
-    match verb {
-        "count" => or_none(alloc, Some(i64::from(snap.series_count()))),
-        "find" => {
-            let id = snap.find(&labels_of(alloc, words)?);
-            or_none(alloc, id.map(|id| i64::from(id)))
-        }
-        "labels" => listed(alloc, snap.labels(id_of(&snap, words)?)),
-        "postings" => postings(alloc, &snap, words),
-        "window" | "last" => between(alloc, &snap, verb, words),
-        "held" => held(alloc, &snap, words),
-        "without" => without(alloc, &snap, words),
-        _ => Err(Trouble::NotOfForm),
+pub fn snapshot(out: &mut Output, setting: &Setting, given: &str) {
+    let (verb, words) = cut(given);
+    if let Some(pin) = &pin_of(out, setting) {
+        call(out, &pin.snap, verb, words);
     }
 }
 
-fn sample_of(text: &str) -> Result<Sample, Trouble> {
-    let (time, micros) = text.split_once(':').ok_or(Trouble::NotOfForm)?;
-    Ok(Sample {
-        time: time.parse()?,
-        value: Value::new(micros.parse()?),
-    })
+fn sample_of(out: &mut Output, text: &str) -> Sample {
+    let (time, micros) = text.split_once(':').unwrap_or((text, ""));
+    Sample {
+        time: out.number(time),
+        value: value_of(out, micros),
+    }
 }
 
 /// What a window over two samples walks, which are given as `TIME:MICROS`.
-pub fn window(alloc: Global, given: &[u8]) -> Result<Vec<u8>, Trouble> {
-    let (first, second) = two(text_of(given)?)?;
-    let samples = [sample_of(first)?, sample_of(second)?];
-    if samples[0].time >= samples[1].time {
-        return Err(Trouble::NotOfForm);
+pub fn window(out: &mut Output, given: &str) {
+    let (first, second) = cut(given);
+    let samples = [sample_of(out, first), sample_of(out, second)];
+    if samples[0].time < samples[1].time {
+        push_window(out, Window::of(&samples));
+    } else {
+        out.refuse();
     }
-    walked(alloc, Window::of(&samples))
 }
