@@ -2,7 +2,7 @@
 
 use crate::output::Output;
 use crate::setting::Setting;
-use crate::{base, evaluation, language, outside, reports, runs, stores};
+use crate::{base, columns, evaluation, language, outside, patterns, reports, runs, stores};
 
 /// A form of rows, by what it is about.
 #[derive(Clone, Copy)]
@@ -10,6 +10,8 @@ pub enum Form {
     Base(base::Form),
     Stores(stores::Form),
     Language(language::Form),
+    Patterns(patterns::Form),
+    Columns(columns::Form),
     Evaluation(evaluation::Form),
     Reports(reports::Form),
     Outside(outside::Form),
@@ -27,6 +29,12 @@ impl Form {
         }
         if let Some(form) = language::Form::named(name) {
             return Some(Form::Language(form));
+        }
+        if let Some(form) = patterns::Form::named(name) {
+            return Some(Form::Patterns(form));
+        }
+        if let Some(form) = columns::Form::named(name) {
+            return Some(Form::Columns(form));
         }
         if let Some(form) = evaluation::Form::named(name) {
             return Some(Form::Evaluation(form));
@@ -47,6 +55,8 @@ pub fn answer(out: &mut Output, rt: HostRuntime, form: Form, setting: &Setting, 
         Form::Base(form) => form.answer(out, given),
         Form::Stores(form) => form.answer(out, setting, given),
         Form::Language(form) => form.answer(out, given),
+        Form::Patterns(form) => form.answer(out, setting, given),
+        Form::Columns(form) => form.answer(out, given),
         Form::Evaluation(form) => form.answer(out, setting, given),
         Form::Reports(form) => form.answer(out, setting, given),
         Form::Outside(form) => form.answer(out, rt, setting, given),

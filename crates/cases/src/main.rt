@@ -4,6 +4,7 @@
 #![tactic(auto)]
 
 mod base;
+mod columns;
 mod escapes;
 mod evaluation;
 mod file;
@@ -11,6 +12,7 @@ mod forms;
 mod language;
 mod output;
 mod outside;
+mod patterns;
 mod reports;
 mod runs;
 mod setting;
