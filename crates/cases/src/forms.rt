@@ -2,7 +2,9 @@
 
 use crate::output::Output;
 use crate::setting::Setting;
-use crate::{base, columns, evaluation, language, outside, patterns, reports, runs, stores};
+use crate::{
+    base, columns, evaluation, language, outside, patterns, ranges, reports, runs, stores,
+};
 
 /// A form of rows, by what it is about.
 #[derive(Clone, Copy)]
@@ -11,6 +13,7 @@ pub enum Form {
     Stores(stores::Form),
     Language(language::Form),
     Patterns(patterns::Form),
+    Ranges(ranges::Form),
     Columns(columns::Form),
     Evaluation(evaluation::Form),
     Reports(reports::Form),
@@ -32,6 +35,9 @@ impl Form {
         }
         if let Some(form) = patterns::Form::named(name) {
             return Some(Form::Patterns(form));
+        }
+        if let Some(form) = ranges::Form::named(name) {
+            return Some(Form::Ranges(form));
         }
         if let Some(form) = columns::Form::named(name) {
             return Some(Form::Columns(form));
@@ -56,6 +62,7 @@ pub fn answer(out: &mut Output, rt: HostRuntime, form: Form, setting: &Setting, 
         Form::Stores(form) => form.answer(out, setting, given),
         Form::Language(form) => form.answer(out, given),
         Form::Patterns(form) => form.answer(out, setting, given),
+        Form::Ranges(form) => form.answer(out, given),
         Form::Columns(form) => form.answer(out, given),
         Form::Evaluation(form) => form.answer(out, setting, given),
         Form::Reports(form) => form.answer(out, setting, given),

@@ -13,6 +13,7 @@ mod language;
 mod output;
 mod outside;
 mod patterns;
+mod ranges;
 mod reports;
 mod runs;
 mod setting;

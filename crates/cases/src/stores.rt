@@ -3,7 +3,7 @@
 pub mod files;
 pub mod logs;
 pub mod matchers;
-mod snapshots;
+pub mod snapshots;
 
 use crate::output::Output;
 use crate::setting::Setting;

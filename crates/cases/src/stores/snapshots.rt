@@ -194,7 +194,8 @@ pub fn snapshot(out: &mut Output, setting: &Setting, given: &str) {
     }
 }
 
-fn sample_of(out: &mut Output, text: &str) -> Sample {
+/// The sample of a text `TIME:MICROS`.
+pub fn sample_of(out: &mut Output, text: &str) -> Sample {
     let (time, micros) = text.split_once(':').unwrap_or((text, ""));
     Sample {
         time: out.number(time),
