@@ -85,7 +85,7 @@ fn count_of(columns: &[Column]) -> u32 {
     for column in columns {
         count = column.values.len().max(count);
     }
-    count as u32
+    count.min(u32::MAX as usize) as u32
 }
 
 /// A run: its steps, and how many these are.
