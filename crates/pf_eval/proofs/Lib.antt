@@ -9,6 +9,7 @@ pub mod Keys
 pub mod LabelLists
 pub mod LastHeld
 pub mod LastSample
+pub mod Newest
 pub mod Results
 pub mod Rows
 pub mod SelectorAnswer

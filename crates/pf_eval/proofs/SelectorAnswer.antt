@@ -29,7 +29,7 @@ use Rattle.pf_eval.proofs.LastSample.{point_of, series_last, same_point}
 use Rattle.pf_eval.proofs.SeriesOrder.{AreInOrder, IsAccepted, passes, test_found, names, in_order}
 
 -- an element of a list, or else what stands for it
-all_or : {X : Type 0} (p : X → Bool) (xs : List X) (k : ℕ) (d : X) → list_all p xs ≡ true → p d ≡ true → p (get_or xs k d) ≡ true
+pub all_or : {X : Type 0} (p : X → Bool) (xs : List X) (k : ℕ) (d : X) → list_all p xs ≡ true → p d ≡ true → p (get_or xs k d) ≡ true
 all_or p [] k d h e = e
 all_or p (x ∷ xs) zero d h e = first_so (p x) (list_all p xs) h
 all_or p (x ∷ xs) (suc k) d h e = all_or p xs k d (second_so (p x) (list_all p xs) h) e

@@ -1,6 +1,7 @@
 pub mod Built
 pub mod Elementwise
 pub mod GroupValues
+pub mod Newest
 pub mod Results
 pub mod Seen
 pub mod SeriesRows

@@ -5,6 +5,7 @@
 //! of evaluation says it: it is slow, and it is what faster evaluators are compared with.
 #![tactic(auto)]
 
+mod ahead;
 pub mod plain;
 mod selector;
 

@@ -1,18 +1,21 @@
 //! Instant selectors.
 
-ghost use Rattle.std.specs.Prelude.{◌≡◌, ◌<◌, ◌≤◌, List, IfOk, map, length};
+ghost use Rattle.std.specs.Prelude.{◌≡◌, ◌<◌, ◌≤◌, ℤ, pos, int_le, true, None, List, IfOk, map, length};
 ghost use Rattle.std.specs.List.{list_all, All};
 ghost use Rattle.std.specs.List.Sorted.{IsPermutation, IsSorted};
 ghost use Rattle.pf_base.specs.declared.plain.Row.{Row};
 ghost use Rattle.pf_base.specs.Grids.{points};
+ghost use Rattle.pf_block.specs.Samples.{rises};
 ghost use Rattle.pf_block.specs.Snaps.{IsSnap, samples_of};
-ghost use Rattle.pf_eval.specs.SeriesRows.{accepted_of, points_at, read_at, rows_at, series_cmp};
+ghost use Rattle.pf_eval.specs.Newest.{IsReading, newest, recent};
+ghost use Rattle.pf_eval.specs.SeriesRows.{accepted_of, points_at, rows_at, series_cmp};
 ghost use Rattle.pf_model.specs.Direct.{direct, gathered};
 ghost use Rattle.pf_model.specs.Trees.{instant};
 ghost use Rattle.pf_store.specs.Standing.{StandsFor};
 
+use crate::ahead::Ahead;
 use pf_base::{Grid, Labels, OutOfMemory, Sample};
-use pf_block::Snap;
+use pf_block::{Snap, Window};
 use pf_matrix::{Matrix, MatrixRow};
 use pf_model::Matchers;
 use std::alloc::Global;
@@ -91,9 +94,13 @@ fn points_of(alloc: Global, snap: &Snap, id: u32, grid: &Grid) -> Result<Vec<Sam
     ensures { IfOk result (λ v. v.items ≡ points_at (samples_of snap.now id) (points grid.now)) }
 {
     let mut points = Vec::new(alloc);
+    let mut ahead = Ahead::of(samples_read(snap, id, grid));
+    let mut held = None;
     for i in 0..grid.len() {
         let time = grid.at(i);
-        if let Some(sample) = read_at(snap, id, time) {
+        let found = newest(held, &mut ahead, time as i64);
+        held = found;
+        if let Some(sample) = recent(found, time) {
             points.push(Sample {
                 time: time as i64,
                 value: sample.value,
@@ -103,12 +110,42 @@ fn points_of(alloc: Global, snap: &Snap, id: u32, grid: &Grid) -> Result<Vec<Sam
     Ok(points)
 }
 
-/// The last sample of a series in the look-back of a time.
-fn read_at(snap: &Snap, id: u32, time: u64) -> Option<Sample>
-    requires inside { id < length snap.now.labels }
-    requires timed { time ≤ 4398046511103 }
-    ensures { result ≡ read_at (samples_of snap.now id) time }
+/// The samples of a series from the look-back of a grid's first step to its last step.
+fn samples_read<'a>(snap: &'a Snap, id: u32, grid: &Grid) -> Window<'a>
+    requires { id < length snap.now.labels }
+    ensures rises { rises result ≡ true }
+    ensures reads { IsReading (samples_of snap.now id) grid.now None result 0 }
 {
-    let time = time as i64;
-    snap.last(id, time - LOOKBACK, time)
+    let _count = snap.series_count();
+    let first = grid.start() as i64;
+    let last = grid.at(grid.len() - 1) as i64;
+    snap.window(id, first - LOOKBACK, last)
+}
+
+/// The newest sample at or before a time: the last of those ahead that aren't after it, or else the one that is held. Those
+/// after it stay ahead.
+fn newest(held: Option<Sample>, ahead: &mut Ahead<'_>, time: i64) -> Option<Sample>
+    requires { rises ahead.old ≡ true }
+    ensures now { result ≡ newest time held ahead.old }
+    ensures later { (u : ℤ) → int_le time u ≡ true → newest u result ahead.new ≡ newest u held ahead.old }
+    ensures rises { rises ahead.new ≡ true }
+{
+    let mut held = held;
+    while let Some(sample) = ahead.next_until(time) {
+        held = Some(sample);
+    }
+    held
+}
+
+/// The sample that is held, where it is in the look-back of a time.
+fn recent(held: Option<Sample>, time: u64) -> Option<Sample>
+    requires { time ≤ 4398046511103 }
+    ensures { result ≡ recent (pos time) held }
+{
+    let sample = held?;
+    if sample.time > time as i64 - LOOKBACK {
+        Some(sample)
+    } else {
+        None
+    }
 }
