@@ -86,8 +86,10 @@ abbrev pub answer_unless : Option Failure → List Step → Answer
 answer_unless None steps = gathered (gather steps)
 answer_unless (Some f) steps = failed f.time f.kind
 
+-- what the values of a query at some times are together
+abbrev pub answered : List Evaluated → Answer
+answered cells = answer_unless (first_failure cells) (steps_of cells)
+
 -- the direct evaluation of a query over samples: its value at each time of its grid, the grid's ends put in
 abbrev pub direct : List Row → Asked → Answer
-direct samples asked =
-    let cells = evaluated samples (resolved_over asked.grid asked.tree) (points asked.grid) in
-    answer_unless (first_failure cells) (steps_of cells)
+direct samples asked = answered (evaluated samples (resolved_over asked.grid asked.tree) (points asked.grid))

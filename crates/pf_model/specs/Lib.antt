@@ -1,4 +1,5 @@
 pub mod Aggregation
+pub mod Binding
 pub mod Canonical
 pub mod Cells
 pub mod Clauses

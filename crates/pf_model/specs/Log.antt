@@ -1,7 +1,7 @@
 -- A tenant's log: what was appended and deleted, in order, and the samples that stand after it. Verdicts on rows, the
 -- newest time, the floor and the generation. That rows older than a window are refused is Mimir's out-of-order window;
 -- verdicts and generations are this project's own.
-use Rattle.std.specs.Prelude.{ℕ, ◌+◌, ◌-◌, ℤ, Bool, true, false, ◌&&◌, ◌||◌, not, Option, Some, None, cond, List, [], ◌∷◌, ◌++◌, filter, max, nat_lt, nat_le, nat_eq}
+use Rattle.std.specs.Prelude.{◌≡◌, ℕ, ◌+◌, ◌-◌, ℤ, Bool, true, false, ◌&&◌, ◌||◌, not, Option, Some, None, cond, List, [], ◌∷◌, ◌++◌, filter, max, nat_lt, nat_le, nat_eq}
 use Rattle.std.specs.Ordering.{int_eq}
 use Rattle.pf_base.specs.declared.plain.Row.{Row}
 use Rattle.pf_base.specs.LabelSets.{Pairs}
@@ -25,6 +25,11 @@ abbrev pub held_value : List Row → Pairs → ℕ → Option ℤ
 held_value [] labels time = None
 held_value (r ∷ rs) labels time =
     cond (same_labels r.labels labels && nat_eq r.time time) (Some r.value) (held_value rs labels time)
+
+-- rows that hold each series' time once
+abbrev pub AreApart : List Row → Type 0
+AreApart [] = Unit {0}
+AreApart (r ∷ rs) = (held_value rs r.labels r.time ≡ None) × AreApart rs
 
 abbrev pub compared : Option ℤ → ℤ → Verdict
 compared None value = taken
