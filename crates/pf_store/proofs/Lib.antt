@@ -1,3 +1,4 @@
+pub mod ApartRows
 pub mod Deletions
 pub mod Holding
 pub mod Judging

@@ -4,7 +4,7 @@ use Rattle.std.specs.List.{list_any}
 use Rattle.pf_base.specs.declared.plain.Row.{Row}
 use Rattle.pf_base.specs.LabelSets.{Pairs}
 use Rattle.pf_block.specs.Snaps.{SnapData, held_of, labels_of}
-use Rattle.pf_model.specs.Log.{Change, store_of, floor_of, verdicts_of, log_with, held_value}
+use Rattle.pf_model.specs.Log.{AreApart, Change, store_of, floor_of, verdicts_of, log_with, held_value}
 use Rattle.pf_model.specs.declared.expr.Matcher.{Matcher}
 use Rattle.pf_model.specs.Selection.{accepts}
 use Rattle.pf_store.specs.Verdicts.{VerdictsData}
@@ -59,12 +59,13 @@ verdicts_after window log rows =
 abbrev pub deleted_after : ℕ → List Change → Deleted
 deleted_after window log = record { generation = (store_of window log).generation; entry = length log }
 
--- a pin of these changes
+-- a pin of these changes, whose samples hold each series' time once
 pub record IsPin (p : PinData) (window : ℕ) (log : List Change) : Type 0 where
   pub numbered : p.number ≡ length log
   pub floored : p.floor ≡ floor_of window log
   pub aged : p.generation ≡ (store_of window log).generation
   pub samples : StandsFor p.snap (store_of window log).samples
+  pub apart : AreApart (store_of window log).samples
 
 -- some ids are those of the series that matchers accept
 abbrev pub AreAccepted : List Matcher → SnapData → List ℕ → Type 0

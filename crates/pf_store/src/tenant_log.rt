@@ -178,6 +178,7 @@ impl TenantLog {
     }
 
     /// A pin of the log as it stands. It copies no sample.
+    #[tactic(auto, using(crate::proofs::ApartRows::apart_of_log))]
     pub fn pin(&self) -> Result<Pin, OutOfMemory>
         ensures { IfOk result (λ p. (log : List Change) → IsLog self.now log → IsPin p self.now.window log) }
     {
