@@ -8,7 +8,7 @@ use Rattle.pf_model.specs.declared.expr.Function.TheVariants as function
 use Rattle.pf_model.specs.declared.functions.AggOp.{AggOp}
 use Rattle.pf_model.specs.Aggregation.{aggregate}
 use Rattle.pf_model.specs.Clauses.{Grouped}
-use Rattle.pf_model.specs.Evaluation.{called, no_meaning}
+use Rattle.pf_model.specs.Evaluation.{called}
 use Rattle.pf_model.specs.Outcomes.{Outcome, scalar, elements, ranges, text, bad, aggregation, first_bad, vector_of}
 use Rattle.pf_model.specs.Trees.{Trees}
 use Rattle.pf_eval.specs.declared.plain.aggregate.EachGroup.{EachGroup}
@@ -20,7 +20,7 @@ use Rattle.pf_eval.specs.Elementwise.{elementwise_call, instant_of}
 use Rattle.pf_eval.specs.Seen.{first_kind}
 
 pub call_is : (samples : List Row) (e : Elementwise) (args : Trees) (os : List Outcome) (t : ℤ)
-    → elementwise_call e os ≡ called no_meaning samples (function.Instant (instant_of e)) args os t
+    → elementwise_call e os ≡ called samples (function.Instant (instant_of e)) args os t
 call_is samples each.Abs args os t = refl
 call_is samples each.Ceil args os t = refl
 call_is samples each.Floor args os t = refl
@@ -48,9 +48,9 @@ call_of_good (bad k ∷ os) o h = cc
 
 -- what a call is, by the function that it names
 pub known_call_is : (e : Elementwise) (f : Function) (o : Outcome) (os : List Outcome) → function.Instant (instant_of e) ≡ f → o ≡ elementwise_call e os
-    → (samples : List Row) (trees : Trees) (t : ℤ) → o ≡ called no_meaning samples f trees os t
+    → (samples : List Row) (trees : Trees) (t : ℤ) → o ≡ called samples f trees os t
 known_call_is e f o os name value samples trees t =
-    value ∙ call_is samples e trees os t ∙ ap (λ g. called no_meaning samples g trees os t) name
+    value ∙ call_is samples e trees os t ∙ ap (λ g. called samples g trees os t) name
 
 -- an aggregation with a value for each group has no parameter
 no_parameter : (op : EachGroup) (g : Grouped) (param : Option ℤ) (es : List Element) → aggregate (operator op) g.without g.labels None es ≡ aggregate (operator op) g.without g.labels param es

@@ -7,7 +7,7 @@ ghost use Rattle.std.specs.List.{list_all};
 ghost use Rattle.pf_base.specs.LabelSets.{is_label_name};
 ghost use Rattle.pf_model.specs.Cells.{element};
 ghost use Rattle.pf_base.specs.declared.plain.Row.{Row};
-ghost use Rattle.pf_model.specs.Evaluation.{called, eval, no_meaning, outcome, outcomes, read_time, selection};
+ghost use Rattle.pf_model.specs.Evaluation.{called, eval, outcome, outcomes, read_time, selection};
 ghost use Rattle.pf_model.specs.Outcomes.{aggregation, negated, operation, scalars_of, signed, step_cell, vector_of};
 ghost use Rattle.pf_model.specs.Trees.{Trees, tree_of, trees_of};
 ghost use Rattle.pf_eval.specs.GroupValues.{is_each_group, operator};
@@ -239,7 +239,7 @@ fn called(alloc: Global, function: Elementwise, args: &[Outcome]) -> Result<Outc
 /// A call of a function that the plain program has: what it is doesn't depend on the samples, the trees of its arguments and the
 /// time.
 fn known_call(alloc: Global, function: Function, args: Vec<Outcome>) -> Result<Outcome, PlainError>
-    ensures value { IfOk result (λ o. ((samples : List Row) (trees : Trees) (time : ℤ) → seen o ≡ called no_meaning samples function trees (map seen args.items) time) × (is_elementwise_call function ≡ true)) }
+    ensures value { IfOk result (λ o. ((samples : List Row) (trees : Trees) (time : ℤ) → seen o ≡ called samples function trees (map seen args.items) time) × (is_elementwise_call function ≡ true)) }
     ensures refused { result ≡ Err PlainError.NotBuilt → is_elementwise_call function ≡ false }
 {
     let Some(function) = called_function(function) else {
@@ -289,7 +289,7 @@ fn values_of(
     args: &[Expr],
     time: i64,
 ) -> Result<Vec<Outcome>, PlainError>
-    ensures value { IfOk result (λ v. (map seen v.items ≡ outcomes no_meaning samples.now (trees_of (map tree_of args.now)) time) × (are_built (trees_of (map tree_of args.now)) ≡ true)) }
+    ensures value { IfOk result (λ v. (map seen v.items ≡ outcomes samples.now (trees_of (map tree_of args.now)) time) × (are_built (trees_of (map tree_of args.now)) ≡ true)) }
     ensures refused { result ≡ Err PlainError.NotBuilt → are_built (trees_of (map tree_of args.now)) ≡ false }
 {
     let mut found = Vec::new(alloc);
@@ -302,7 +302,7 @@ fn values_of(
 /// What a node is at a time.
 #[cycle(nodes)]
 fn value_of(alloc: Global, samples: &[Row], query: &Expr, time: i64) -> Result<Outcome, PlainError>
-    ensures value { IfOk result (λ o. (seen o ≡ outcome no_meaning samples.now (tree_of query.now) time) × (is_built (tree_of query.now) ≡ true)) }
+    ensures value { IfOk result (λ o. (seen o ≡ outcome samples.now (tree_of query.now) time) × (is_built (tree_of query.now) ≡ true)) }
     ensures refused { result ≡ Err PlainError.NotBuilt → is_built (tree_of query.now) ≡ false }
 {
     match query {

@@ -21,7 +21,7 @@ use Rattle.pf_model.specs.declared.functions.RangeFn.{RangeFn}
 use Rattle.pf_model.specs.declared.functions.RangeFn.TheVariants as range_fn
 use Rattle.pf_model.specs.Cells.{element, without_name, cell_of}
 use Rattle.pf_model.specs.Clauses.{Grouped, Matched}
-use Rattle.pf_model.specs.Evaluation.{no_meaning, outcome, outcomes, beside, instant_outcome, selected, windows, read_time, timed}
+use Rattle.pf_model.specs.Evaluation.{outcome, outcomes, beside, instant_outcome, selected, windows, read_time, timed}
 use Rattle.pf_model.specs.InstantFunctions.{absent_labels, each_value, instant_function, floor, ceil, sign_of, round_by, clamp_by, with_scalar}
 use Rattle.pf_model.specs.Legs.{of_shard, PartData, GroupPart, whole, grouped, bad, grouped_part, partials}
 use Rattle.pf_model.specs.Merging.{below, all_groups, merged_groups, finished, first_error, cell_unless, merged_cell, MergesToWhole}
@@ -61,12 +61,12 @@ module _ (n : ℕ) (positive : 0 < n) where
   maybe_nameless true l = nameless l
   maybe_nameless false l = refl
 
-  module _ (meaning : List ℕ → List ℕ → List ℕ → Option (List ℕ)) (rows : List Row) where
+  module _ (rows : List Row) where
     abbrev over_all : Tree → ℤ → Outcome
-    over_all = outcome meaning rows
+    over_all = outcome rows
 
     abbrev over_shard : Tree → ℤ → ℕ → Outcome
-    over_shard q t i = outcome meaning (of_shard i n rows) q t
+    over_shard q t i = outcome (of_shard i n rows) q t
 
     abbrev Keeps : Tree → ℤ → Type 0
     Keeps q t = IsSharded n positive (over_all q t) (over_shard q t)
@@ -93,7 +93,7 @@ module _ (n : ℕ) (positive : 0 < n) where
     signed_number true v = refl
     signed_number false v = refl
 
-    literal_is : (samples : List Row) (q : Tree) (t : ℤ) → is_literal q ≡ true → outcome meaning samples q t ≡ scalar (Some (literal_value q))
+    literal_is : (samples : List Row) (q : Tree) (t : ℤ) → is_literal q ≡ true → outcome samples q t ≡ scalar (Some (literal_value q))
     literal_is samples (tree.number v) t h = refl
     literal_is samples (tree.unary minus (tree.number v)) t h = signed_number minus v
     literal_is samples (tree.text bytes) t h = cc
@@ -212,10 +212,10 @@ module _ (n : ℕ) (positive : 0 < n) where
     literal_outcomes tree.none = []
     literal_outcomes (tree.more q qs) = scalar (Some (literal_value q)) ∷ literal_outcomes qs
 
-    literals_are : (samples : List Row) (qs : Trees) (t : ℤ) → are_literals qs ≡ true → outcomes meaning samples qs t ≡ literal_outcomes qs
+    literals_are : (samples : List Row) (qs : Trees) (t : ℤ) → are_literals qs ≡ true → outcomes samples qs t ≡ literal_outcomes qs
     literals_are samples tree.none t h = refl
     literals_are samples (tree.more q qs) t h =
-        ap (λ o. o ∷ outcomes meaning samples qs t) (literal_is samples q t (and_left (is_literal q) (are_literals qs) h))
+        ap (λ o. o ∷ outcomes samples qs t) (literal_is samples q t (and_left (is_literal q) (are_literals qs) h))
         ∙ ap (λ os. scalar (Some (literal_value q)) ∷ os) (literals_are samples qs t (and_right (is_literal q) (are_literals qs) h))
 
     no_bad : (qs : Trees) (o : Outcome) → first_bad (literal_outcomes qs) o ≡ o
@@ -227,20 +227,20 @@ module _ (n : ℕ) (positive : 0 < n) where
       args = tree.more arg rest
 
       abbrev of_first : Outcome → Outcome
-      of_first o = instant_call f (beside meaning rows args (o ∷ literal_outcomes rest) t) (o ∷ literal_outcomes rest)
+      of_first o = instant_call f (beside rows args (o ∷ literal_outcomes rest) t) (o ∷ literal_outcomes rest)
 
-      value_keeps : ((samples : List Row) (os : List Outcome) → instant_outcome meaning samples f args os t ≡ instant_call f (beside meaning rows args os t) os)
-          → ((es : List Element) → of_elements f (instant_function f (beside meaning rows args (elements es ∷ literal_outcomes rest) t) es) ≡ of_cell (cell_of (each_value V es)))
+      value_keeps : ((samples : List Row) (os : List Outcome) → instant_outcome samples f args os t ≡ instant_call f (beside rows args os t) os)
+          → ((es : List Element) → of_elements f (instant_function f (beside rows args (elements es ∷ literal_outcomes rest) t) es) ≡ of_cell (cell_of (each_value V es)))
           → Keeps arg t → Keeps (tree.call (function.Instant f) args) t
       value_keeps runs gives h =
           moved n positive (over_all (tree.call (function.Instant f) args) t) (of_first (over_all arg t))
           (over_shard (tree.call (function.Instant f) args) t) (λ i. of_first (over_shard arg t i))
-          (runs rows (outcomes meaning rows args t)
-          ∙ ap (λ os. instant_call f (beside meaning rows args (over_all arg t ∷ os) t) (over_all arg t ∷ os)) (literals_are rows rest t lits))
-          (λ i. runs (of_shard i n rows) (outcomes meaning (of_shard i n rows) args t)
-          ∙ ap (λ os. instant_call f (beside meaning rows args (over_shard arg t i ∷ os) t) (over_shard arg t i ∷ os)) (literals_are (of_shard i n rows) rest t lits))
+          (runs rows (outcomes rows args t)
+          ∙ ap (λ os. instant_call f (beside rows args (over_all arg t ∷ os) t) (over_all arg t ∷ os)) (literals_are rows rest t lits))
+          (λ i. runs (of_shard i n rows) (outcomes (of_shard i n rows) args t)
+          ∙ ap (λ os. instant_call f (beside rows args (over_shard arg t i ∷ os) t) (over_shard arg t i ∷ os)) (literals_are (of_shard i n rows) rest t lits))
           (through n positive of_first (λ e. element (without_name e.labels) (V e.value)) (value_stays without_name (λ e. V e.value) nameless)
-          (λ es. no_bad rest (of_elements f (instant_function f (beside meaning rows args (elements es ∷ literal_outcomes rest) t) es)) ∙ gives es)
+          (λ es. no_bad rest (of_elements f (instant_function f (beside rows args (elements es ∷ literal_outcomes rest) t) es)) ∙ gives es)
           (λ k. refl) (over_all arg t) (over_shard arg t) h)
 
     timed_step : (i : ℕ) (r : Row) (rest : List Row) (b : Bool) → map timed (cond b (r ∷ rest) rest) ≡ cond b (timed r ∷ map timed rest) (map timed rest)
@@ -402,5 +402,5 @@ module _ (g : Grouped) (n : ℕ) (positive : 0 < n) where
 
 pub merges : MergesToWhole
 merges op g arg samples t n m positive h =
-    law_by g n positive op m (outcome no_meaning samples arg t) (λ i. outcome no_meaning (of_shard i n samples) arg t)
-    (plain_keeps n positive no_meaning samples arg t h)
+    law_by g n positive op m (outcome samples arg t) (λ i. outcome (of_shard i n samples) arg t)
+    (plain_keeps n positive samples arg t h)

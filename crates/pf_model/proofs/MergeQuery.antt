@@ -7,7 +7,7 @@ use Rattle.pf_model.specs.declared.expr.Function.TheVariants as function
 use Rattle.pf_model.specs.declared.functions.AggOp.{AggOp}
 use Rattle.pf_model.specs.declared.functions.InstantFn.TheVariants as instant
 use Rattle.pf_model.specs.Clauses.{Grouped}
-use Rattle.pf_model.specs.Evaluation.{called, no_meaning, outcome, outcomes}
+use Rattle.pf_model.specs.Evaluation.{called, outcome, outcomes}
 use Rattle.pf_model.specs.Lists.{at}
 use Rattle.pf_model.specs.Merging.{cell_at, merged_outcome, merged_outcomes, MergesQueries}
 use Rattle.pf_model.specs.Outcomes.{Outcome, scalar, elements, ranges, text, bad, aggregation, first_bad, of_cell, operation, signed, step_cell}
@@ -78,7 +78,7 @@ module _ (all : List Tree) where
 
 -- a call reads samples of its own only where its argument is a selector
 same_called : (samples : List Row) (f : Function) (args : Trees) (os : List Outcome) (t : ℤ) → are_covered args ≡ true
-    → called no_meaning [] f args os t ≡ called no_meaning samples f args os t
+    → called [] f args os t ≡ called samples f args os t
 same_called samples (function.Range f) args os t h = refl
 same_called samples (function.Instant instant.Timestamp) tree.none os t h = refl
 same_called samples (function.Instant instant.Timestamp) (tree.more (tree.number v) qs) os t h = refl
@@ -120,18 +120,18 @@ module _ (samples : List Row) (shards : ℕ) (positive : 0 < shards) (t : ℤ) (
   cells n = cell_at (at (preorder query) n) samples shards t
 
   sharded : (n : ℕ) (op : AggOp) (g : Grouped) (args : Trees) → at (preorder query) n ≡ Some (tree.aggregate op g args)
-      → is_mergeable op ≡ true → is_one_plain args ≡ true → of_cell (cells n) ≡ outcome no_meaning samples (tree.aggregate op g args) t
+      → is_mergeable op ≡ true → is_one_plain args ≡ true → of_cell (cells n) ≡ outcome samples (tree.aggregate op g args) t
   sharded n op g (tree.more arg tree.none) e m p =
       ap (λ o. of_cell (cell_at o samples shards t)) e
       ∙ ap of_cell (merges op g arg samples t shards m positive p)
-      ∙ first_again (outcomes no_meaning samples (tree.more arg tree.none) t) _ refl
+      ∙ first_again (outcomes samples (tree.more arg tree.none) t) _ refl
   sharded n op g (tree.more arg (tree.more x xs)) e m p = cc
   sharded n op g tree.none e m p = cc
 
   aggregate_by : (n : ℕ) (op : AggOp) (g : Grouped) (args : Trees) (b : Bool) → (is_mergeable op && is_one_plain args) ≡ b
       → at (preorder query) n ≡ Some (tree.aggregate op g args) → ((is_mergeable op && is_one_plain args) || are_covered args) ≡ true
-      → (are_covered args ≡ true → merged_outcomes cells (n + 1) args t ≡ outcomes no_meaning samples args t)
-      → cond b (of_cell (cells n)) (aggregation op g (merged_outcomes cells (n + 1) args t)) ≡ outcome no_meaning samples (tree.aggregate op g args) t
+      → (are_covered args ≡ true → merged_outcomes cells (n + 1) args t ≡ outcomes samples args t)
+      → cond b (of_cell (cells n)) (aggregation op g (merged_outcomes cells (n + 1) args t)) ≡ outcome samples (tree.aggregate op g args) t
   aggregate_by n op g args true is e h go =
       sharded n op g args e (and_left (is_mergeable op) (is_one_plain args) is) (and_right (is_mergeable op) (is_one_plain args) is)
   aggregate_by n op g args false is e h go =
@@ -139,7 +139,7 @@ module _ (samples : List Row) (shards : ℕ) (positive : 0 < shards) (t : ℤ) (
 
   mutual
     merged_is : (n : ℕ) (q : Tree) → IsAt (preorder query) n (preorder q) (size q) → is_covered q ≡ true
-        → merged_outcome cells n q t ≡ outcome no_meaning samples q t
+        → merged_outcome cells n q t ≡ outcome samples q t
     merged_is n (tree.number v) s h = refl
     merged_is n (tree.text bytes) s h = refl
     merged_is n (tree.unary minus q) s h =
@@ -148,11 +148,11 @@ module _ (samples : List Row) (shards : ℕ) (positive : 0 < shards) (t : ℤ) (
         let under = behind (preorder query) n (size l + size r) (tree.binary op m l r) (preorder l ++ preorder r) s in
         ap (λ o. operation op m o (merged_outcome cells (n + 1 + size l) r t))
         (merged_is (n + 1) l (first_part (preorder query) (n + 1) (size l) (size r) (preorder l) (preorder r) (preorder_size l) under) (and_left (is_covered l) (is_covered r) h))
-        ∙ ap (operation op m (outcome no_meaning samples l t))
+        ∙ ap (operation op m (outcome samples l t))
         (merged_is (n + 1 + size l) r (further_part (preorder query) (n + 1) (size l) (size r) (preorder l) (preorder r) (preorder_size l) under) (and_right (is_covered l) (is_covered r) h))
     merged_is n (tree.call f args) s h =
-        ap (λ os. called no_meaning [] f args os t) (all_merged (n + 1) args (behind (preorder query) n (sizes args) (tree.call f args) (all_preorder args) s) h)
-        ∙ same_called samples f args (outcomes no_meaning samples args t) t h
+        ap (λ os. called [] f args os t) (all_merged (n + 1) args (behind (preorder query) n (sizes args) (tree.call f args) (all_preorder args) s) h)
+        ∙ same_called samples f args (outcomes samples args t) t h
     merged_is n (tree.aggregate op g args) s h =
         let place : n ≡ n + 0 = omega arith in
         aggregate_by n op g args (is_mergeable op && is_one_plain args) refl
@@ -162,12 +162,12 @@ module _ (samples : List Row) (shards : ℕ) (positive : 0 < shards) (t : ℤ) (
     merged_is n (tree.subquery q range resolution mods) s h = cc
 
     all_merged : (n : ℕ) (qs : Trees) → IsAt (preorder query) n (all_preorder qs) (sizes qs) → are_covered qs ≡ true
-        → merged_outcomes cells n qs t ≡ outcomes no_meaning samples qs t
+        → merged_outcomes cells n qs t ≡ outcomes samples qs t
     all_merged n tree.none s h = refl
     all_merged n (tree.more q qs) s h =
         ap (λ o. o ∷ merged_outcomes cells (n + size q) qs t)
         (merged_is n q (first_part (preorder query) n (size q) (sizes qs) (preorder q) (all_preorder qs) (preorder_size q) s) (and_left (is_covered q) (are_covered qs) h))
-        ∙ ap (λ os. outcome no_meaning samples q t ∷ os)
+        ∙ ap (λ os. outcome samples q t ∷ os)
         (all_merged (n + size q) qs (further_part (preorder query) n (size q) (sizes qs) (preorder q) (all_preorder qs) (preorder_size q) s) (and_right (is_covered q) (are_covered qs) h))
 
 pub queries_merge : MergesQueries

@@ -12,7 +12,7 @@ use Rattle.pf_model.specs.declared.expr.Function.TheVariants as function
 use Rattle.pf_model.specs.declared.expr.Function.{Function}
 use Rattle.pf_model.specs.Cells.{cell_of}
 use Rattle.pf_model.specs.InstantFunctions.{each_value}
-use Rattle.pf_model.specs.Evaluation.{outcome, outcomes, value_at, called, beside, timestamps, selection, selected, vector, series_of, timed, read_time, multiples, resolution_or_minute, subquery_over, moments}
+use Rattle.pf_model.specs.Evaluation.{outcome, outcomes, eval, called, beside, timestamps, selection, selected, vector, series_of, timed, read_time, multiples, resolution_or_minute, subquery_over, moments}
 use Rattle.pf_model.specs.Outcomes.{Outcome, operation, signed, aggregation, instant_call, of_cell, step_cell}
 use Rattle.pf_model.specs.Reach.{Times, together, all_together, window_times, times_read, all_times_read, is_below, is_frozen}
 use Rattle.pf_model.specs.Selection.{accepts, is_within, is_read}
@@ -100,7 +100,7 @@ moments_same low high f g read h (u ∷ us) w =
     ap (λ o. record { time = u; outcome = o } ∷ moments f us) (h u parts.0)
     ∙ ap (λ ms. record { time = u; outcome = g u } ∷ ms) (moments_same low high f g read h us parts.1)
 
-module _ (meaning : List ℕ → List ℕ → List ℕ → Option (List ℕ)) (low high : ℤ) (xs ys : List Row)
+module _ (low high : ℤ) (xs ys : List Row)
     (agree : filter (is_between low high) xs ≡ filter (is_between low high) ys) where
   window_same : (ms : List Matcher) (range : ℕ) (to : ℤ) → IsWithin low high (window_times range to)
       → filter (is_within (to -ℤ pos range) to) (filter (λ r. accepts ms r.labels) xs)
@@ -132,39 +132,39 @@ module _ (meaning : List ℕ → List ℕ → List ℕ → Option (List ℕ)) (l
   timestamps_same args t o h = refl
 
   called_same : (f : Function) (args : Trees) (os : List Outcome) (t : ℤ) → IsWithin low high (all_times_read args t)
-      → called meaning xs f args os t ≡ called meaning ys f args os t
+      → called xs f args os t ≡ called ys f args os t
   called_same (function.Range f) args os t h = refl
   called_same (function.Instant instant.Timestamp) args os t h =
-      timestamps_same args t (instant_call instant.Timestamp (beside meaning xs args os t) os) h
+      timestamps_same args t (instant_call instant.Timestamp (beside xs args os t) os) h
   called_same (function.Instant f) args os t h = refl
 
   mutual
-    pub outcome_same : (query : Tree) (t : ℤ) → IsWithin low high (times_read query t) → outcome meaning xs query t ≡ outcome meaning ys query t
+    pub outcome_same : (query : Tree) (t : ℤ) → IsWithin low high (times_read query t) → outcome xs query t ≡ outcome ys query t
     outcome_same (tree.number v) t h = refl
     outcome_same (tree.text bytes) t h = refl
     outcome_same (tree.unary minus arg) t h = ap (signed minus) (outcome_same arg t h)
     outcome_same (tree.binary op m left right) t h =
         let parts = both_within low high (times_read left t) (times_read right t) h in
-        ap (λ o. operation op m o (outcome meaning xs right t)) (outcome_same left t parts.0)
-        ∙ ap (operation op m (outcome meaning ys left t)) (outcome_same right t parts.1)
+        ap (λ o. operation op m o (outcome xs right t)) (outcome_same left t parts.0)
+        ∙ ap (operation op m (outcome ys left t)) (outcome_same right t parts.1)
     outcome_same (tree.call f args) t h =
-        called_same f args (outcomes meaning xs args t) t h ∙ ap (λ os. called meaning ys f args os t) (outcomes_same args t h)
+        called_same f args (outcomes xs args t) t h ∙ ap (λ os. called ys f args os t) (outcomes_same args t h)
     outcome_same (tree.aggregate op g args) t h = ap (aggregation op g) (outcomes_same args t h)
     outcome_same (tree.select ms range mods) t h = selection_same ms range (read_time mods t) h
     outcome_same (tree.subquery arg range resolution mods) t h =
         ap (subquery_over (read_time mods t -ℤ pos range) (read_time mods t))
-        (moments_same low high (outcome meaning xs arg) (outcome meaning ys arg) (times_read arg) (outcome_same arg)
+        (moments_same low high (outcome xs arg) (outcome ys arg) (times_read arg) (outcome_same arg)
         (multiples (resolution_or_minute resolution) (read_time mods t -ℤ pos range) (read_time mods t)) h)
 
-    pub outcomes_same : (args : Trees) (t : ℤ) → IsWithin low high (all_times_read args t) → outcomes meaning xs args t ≡ outcomes meaning ys args t
+    pub outcomes_same : (args : Trees) (t : ℤ) → IsWithin low high (all_times_read args t) → outcomes xs args t ≡ outcomes ys args t
     outcomes_same tree.none t h = refl
     outcomes_same (tree.more arg args) t h =
         let parts = both_within low high (times_read arg t) (all_times_read args t) h in
-        ap (λ o. o ∷ outcomes meaning xs args t) (outcome_same arg t parts.0)
-        ∙ ap (λ os. outcome meaning ys arg t ∷ os) (outcomes_same args t parts.1)
+        ap (λ o. o ∷ outcomes xs args t) (outcome_same arg t parts.0)
+        ∙ ap (λ os. outcome ys arg t ∷ os) (outcomes_same args t parts.1)
 
   -- the value of a query at a time is the same over samples that agree between the times that it reads
-  pub value_same : (query : Tree) (t : ℤ) → IsWithin low high (times_read query t) → value_at meaning xs query t ≡ value_at meaning ys query t
+  pub value_same : (query : Tree) (t : ℤ) → IsWithin low high (times_read query t) → eval xs query t ≡ eval ys query t
   value_same query t h = ap step_cell (outcome_same query t h)
 
 -- ---- frozen steps
@@ -190,18 +190,18 @@ never_between floor r h = grind (arith, ints)
 below_floor : (floor : ℕ) (low high : ℤ) → int_lt high (pos floor) ≡ true → (r : Row) → is_between low high r ≡ true → is_before floor r ≡ true
 below_floor floor low high h r e = grind (arith, ints)
 
-module _ (meaning : List ℕ → List ℕ → List ℕ → Option (List ℕ)) (floor : ℕ) (xs ys : List Row)
+module _ (floor : ℕ) (xs ys : List Row)
     (agree : filter (is_before floor) xs ≡ filter (is_before floor) ys) where
   frozen_by : (query : Tree) (t : ℤ) (times : Option Times) → times_read query t ≡ times
-      → is_below (option_map (λ (found : Times). found.latest) times) (Some floor) ≡ true → value_at meaning xs query t ≡ value_at meaning ys query t
+      → is_below (option_map (λ (found : Times). found.latest) times) (Some floor) ≡ true → eval xs query t ≡ eval ys query t
   frozen_by query t None e h =
-      value_same meaning (pos 1) (pos 0) xs ys (same_alone (is_between (pos 1) (pos 0)) (is_before floor) (never_between floor) xs ys agree)
+      value_same (pos 1) (pos 0) xs ys (same_alone (is_between (pos 1) (pos 0)) (is_before floor) (never_between floor) xs ys agree)
       query t (subst (IsWithin (pos 1) (pos 0)) (sym e) tt)
   frozen_by query t (Some times) e h =
-      value_same meaning times.earliest times.latest xs ys
+      value_same times.earliest times.latest xs ys
       (same_alone (is_between times.earliest times.latest) (is_before floor) (below_floor floor times.earliest times.latest h) xs ys agree)
       query t (subst (IsWithin times.earliest times.latest) (sym e) (≤ℤ_refl times.earliest, ≤ℤ_refl times.latest))
 
   -- the value at a frozen step is the same over samples that agree below the floor
-  pub frozen_same : (query : Tree) (t : ℤ) → is_frozen query t (Some floor) ≡ true → value_at meaning xs query t ≡ value_at meaning ys query t
+  pub frozen_same : (query : Tree) (t : ℤ) → is_frozen query t (Some floor) ≡ true → eval xs query t ≡ eval ys query t
   frozen_same query t h = frozen_by query t (times_read query t) refl h

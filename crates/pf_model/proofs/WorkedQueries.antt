@@ -1,6 +1,14 @@
 -- Worked examples of whole queries: their values at a time, over a range, their reach and their legs.
-use Rattle.std.proofs.Common.{◌≡◌, ℕ, ℤ, pos, negsuc, true, false, List, [], ◌∷◌, ◌++◌, refl, Some, None, Option}
+use Rattle.std.proofs.Common.{◌≡◌, ℕ, ℤ, pos, negsuc, true, false, List, [], ◌∷◌, refl, Some, None, Option}
 use Rattle.std.specs.Prelude.{codes}
+use Rattle.regex_syntax.proofs.SetLemmas.{in_ranges-members}
+use Rattle.regex.proofs.OnLiterals.{regex_on_literals}
+use Rattle.regex.specs.Patterns.{holds, slot_of, find_str, has_bytes_at}
+use Rattle.regex_hir.specs.Find.{first_from}
+use Rattle.regex_hir.specs.Looks.{holds_between}
+use Rattle.regex_hir.specs.Re.{attempt, rounds}
+use Rattle.regex_hir.specs.Text.{byte_before, char_at, char_before, is_boundary}
+use Rattle.pf_match.specs.Meaning.{reading}
 use Rattle.pf_base.specs.Arithmetic.{clamp}
 use Rattle.pf_base.specs.GridLists.{GridData}
 use Rattle.pf_base.specs.LabelSets.{Pairs}
@@ -23,9 +31,10 @@ use Rattle.pf_model.specs.declared.functions.RangeFn.{RangeFn}
 use Rattle.pf_model.specs.declared.functions.RangeFn.TheVariants as range
 use Rattle.pf_model.specs.declared.functions.Sign.{Sign}
 use Rattle.pf_model.specs.declared.functions.Sign.TheVariants as sign
+use Rattle.pf_model.specs.Binding.{patterns_of}
 use Rattle.pf_model.specs.Clauses.{Matched}
 use Rattle.pf_model.specs.Direct.{Answer, MatrixRow, direct, gathered, failed}
-use Rattle.pf_model.specs.Evaluation.{eval, value_at}
+use Rattle.pf_model.specs.Evaluation.{eval}
 use Rattle.pf_model.specs.Legs.{LegsData, leg_part, grouped, bad}
 use Rattle.pf_model.specs.Reach.{reach, lowest, is_frozen}
 use Rattle.pf_model.specs.Sharding.{is_shardable, sharded_nodes, legs_over}
@@ -252,16 +261,40 @@ no_quotient_by_zero : over_grid divided (binary sign.Div (selector (codes "b")) 
 unfolding clamp
 no_quotient_by_zero = refl
 
--- `(.*)` matches each value, and `${1}` is all of it
-abbrev captured : List ℕ → List ℕ → List ℕ → Option (List ℕ)
-captured pattern value replacement = Some (value ++ codes "-y")
+-- ---- `label_replace`, with the reader of `regex`
 
-replaced :
-    value_at captured divided
-    (tree.call (Instant instant.LabelReplace)
-    (tree.more (selector (codes "a")) (tree.more (tree.text (codes "n")) (tree.more (tree.text (codes "${1}-y")) (two_args (tree.text (codes "job")) (tree.text (codes "(.*)"))))))) (pos 60000)
+-- `label_replace(NAME, "n", REPLACEMENT, "job", PATTERN)`
+abbrev replacing : List ℕ → List ℕ → List ℕ → Tree
+replacing n replacement pattern =
+    tree.call (Instant instant.LabelReplace)
+    (tree.more (selector n) (tree.more (tree.text (codes "n")) (tree.more (tree.text replacement) (two_args (tree.text (codes "job")) (tree.text pattern)))))
+
+-- `label_replace(label_replace(a, "n", "", "job", "x"), "n", "", "job", "(.*)") + label_replace(b, ..)`: the outer call's pattern comes first
+patterns_in_preorder :
+    patterns_of (binary sign.Add (tree.call (Instant instant.LabelReplace) (tree.more (replacing (codes "a") [] (codes "x")) (tree.more (tree.text (codes "n")) (tree.more (tree.text []) (two_args (tree.text (codes "job")) (tree.text (codes "(.*)"))))))) (replacing (codes "b") (codes "$1") []))
+    ≡ codes "(.*)" ∷ codes "x" ∷ [] ∷ []
+patterns_in_preorder = refl
+
+-- `(.*)` matches each value, and `${1}` is all of it
+any_value_replaced :
+    eval divided (replacing (codes "a") (codes "${1}-y") (codes "(.*)")) (pos 60000)
     ≡ Good (el ((codes "__name__", codes "a") ∷ (codes "job", codes "x") ∷ (codes "n", codes "x-y") ∷ []) (pos 6000000) ∷ [])
-replaced = refl
+unfolding regex_on_literals reading find_str first_from attempt rounds holds holds_between byte_before char_at char_before is_boundary has_bytes_at slot_of
+any_value_replaced = rw (in_ranges-members _ 120) refl
+
+-- a series whose value the pattern doesn't match stays as it is
+matching_value_replaced :
+    eval divided (replacing (codes "b") (codes "z") (codes "x|z")) (pos 60000)
+    ≡ Good (el ((codes "__name__", codes "b") ∷ (codes "job", codes "x") ∷ (codes "n", codes "z") ∷ []) (pos 4000000) ∷ el (with_job (codes "b") (codes "y")) (pos 0) ∷ [])
+unfolding regex_on_literals reading find_str first_from attempt rounds holds holds_between byte_before char_at char_before is_boundary has_bytes_at slot_of
+matching_value_replaced = refl
+
+-- a label that is taken out leaves two series with the same labels
+doubled_by_replacing :
+    eval divided (tree.call (Instant instant.LabelReplace) (tree.more (selector (codes "b")) (tree.more (tree.text (codes "job")) (tree.more (tree.text []) (two_args (tree.text (codes "job")) (tree.text (codes "x|y"))))))) (pos 60000)
+    ≡ Bad DoubleLabels
+unfolding regex_on_literals reading find_str first_from attempt rounds holds holds_between byte_before char_at char_before is_boundary has_bytes_at slot_of
+doubled_by_replacing = refl
 
 -- ---- the leftmost child's error comes first
 

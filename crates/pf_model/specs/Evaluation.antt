@@ -7,6 +7,7 @@ use Rattle.pf_base.specs.declared.plain.Row.{Row}
 use Rattle.pf_base.specs.declared.plain.Sample.{Sample}
 use Rattle.pf_base.specs.LabelSets.{Pairs}
 use Rattle.pf_base.specs.Sorting.{isort}
+use Rattle.pf_match.specs.Meaning.{expand}
 use Rattle.pf_model.specs.declared.cell.Element.{Element}
 use Rattle.pf_model.specs.declared.cell.StepCell.{StepCell}
 use Rattle.pf_model.specs.declared.expr.At.{At}
@@ -130,18 +131,18 @@ timestamps samples (tree.more (tree.select ms None mods) args) t else_value =
 timestamps samples _ t else_value = else_value
 
 -- what the pattern of `label_replace` makes of a value and a replacement
-abbrev pub expansion_by : (List ℕ → List ℕ → List ℕ → Option (List ℕ)) → Option (List ℕ) → List ℕ → List ℕ → Option (List ℕ)
-expansion_by meaning None value replacement = None
-expansion_by meaning (Some pattern) value replacement = meaning pattern value replacement
+abbrev pub expansion_by : Option (List ℕ) → List ℕ → List ℕ → Option (List ℕ)
+expansion_by None value replacement = None
+expansion_by (Some pattern) value replacement = expand pattern value replacement
 
-module _ (meaning : List ℕ → List ℕ → List ℕ → Option (List ℕ)) (samples : List Row) where
+module _ (samples : List Row) where
   -- what a call has beside its vector; the pattern of `label_replace` is its fourth text
   abbrev pub beside : Trees → List Outcome → ℤ → Beside
   beside args os t = record {
     time = t;
     scalars = scalars_of os;
     texts = texts_of os;
-    expand = expansion_by meaning (at (texts_of os) 3);
+    expand = expansion_by (at (texts_of os) 3);
     absent = absent_of args;
   }
 
@@ -173,12 +174,5 @@ module _ (meaning : List ℕ → List ℕ → List ℕ → Option (List ℕ)) (s
     outcomes (tree.more arg args) t = outcome arg t ∷ outcomes args t
 
   -- the value of a query at a time
-  abbrev pub value_at : Tree → ℤ → StepCell
-  value_at query t = step_cell (outcome query t)
-
--- no form of query that is built today has `label_replace`: the meaning of its patterns is not defined yet
-abbrev pub no_meaning : List ℕ → List ℕ → List ℕ → Option (List ℕ)
-no_meaning pattern value replacement = None
-
-abbrev pub eval : List Row → Tree → ℤ → StepCell
-eval = value_at no_meaning
+  abbrev pub eval : Tree → ℤ → StepCell
+  eval query t = step_cell (outcome query t)

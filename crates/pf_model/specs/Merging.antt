@@ -12,7 +12,7 @@ use Rattle.pf_model.specs.declared.functions.AggOp.{AggOp}
 use Rattle.pf_model.specs.declared.functions.AggOp.TheVariants.{Sum, Avg, Min, Max, Count}
 use Rattle.pf_model.specs.Cells.{distinct}
 use Rattle.pf_model.specs.Clauses.{Grouped}
-use Rattle.pf_model.specs.Evaluation.{called, eval, no_meaning}
+use Rattle.pf_model.specs.Evaluation.{called, eval}
 use Rattle.pf_model.specs.Legs.{LegsData, leg_part, GroupPart, PartData, grouped, bad, node_part, of_shard}
 use Rattle.pf_model.specs.Lists.{at}
 use Rattle.pf_model.specs.Outcomes.{Outcome, scalar, elements, text, signed, operation, aggregation, of_cell, step_cell}
@@ -104,7 +104,7 @@ abbrev mutual
   merged_outcome cells n (tree.unary minus arg) t = signed minus (merged_outcome cells (n + 1) arg t)
   merged_outcome cells n (tree.binary op m left right) t =
       operation op m (merged_outcome cells (n + 1) left t) (merged_outcome cells (n + 1 + size left) right t)
-  merged_outcome cells n (tree.call f args) t = called no_meaning [] f args (merged_outcomes cells (n + 1) args t) t
+  merged_outcome cells n (tree.call f args) t = called [] f args (merged_outcomes cells (n + 1) args t) t
   merged_outcome cells n (tree.aggregate op g args) t =
       cond (is_sharded (tree.aggregate op g args)) (of_cell (cells n)) (aggregation op g (merged_outcomes cells (n + 1) args t))
   merged_outcome cells n (tree.select ms range mods) t = elements []
