@@ -15,5 +15,5 @@ pub use expr::{
 };
 pub use functions::{AggOp, InstantFn, RangeFn, Sign};
 pub use lines::next_line;
-pub use matchers::{MatchError, Matchers};
+pub use matchers::{MatchError, Matchers, is_plain};
 pub use words::{aggregation_word, function_name, match_text, operator_text};

@@ -1,6 +1,7 @@
 //! Matchers that series are selected by.
 
-ghost use Rattle.std.specs.Prelude.{◌≡◌, ◌↔◌, IfOk, true, false};
+ghost use Rattle.std.specs.Prelude.{◌≡◌, ◌↔◌, ◌<◌, IfOk, length, slice_index_or, true, false};
+ghost use Rattle.pf_model.specs.declared.expr.Matcher.{Matcher};
 ghost use Rattle.pf_model.specs.Patterns.{is_like, is_plain, is_plain_byte};
 ghost use Rattle.pf_model.specs.Selection.{accepts, accepts_empty, all_plain, has_meaning, holds};
 
@@ -73,7 +74,7 @@ impl MatchSign {
 }
 
 /// Whether a pattern is alternatives of ASCII letters, digits, `_`, `-`, `:` and `/` with `|` between them.
-fn is_plain(pattern: &str) -> bool
+pub fn is_plain(pattern: &str) -> bool
     ensures { result ≡ is_plain pattern.now }
 {
     pattern
@@ -124,6 +125,21 @@ impl Matchers {
         Ok(Matchers {
             items: matchers.clone()?,
         })
+    }
+
+    /// The number of matchers.
+    pub fn count(&self) -> usize
+        ensures { result ≡ length self.now }
+    {
+        self.items.len()
+    }
+
+    /// The matcher at a place.
+    pub fn matcher(&self, i: usize) -> &Matcher
+        requires { i < length self.now }
+        ensures { (d : Matcher) → result.now ≡ slice_index_or self.now i d }
+    {
+        &self.items[i]
     }
 
     /// Whether each matcher holds of the value of its label.
