@@ -1,0 +1,67 @@
+-- Series with their ids: in label order, and each id that of a series.
+use Rattle.std.proofs.Common.{◌≡◌, ℕ, ◌+◌, ◌<◌, ◌≤◌, Bool, true, false, cond, List, [], ◌∷◌, map, length, get_or, ap, ◌∙◌, arith}
+use Rattle.std.specs.List.{All}
+use Rattle.std.specs.List.Sorted.{IsPermutation, IsSorted}
+use Rattle.std.specs.Cmp.{IsTotalOrder, then_total, on_total, nat_cmp_total}
+use Rattle.std.specs.Ordering.{is_lt, nat_cmp}
+use Rattle.std.specs.declared.cmp.Ordering.TheVariants.{Equal}
+use Rattle.std.proofs.lemmas.List.{get_or-map, length-map}
+use Rattle.std.proofs.lemmas.List.Elements.{All-cons, All-head, All-map, All-nil, All-tail}
+use Rattle.std.proofs.lemmas.List.Sorted.{IsPermutation-map}
+use Rattle.std.proofs.lemmas.Map.Lookups.{exact_pairs, exact_unsigned}
+use Rattle.pf_base.specs.LabelSets.{Pairs}
+use Rattle.pf_base.specs.LabelOrder.{labels_cmp, labels_exact, labels_total}
+use Rattle.pf_base.specs.Sorting.{isort}
+use Rattle.pf_base.proofs.Sorting.{All-ins, sorted_is}
+use Rattle.pf_model.specs.declared.expr.Matcher.{Matcher}
+use Rattle.pf_model.specs.Binding.{accepted_from, accepted_ids, accepted_of, series_cmp}
+use Rattle.pf_model.specs.Selection.{accepts}
+
+abbrev Entry : Type 0
+Entry = Pairs × ℕ
+
+series_total : IsTotalOrder series_cmp
+series_total = then_total (on_total (λ (e : Entry). e.0) labels_total) (on_total (λ (e : Entry). e.1) nat_cmp_total)
+
+series_exact : (a b : Entry) → series_cmp a b ≡ Equal → a ≡ b
+series_exact = exact_pairs labels_cmp nat_cmp labels_exact exact_unsigned
+
+sorted_map : {X : Type 0} (view : X → Entry) (xs : List X) (x : X) → IsSorted (λ a b. series_cmp (view a) (view b)) xs → IsSorted series_cmp (map view xs)
+sorted_map view xs x s k d l h =
+    let n : length (map view xs) ≡ length xs = length-map xs view in
+    ap (λ e. is_lt (series_cmp e (get_or (map view xs) k d))) (get_or-map view xs (k + 1) x d (omega (arith, n, h)))
+    ∙ ap (λ e. is_lt (series_cmp (view (get_or xs (k + 1) x)) e)) (get_or-map view xs k x d (omega (arith, n, h)))
+    ∙ s k x l (omega (arith, n, h))
+
+sorted_views : {X : Type 0} (view : X → Entry) (xs : List X) → IsSorted (λ a b. series_cmp (view a) (view b)) xs → IsSorted series_cmp (map view xs)
+sorted_views view [] s = λ k d l h. absurd (omega (arith, h))
+sorted_views view (x ∷ xs) s = sorted_map view (x ∷ xs) x s
+
+-- what a sort of series ensures
+pub in_order : {X : Type 0} (view : X → Entry) (xs ys : List X) → IsPermutation xs ys → IsSorted (λ a b. series_cmp (view a) (view b)) ys → map view ys ≡ isort series_cmp (map view xs)
+in_order view xs ys p s = sorted_is series_cmp series_total series_exact (map view xs) (map view ys) (IsPermutation-map view xs ys p) (sorted_views view ys s)
+
+-- ---- the ids of accepted series
+
+abbrev IsIn : ℕ → Entry → Type 0
+IsIn n e = e.1 < n
+
+within_by : (n first : ℕ) (l : Pairs) (b : Bool) (es : List Entry) → first < n → All (IsIn n) es → All (IsIn n) (cond b ((l, first) ∷ es) es)
+within_by n first l true es h a = All-cons (IsIn n) (l, first) es h a
+within_by n first l false es h a = a
+
+within_from : (n first : ℕ) (ms : List Matcher) (ls : List Pairs) → first + length ls ≤ n → All (IsIn n) (accepted_from first ms ls)
+within_from n first ms [] h = All-nil (IsIn n)
+within_from n first ms (l ∷ ls) h =
+    within_by n first l (accepts ms l) (accepted_from (first + 1) ms ls) (omega (arith, h)) (within_from n (first + 1) ms ls (omega (arith, h)))
+
+within_sorted : (n : ℕ) (es : List Entry) → All (IsIn n) es → All (IsIn n) (isort series_cmp es)
+within_sorted n [] a = a
+within_sorted n (e ∷ es) a =
+    All-ins series_cmp series_total (IsIn n) e (isort series_cmp es) (All-head (IsIn n) e es a) (within_sorted n es (All-tail (IsIn n) e es a))
+
+-- each is the id of a series
+pub ids_within : (ms : List Matcher) (ls : List Pairs) → All (λ id. id < length ls) (accepted_ids ms ls)
+ids_within ms ls =
+    All-map (λ id. id < length ls) (λ (e : Entry). e.1) (isort series_cmp (accepted_of ms ls))
+    (within_sorted (length ls) (accepted_of ms ls) (within_from (length ls) 0 ms ls (omega arith)))

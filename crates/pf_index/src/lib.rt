@@ -1,0 +1,6 @@
+//! The series of a snapshot that matchers accept.
+#![tactic(auto)]
+
+mod selection;
+
+pub use selection::{select, select_all};
