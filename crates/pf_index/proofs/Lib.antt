@@ -1,1 +1,3 @@
+pub mod Covered
 pub mod Entries
+pub mod Listed

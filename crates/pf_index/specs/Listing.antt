@@ -1,7 +1,8 @@
--- The values that a matcher asks for, and the series of a list that are accepted: this project's own.
-use Rattle.std.specs.Prelude.{ℕ, cond, List, [], ◌∷◌, map, slice_index_or}
-use Rattle.std.specs.List.{list_any}
+-- The values that a matcher asks for, and the series that have one of them. This project's own.
+use Rattle.std.specs.Prelude.{◌≡◌, ℕ, ◌+◌, ◌<◌, ◌≤◌, ◌++◌, true, Bool, cond, List, [], ◌∷◌, map, length, slice_index_or}
+use Rattle.std.specs.List.{All, Contains, list_any}
 use Rattle.pf_base.specs.LabelSets.{Pairs, is_empty}
+use Rattle.pf_block.specs.SeriesIds.{has_pair, ids_with}
 use Rattle.pf_model.specs.declared.expr.Matcher.{Matcher}
 use Rattle.pf_model.specs.declared.expr.MatchSign.{MatchSign}
 use Rattle.pf_model.specs.declared.expr.MatchSign.TheVariants.{Equal, Like}
@@ -22,15 +23,36 @@ values_of sign text = []
 abbrev pub listed_values : Matcher → List (List ℕ)
 listed_values m = unless_empty (values_of m.sign m.text)
 
+-- the lists of some values of a label, one after another
+abbrev pub all_listed : List ℕ → List (List ℕ) → List Pairs → List ℕ
+all_listed name [] ls = []
+all_listed name (v ∷ vs) ls = ids_with name v ls ++ all_listed name vs ls
+
 -- the labels of a series
 abbrev pub labels_at : List Pairs → ℕ → Pairs
 labels_at ls id = slice_index_or ls id []
 
--- the accepted ones of the series with these ids
+-- a label set has one of some values of a label
+abbrev pub has_one : List ℕ → List (List ℕ) → Pairs → Bool
+has_one name values labels = list_any (λ v. has_pair name v labels) values
+
+-- each is above the one before it, and the first is at least n
+abbrev pub RisesFrom : ℕ → List ℕ → Type 0
+RisesFrom n [] = Unit {0}
+RisesFrom n (id ∷ ids) = (n ≤ id) × RisesFrom (id + 1) ids
+
+-- ids of series by rising id, among them each series that has one of the values
+pub record AreListed (name : List ℕ) (values : List (List ℕ)) (ls : List Pairs) (ids : List ℕ) : Type 0 where
+  pub rising : RisesFrom 0 ids
+  pub within : All (λ id. id < length ls) ids
+  pub each : (id : ℕ) → id < length ls → has_one name values (labels_at ls id) ≡ true → Contains ids id
+
+-- the accepted ones of the series with some ids
 abbrev pub accepted_among : List Matcher → List Pairs → List ℕ → List (Pairs × ℕ)
 accepted_among ms ls [] = []
 accepted_among ms ls (id ∷ ids) =
     cond (accepts ms (labels_at ls id)) ((labels_at ls id, id) ∷ accepted_among ms ls ids) (accepted_among ms ls ids)
 
+-- the ids of some series
 abbrev pub ids_of : List (Pairs × ℕ) → List ℕ
 ids_of series = map (λ e. e.1) series

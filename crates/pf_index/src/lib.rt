@@ -1,6 +1,7 @@
 //! The series of a snapshot that matchers accept.
 #![tactic(auto)]
 
+mod listing;
 mod selection;
 
 pub use selection::{select, select_all};

@@ -1,12 +1,15 @@
 //! The accepted series in label order.
 
-ghost use Rattle.std.specs.Prelude.{◌≡◌, ◌<◌, List, IfOk, length, map};
+ghost use Rattle.std.specs.Prelude.{◌≡◌, ◌<◌, IfOk, length, map, true};
 ghost use Rattle.std.specs.List.{All};
+ghost use Rattle.pf_base.specs.LabelSets.{Pairs};
 ghost use Rattle.pf_base.specs.Sorting.{isort};
-ghost use Rattle.pf_index.specs.Listing.{ids_of};
+ghost use Rattle.pf_index.specs.Listing.{accepted_among, has_one, ids_of};
 ghost use Rattle.pf_model.specs.Binding.{accepted_ids, accepted_of, bound_series, selectors_of, series_cmp};
+ghost use Rattle.pf_model.specs.Selection.{accepts};
 ghost use Rattle.pf_model.specs.Trees.{Tree};
 
+use crate::listing::{listed_ids, listed_values, shortest};
 use pf_base::{Labels, OutOfMemory};
 use pf_block::Snap;
 use pf_model::Matchers;
@@ -42,6 +45,66 @@ pub fn select_all(
 
 /// The series that matchers accept, by rising id.
 fn accepted<'a>(
+    alloc: Global,
+    snap: &'a Snap,
+    matchers: &Matchers,
+) -> Result<Vec<(&'a Labels, u32)>, OutOfMemory>
+    ensures { IfOk result (λ v. map (λ e. (e.0.now, e.1)) v.items ≡ accepted_of matchers.now snap.now.labels) }
+{
+    if let Some(place) = shortest(snap, matchers) {
+        let matcher = matchers.matcher(place);
+        let values = listed_values(alloc, matcher)?;
+        if !values.is_empty() {
+            let found = accepted_with(alloc, snap, matchers, matcher.label.as_str(), &values)?;
+            return Ok(found);
+        }
+    }
+    let found = accepted_of_all(alloc, snap, matchers)?;
+    Ok(found)
+}
+
+/// The same, where each of them has one of some values of a label.
+fn accepted_with<'a>(
+    alloc: Global,
+    snap: &'a Snap,
+    matchers: &Matchers,
+    name: &str,
+    values: &[&str],
+) -> Result<Vec<(&'a Labels, u32)>, OutOfMemory>
+    requires { (l : Pairs) → accepts matchers.now l ≡ true → has_one name.now (map (λ x. x.now) values.now) l ≡ true }
+    ensures { IfOk result (λ v. map (λ e. (e.0.now, e.1)) v.items ≡ accepted_of matchers.now snap.now.labels) }
+{
+    if let [value] = values {
+        let found = accepted_among(alloc, snap, matchers, snap.postings(name, value))?;
+        return Ok(found);
+    }
+    let ids = listed_ids(alloc, snap, name, values)?;
+    let found = accepted_among(alloc, snap, matchers, &ids)?;
+    Ok(found)
+}
+
+/// Those of some series that matchers accept.
+fn accepted_among<'a>(
+    alloc: Global,
+    snap: &'a Snap,
+    matchers: &Matchers,
+    ids: &[u32],
+) -> Result<Vec<(&'a Labels, u32)>, OutOfMemory>
+    requires { All (λ id. id < length snap.now.labels) ids.now }
+    ensures { IfOk result (λ v. map (λ e. (e.0.now, e.1)) v.items ≡ accepted_among matchers.now snap.now.labels ids.now) }
+{
+    let mut series = Vec::new(alloc);
+    for id in ids {
+        let labels = snap.labels(*id);
+        if matchers.accepts(labels)? {
+            series.push((labels, *id))?;
+        }
+    }
+    Ok(series)
+}
+
+/// Those of all series that matchers accept.
+fn accepted_of_all<'a>(
     alloc: Global,
     snap: &'a Snap,
     matchers: &Matchers,

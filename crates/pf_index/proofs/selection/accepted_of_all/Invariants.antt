@@ -1,6 +1,6 @@
 use Rattle.std.proofs.Common.{◌≡◌, ◌++◌, map, drop}
 use Rattle.pf_model.specs.Binding.{accepted_from, accepted_of}
-use Rattle.pf_index.proofs.selection.accepted.Given as goal
+use Rattle.pf_index.proofs.selection.accepted_of_all.Given as goal
 
 abbrev pub invariant-loop-id : goal.invariant-loop-id
 invariant-loop-id l =

@@ -1,0 +1,110 @@
+-- The series that have one of some values of a label, by their ids.
+use Rattle.std.proofs.Common.{◌≡◌, ℕ, zero, suc, ◌+◌, ◌<◌, ◌≤◌, Bool, true, false, cond, ◌||◌, List, [], ◌∷◌, ◌++◌, length, get_or, eqb, refl, sym, arith, subst, add-one}
+use Rattle.std.specs.List.{All, Contains, dedup}
+use Rattle.std.specs.List.Sorted.{IsPermutation, IsSorted, IsStrictlyIncreasing}
+use Rattle.std.specs.Ordering.{nat_cmp}
+use Rattle.std.proofs.lemmas.List.Elements.{All-append, All-cons, All-nil, Contains-append_left, Contains-append_right, Contains-get_or}
+use Rattle.std.proofs.lemmas.List.Filters.{All-dedup}
+use Rattle.std.proofs.lemmas.List.Kept.{Contains-dedup_nat}
+use Rattle.std.proofs.lemmas.List.Sorted.{All-permutation, Contains-permutation}
+use Rattle.std.proofs.lemmas.Map.Keys.{IsStrictlyIncreasing-dedup}
+use Rattle.pf_base.specs.LabelSets.{Pairs}
+use Rattle.pf_block.specs.SeriesIds.{has_pair, ids_from, ids_with}
+use Rattle.pf_index.specs.Listing.{AreListed, RisesFrom, all_listed, has_one, labels_at}
+
+-- ---- one list
+
+within_by : (n first : ℕ) (b : Bool) (ids : List ℕ) → first < n → All (λ id. id < n) ids → All (λ id. id < n) (cond b (first ∷ ids) ids)
+within_by n first true ids h a = All-cons (λ id. id < n) first ids h a
+within_by n first false ids h a = a
+
+within_from : (n first : ℕ) (name value : List ℕ) (ls : List Pairs) → first + length ls ≤ n → All (λ id. id < n) (ids_from first name value ls)
+within_from n first name value [] h = All-nil (λ id. id < n)
+within_from n first name value (l ∷ ls) h =
+    within_by n first (has_pair name value l) (ids_from (first + 1) name value ls) (omega (arith, h))
+    (within_from n (first + 1) name value ls (omega (arith, h)))
+
+rises_lower : (n m : ℕ) (ids : List ℕ) → n ≤ m → RisesFrom m ids → RisesFrom n ids
+rises_lower n m [] h r = tt
+rises_lower n m (id ∷ ids) h r = (omega (arith, h, r.0), r.1)
+
+rises_by : (n : ℕ) (b : Bool) (ids : List ℕ) → RisesFrom (n + 1) ids → RisesFrom n (cond b (n ∷ ids) ids)
+rises_by n true ids r = (omega arith, r)
+rises_by n false ids r = rises_lower n (n + 1) ids (omega arith) r
+
+rises_from : (first : ℕ) (name value : List ℕ) (ls : List Pairs) → RisesFrom first (ids_from first name value ls)
+rises_from first name value [] = tt
+rises_from first name value (l ∷ ls) = rises_by first (has_pair name value l) (ids_from (first + 1) name value ls) (rises_from (first + 1) name value ls)
+
+first_in : (n : ℕ) (b : Bool) (ids : List ℕ) → b ≡ true → Contains (cond b (n ∷ ids) ids) n
+first_in n true ids e = Contains-get_or (n ∷ ids) 0 0 (omega arith)
+first_in n false ids e = cc
+
+rest_in : (n m : ℕ) (b : Bool) (ids : List ℕ) → Contains ids m → Contains (cond b (n ∷ ids) ids) m
+rest_in n m true ids h = Contains-append_right (n ∷ []) ids m h
+rest_in n m false ids h = h
+
+each_from : (first k : ℕ) (name value : List ℕ) (ls : List Pairs) → k < length ls → has_pair name value (labels_at ls k) ≡ true → Contains (ids_from first name value ls) (first + k)
+each_from first k name value [] l h = absurd (omega (arith, l))
+each_from first zero name value (x ∷ ls) l h =
+    let e : first ≡ first + 0 = omega arith in
+    subst (Contains (ids_from first name value (x ∷ ls))) e (first_in first (has_pair name value x) (ids_from (first + 1) name value ls) h)
+each_from first (suc k) name value (x ∷ ls) l h =
+    let e : (first + 1) + k ≡ first + suc k = omega arith in
+    rest_in first (first + suc k) (has_pair name value x) (ids_from (first + 1) name value ls)
+    (subst (Contains (ids_from (first + 1) name value ls)) e (each_from (first + 1) k name value ls (omega (arith, l)) h))
+
+zero_plus : (n : ℕ) → 0 + n ≡ n
+zero_plus n = omega arith
+
+one_by : (b : Bool) → (b || false) ≡ true → b ≡ true
+one_by true h = refl
+one_by false h = h
+
+-- the list of one value
+pub one_listed : (name value : List ℕ) (values : List (List ℕ)) (ls : List Pairs) → values ≡ value ∷ [] → AreListed name values ls (ids_with name value ls)
+one_listed name value values ls e = subst (λ vs. AreListed name vs ls (ids_with name value ls)) (sym e) (record {
+  rising = rises_from 0 name value ls;
+  within = within_from (length ls) 0 name value ls (omega arith);
+  each = λ id l h. subst (Contains (ids_with name value ls)) (zero_plus id) (each_from 0 id name value ls l (one_by (has_pair name value (labels_at ls id)) h));
+})
+
+-- ---- several lists
+
+all_within : (name : List ℕ) (values : List (List ℕ)) (ls : List Pairs) → All (λ id. id < length ls) (all_listed name values ls)
+all_within name [] ls = All-nil (λ id. id < length ls)
+all_within name (v ∷ vs) ls =
+    All-append (λ id. id < length ls) (ids_with name v ls) (all_listed name vs ls) (within_from (length ls) 0 name v ls (omega arith)) (all_within name vs ls)
+
+each_by : (name v : List ℕ) (ls : List Pairs) (id : ℕ) (rest : List ℕ) (b others : Bool) → id < length ls → has_pair name v (labels_at ls id) ≡ b
+    → (others ≡ true → Contains rest id) → (b || others) ≡ true → Contains (ids_with name v ls ++ rest) id
+each_by name v ls id rest true others l e f h = Contains-append_left (ids_with name v ls) rest id (subst (Contains (ids_with name v ls)) (zero_plus id) (each_from 0 id name v ls l e))
+each_by name v ls id rest false others l e f h = Contains-append_right (ids_with name v ls) rest id (f h)
+
+all_each : (name : List ℕ) (values : List (List ℕ)) (ls : List Pairs) (id : ℕ) → id < length ls → has_one name values (labels_at ls id) ≡ true → Contains (all_listed name values ls) id
+all_each name [] ls id l h = cc
+all_each name (v ∷ vs) ls id l h =
+    each_by name v ls id (all_listed name vs ls) (has_pair name v (labels_at ls id)) (has_one name vs (labels_at ls id)) l refl (all_each name vs ls id l) h
+
+-- numbers that increase
+on_tail : (id : ℕ) (ids : List ℕ) (k : ℕ) → get_or (id ∷ ids) (suc k) 0 < get_or (id ∷ ids) (suc k + 1) 0 → get_or ids k 0 < get_or ids (k + 1) 0
+on_tail id ids k h = simp add-one (simp add-one at h)
+
+next_above : (id : ℕ) (ids : List ℕ) → id < get_or (id ∷ ids) (0 + 1) 0 → id + 1 ≤ get_or ids 0 0
+next_above id ids h = omega (arith, h)
+
+rises_on : (n : ℕ) (ids : List ℕ) → IsStrictlyIncreasing ids → (0 < length ids → n ≤ get_or ids 0 0) → RisesFrom n ids
+rises_on n [] s h = tt
+rises_on n (id ∷ ids) s h =
+    (h (omega arith), rises_on (id + 1) ids (λ k l. on_tail id ids k (s (suc k) (omega (arith, l)))) (λ l. next_above id ids (s 0 (omega (arith, l)))))
+
+-- what a sort and `dedup` leave of the lists
+pub sorted_listed : (name : List ℕ) (values : List (List ℕ)) (ls : List Pairs) (xs ys zs : List ℕ) → xs ≡ all_listed name values ls → IsPermutation xs ys → IsSorted nat_cmp ys
+    → zs ≡ dedup eqb ys → AreListed name values ls zs
+sorted_listed name values ls xs ys zs e p s d = record {
+  rising = subst (RisesFrom 0) (sym d) (rises_on 0 (dedup eqb ys) (IsStrictlyIncreasing-dedup ys s) (λ l. omega arith));
+  within = subst (All (λ id. id < length ls)) (sym d)
+      (All-dedup eqb (λ id. id < length ls) ys (All-permutation (λ id. id < length ls) xs ys p (subst (All (λ id. id < length ls)) (sym e) (all_within name values ls))));
+  each = λ id l h. subst (λ ids. Contains ids id) (sym d)
+      (Contains-dedup_nat ys id (Contains-permutation xs ys id p (subst (λ ids. Contains ids id) (sym e) (all_each name values ls id l h))));
+}
