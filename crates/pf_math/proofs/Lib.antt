@@ -1,0 +1,4 @@
+pub mod EachFunction
+pub mod Euclid
+pub mod Joining
+pub mod Signs

@@ -1,0 +1,4 @@
+pub mod Arguments
+pub mod EachValue
+pub mod Neighbours
+pub mod Relabelling
