@@ -1,4 +1,9 @@
 pub mod EachFunction
+pub mod EachLabels
+pub mod ElementOrder
 pub mod Euclid
+pub mod Instants
+pub mod JoinedValues
 pub mod Joining
+pub mod Repeats
 pub mod Signs

@@ -1,4 +1,5 @@
 pub mod Arguments
 pub mod EachValue
+pub mod LabelTexts
 pub mod Neighbours
 pub mod Relabelling

@@ -4,7 +4,11 @@ use Rattle.pf_base.specs.LabelSets.{Pairs, is_label_name, value_of}
 use Rattle.pf_model.specs.declared.cell.Element.{Element}
 use Rattle.pf_model.specs.declared.functions.InstantFn.{InstantFn}
 use Rattle.pf_model.specs.declared.functions.InstantFn.TheVariants.{LabelReplace, LabelJoin}
+use Rattle.pf_match.specs.Meaning.{expand}
 use Rattle.pf_model.specs.InstantFunctions.{Beside, instant_function, joined_by, relabelled}
+use Rattle.pf_math.specs.declared.relabelling.Relabelling.{Relabelling}
+use Rattle.pf_math.specs.declared.relabelling.Relabelling.TheVariants as relabelling
+use Rattle.pf_math.specs.LabelTexts.{ReplacementData, JoinData}
 
 abbrev pub is_relabelling : InstantFn → Bool
 is_relabelling LabelReplace = true
@@ -47,3 +51,15 @@ abbrev pub has_lawful_target : InstantFn → List (List ℕ) → Bool
 has_lawful_target LabelReplace texts = begins_with_name texts
 has_lawful_target LabelJoin texts = begins_with_name texts
 has_lawful_target f texts = true
+
+-- what is done to one label set
+abbrev pub replaces : ReplacementData → Pairs → Pairs
+replaces r labels = relabelled r.target (expand r.pattern (value_of labels r.source) r.template) labels
+
+abbrev pub joins : JoinData → Pairs → Pairs
+joins j labels = relabelled j.target (Some (joined_values j.separator j.sources labels)) labels
+
+abbrev pub relabels : Relabelling → Pairs → Pairs
+relabels (relabelling.Replace r) labels = replaces r labels
+relabels (relabelling.Join j) labels = joins j labels
+relabels relabelling.Keep labels = labels

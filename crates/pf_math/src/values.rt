@@ -22,29 +22,18 @@ pub enum Change {
     /// 1, 0 or -1.
     Sgn,
     /// To the nearest multiple, ties upward. There is none of 0.
-    Round {
-        to: Value,
-    },
+    Round { to: Value },
     /// Moved into the bounds. Nothing where they are crossed.
-    Clamp {
-        low: Value,
-        high: Value,
-    },
-    ClampMin {
-        low: Value,
-    },
-    ClampMax {
-        high: Value,
-    },
+    Clamp { low: Value, high: Value },
+    ClampMin { low: Value },
+    ClampMax { high: Value },
     /// This value in place of each.
-    Put {
-        value: Value,
-    },
+    Put { value: Value },
     /// No value: a scalar of the call has none.
     Remove,
 }
 
-/// The value without its sign turned, or with.
+/// The value with its sign turned, as a unary minus has it.
 #[tactic(auto, using(crate::proofs::Signs::negated_is))]
 pub fn negated(value: Value) -> Value
     ensures { result ≡ neg_ℤ value }
@@ -137,7 +126,9 @@ fn rounded(to: Value, value: Value) -> Option<Value>
     if to == 0 {
         return None;
     }
-    Some(Value::new(multiple(by_twice(twice_and(value, to), to), to)))
+    let sum = twice_and(value, to);
+    let count = by_twice(sum, to);
+    Some(Value::new(multiple(count, to)))
 }
 
 fn less(a: Value, b: Value) -> Value
@@ -238,10 +229,10 @@ impl Change {
     }
 
     /// What it makes of a value.
-    pub fn value(self, value: Value) -> Option<Value>
-        ensures { result ≡ changed self value }
+    pub fn value(&self, value: Value) -> Option<Value>
+        ensures { result ≡ changed self.now value }
     {
-        match self {
+        match *self {
             Change::Abs => Some(absolute(value)),
             Change::Ceil => Some(ceil(value)),
             Change::Floor => Some(floor(value)),

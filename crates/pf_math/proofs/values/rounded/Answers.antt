@@ -6,7 +6,7 @@ use Rattle.pf_math.proofs.values.rounded.Goals as goal
 pub returns : goal.returns
 returns c =
     ap Some c.new.ensures
-    ∙ rounded_from (unsigned_abs c.args.to) c.args.value c.size_of-to.result c.twice_and.result c.by_twice.result c.multiple.result c.if-to-eq0.false
-    (record { sfits = c.size_of-to.type_inv }) (record { sfits = c.twice_and.type_inv })
-    (record { sfits = c.by_twice.type_inv }) (record { sfits = c.multiple.type_inv })
-    c.size_of-to.ensures.size c.twice_and.ensures.sum c.by_twice.ensures.quotient c.multiple.ensures
+    ∙ rounded_from (unsigned_abs c.args.to) c.args.value c.size_of-to.result c.twice_and-sum.result c.by_twice-count.result c.multiple.result c.if-to-eq0.false
+    (record { sfits = c.size_of-to.type_inv }) (record { sfits = c.twice_and-sum.type_inv })
+    (record { sfits = c.by_twice-count.type_inv }) (record { sfits = c.multiple.type_inv })
+    c.size_of-to.ensures.size c.twice_and-sum.ensures.sum c.by_twice-count.ensures.quotient c.multiple.ensures
