@@ -1,7 +1,6 @@
 -- What a call has beside its vector, as the definitions read it.
 use Rattle.std.specs.Prelude.{ℕ, ℤ, Option, List}
 use Rattle.pf_base.specs.LabelSets.{Pairs}
-use Rattle.pf_match.specs.Meaning.{expand}
 use Rattle.pf_model.specs.Evaluation.{expansion_by}
 use Rattle.pf_model.specs.InstantFunctions.{Beside}
 
@@ -15,7 +14,7 @@ pub record ArgsData : Type 0 where
 
 -- what a pattern makes of a value and a replacement; no pattern matches nothing
 abbrev pub expansion : Option (List ℕ) → List ℕ → List ℕ → Option (List ℕ)
-expansion pattern = expansion_by expand pattern
+expansion pattern = expansion_by pattern
 
 abbrev pub beside : ArgsData → Beside
 beside a = record {
