@@ -4,6 +4,7 @@ pub mod Ids
 pub mod Keeping
 mod Merging
 mod Numbering
+mod Runs
 mod Pairing
 mod SortedEntries
 mod Canonical

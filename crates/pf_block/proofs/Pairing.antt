@@ -1,16 +1,18 @@
 -- Ids and samples side by side.
-use Rattle.std.proofs.Common.{◌≡◌, ℕ, zero, suc, ◌+◌, ◌-◌, ◌<◌, ◌≤◌, ℤ, Bool, true, false, cond, ◌&&◌, ◌||◌, List, [], ◌∷◌, ◌++◌, length, map, take, drop, get_or, refl, sym, ap, ◌∙◌, arith, append_assoc}
+use Rattle.std.proofs.Common.{◌≡◌, ℕ, zero, suc, ◌+◌, ◌-◌, ◌<◌, ◌≤◌, ℤ, Bool, true, false, cond, ◌&&◌, ◌||◌, List, [], ◌∷◌, ◌++◌, length, map, take, drop, get_or, refl, sym, ap, ◌∙◌, arith, append_assoc, subst}
 use Rattle.std.specs.Prelude.{int_le, nat_eq, nat_lt, nat_le}
-use Rattle.std.specs.List.{AllWithin, filter}
-use Rattle.std.specs.List.Sorted.{IsPartitionedBy}
+use Rattle.std.specs.List.{filter}
 use Rattle.std.specs.Cmp.{first_so, second_so}
 use Rattle.std.proofs.lemmas.Int.{ints}
 use Rattle.std.proofs.lemmas.List.{length-append, length-drop}
 use Rattle.std.proofs.Math.Seq.{take-length}
 use Rattle.std.proofs.lemmas.Bool.Decides.{nat_tests}
 use Rattle.pf_base.specs.declared.plain.Sample.{Sample}
-use Rattle.pf_block.specs.Blocks.{AreRising, Entries, ascends, ascends_after, count_by, entry_of, is_left, is_upto, leads, merged, no_entry, paired, samples_in}
+use Rattle.pf_block.specs.Blocks.{Entries, ascends, ascends_after, entry_of, is_left, is_upto, leads, merged, no_entry, samples_in}
+use Rattle.pf_block.specs.Runs.{are_runs, count_by, laid, last_run, paired, run_end, run_noted, spread}
+use Rattle.pf_block.proofs.Runs.{id_at, last_spread, noted_runs, noted_spread, places_are, runs_last, spread_length}
 use Rattle.pf_block.proofs.Canonical.{ascends_behind}
+use Rattle.pf_block.proofs.Searches.{both}
 use Rattle.pf_block.proofs.Merging.{merged_first, merged_lesser, merged_greater}
 
 pub paired_length : (is : List ℕ) (ss : List Sample) → length is ≡ length ss → length (paired is ss) ≡ length ss
@@ -37,10 +39,6 @@ drop_at k [] d l = absurd (omega arith)
 drop_at zero (x ∷ xs) d l = refl
 drop_at (suc k) (x ∷ xs) d l = drop_at k xs d (omega arith)
 
-drop_all : {X : Type 0} (xs : List X) → drop (length xs) xs ≡ []
-drop_all [] = refl
-drop_all (x ∷ xs) = drop_all xs
-
 drop_past : {X : Type 0} (k : ℕ) (xs : List X) → length xs ≤ k → drop k xs ≡ []
 drop_past k [] l = drop_none k
   where
@@ -56,6 +54,10 @@ get_same zero (x ∷ es) d e l = refl
 get_same (suc k) (x ∷ es) d e l = get_same k es d e (omega arith)
 
 -- ---- the ids of a sorted block
+
+-- ids that don't fall
+abbrev AreRising : List ℕ → Type 0
+AreRising ids = (i j d : ℕ) → i ≤ j → j < length ids → get_or ids i d ≤ get_or ids j d
 
 below_rest : (i j k : ℕ) (s t : ℤ) → (nat_lt i j || (nat_eq i j && int_le s t)) ≡ true → i ≤ j
 below_rest i j k s t h = grind (arith, ints, nat_tests)
@@ -77,28 +79,8 @@ ids_rise (i ∷ is) (s ∷ ss) zero (suc l) d h a m n = first_least i s is ss l 
 ids_rise (i ∷ is) (s ∷ ss) (suc k) zero d h a m n = absurd (omega arith)
 ids_rise (i ∷ is) (s ∷ ss) (suc k) (suc l) d h a m n = ids_rise is ss k l d (omega (arith, h)) (ascends_behind (i, s) (paired is ss) a) (omega arith) (omega arith)
 
-lt_down : (i j id : ℕ) → i ≤ j → nat_lt j id ≡ true → nat_lt i id ≡ true
-lt_down i j id l h = grind (arith, nat_tests)
-
-le_down : (i j id : ℕ) → i ≤ j → nat_le j id ≡ true → nat_le i id ≡ true
-le_down i j id l h = grind (arith, nat_tests)
-
-pub below_parted : (id : ℕ) (is : List ℕ) → AreRising is → IsPartitionedBy (λ i. nat_lt i id) is
-below_parted id is r i j d l m p = lt_down (get_or is i d) (get_or is j d) id (r i j d l m) p
-
-pub upto_parted : (id : ℕ) (is : List ℕ) → AreRising is → IsPartitionedBy (λ i. nat_le i id) is
-upto_parted id is r i j d l m p = le_down (get_or is i d) (get_or is j d) id (r i j d l m) p
-
-pub are_rising : (is : List ℕ) (ss : List Sample) → length is ≡ length ss → ascends (paired is ss) ≡ true → AreRising is
+are_rising : (is : List ℕ) (ss : List Sample) → length is ≡ length ss → ascends (paired is ss) ≡ true → AreRising is
 are_rising is ss h a i j d l m = ids_rise is ss i j d h a l m
-
-pub count_is : (p : ℕ → Bool) (is : List ℕ) (n : ℕ) → n ≤ length is → AllWithin (λ i. p i ≡ true) is 0 n → AllWithin (λ i. p i ≡ false) is n (length is) → n ≡ count_by p is
-count_is p [] n l f g = omega arith
-count_is p (x ∷ is) zero l f g = let e : p x ≡ false = g 0 x (omega arith) (omega arith) in sym (ap (λ b. cond b (suc (count_by p is)) 0) e)
-count_is p (x ∷ is) (suc n) l f g =
-    let e : p x ≡ true = f 0 x (omega arith) (omega arith) in
-    let r : n ≡ count_by p is = count_is p is n (omega arith) (λ k d a b. f (suc k) d (omega arith) (omega arith)) (λ k d a b. g (suc k) d (omega arith) (omega arith)) in
-    ap suc r ∙ sym (ap (λ b. cond b (suc (count_by p is)) 0) e)
 
 -- ---- the samples of a series stand together
 
@@ -117,10 +99,6 @@ below_upto id (i ∷ is) =
       counted true true p q r = omega (arith, r)
       counted true false p q r = absurd (grind (arith, nat_tests))
       counted false w p q r = omega arith
-
-upto_length : (id : ℕ) (is : List ℕ) → upto id is ≤ length is
-upto_length id [] = omega arith
-upto_length id (i ∷ is) = let r = upto_length id is in elim (nat_le i id) as (λ v. cond v (suc (upto id is)) 0 ≤ length (i ∷ is)) [ true ↦ omega (arith, r) | false ↦ omega arith ]
 
 none_above : (id i : ℕ) (s : Sample) (is : List ℕ) (ss : List Sample) → length is ≡ length ss → ascends_after (i, s) (paired is ss) ≡ true → id < i → samples_in id (paired is ss) ≡ []
 none_above id i s [] ss h a l = refl
@@ -162,119 +140,157 @@ part_is id (i ∷ is) [] h a = absurd (omega (arith, h))
 part_is id (i ∷ is) (s ∷ ss) h a =
     part_by id i s is ss (nat_lt i id) (nat_le i id) (nat_eq id i) refl refl refl (omega (arith, h)) a (part_is id is ss (omega (arith, h)) (ascends_behind (i, s) (paired is ss) a))
 
-pub places : (id : ℕ) (is js ks : List ℕ) (m n : ℕ) → js ≡ is → ks ≡ is → m ≡ below id js → n ≡ upto id ks → m ≤ n
-places id is js ks m n e f p q = let b = below_upto id is in let g = ap (below id) e in let h = ap (upto id) f in omega (arith, b, g, h, p, q)
-
-pub series_is : (id : ℕ) (is : List ℕ) (ss : List Sample) (m n : ℕ) → length is ≡ length ss → ascends (paired is ss) ≡ true → m ≡ below id is → n ≡ upto id is → take (n - m) (drop m ss) ≡ samples_in id (paired is ss)
-series_is id is ss m n h a p q = ap (λ k. take (n - k) (drop k ss)) p ∙ ap (λ k. take (k - below id is) (drop (below id is) ss)) q ∙ part_is id is ss h a
-
 pub part_rest : (m n : ℕ) (ss : List Sample) → take m (take (length ss - n) (drop n ss)) ≡ take m (drop n ss)
 part_rest m n ss = ap (take m) (ap (λ k. take k (drop n ss)) (sym (length-drop n ss)) ∙ take-length (drop n ss))
 
 -- ---- the same in the forms that the code has
 
-module _ (is : List ℕ) (ss : List Sample) (now : Entries) (h : length is ≡ length ss) (v : paired is ss ≡ now) where
-  pub rows_there : length ss ≡ length now
-  rows_there = sym (paired_length is ss h) ∙ ap length v
+module _ (rs : List (ℕ × ℕ)) (ss : List Sample) (h : are_runs rs (length ss) ≡ true) where
+  ids_length : length (spread rs (length ss)) ≡ length ss
+  ids_length = spread_length rs (length ss) h
 
-  pub id_inside : (k : ℕ) → k < length now → k < length is
-  id_inside k l = let r = rows_there in omega (arith, r, h, l)
+  laid_length : length (laid rs ss) ≡ length ss
+  laid_length = paired_length (spread rs (length ss)) ss ids_length
 
-  pub sample_inside : (k : ℕ) → k < length now → k < length ss
-  sample_inside k l = let r = rows_there in omega (arith, r, l)
+  pub part_runs : (id m n : ℕ) → ascends (laid rs ss) ≡ true → m ≡ run_end (drop (count_by (λ r. nat_lt r.0 id) rs) rs) (length ss) → n ≡ run_end (drop (count_by (λ r. nat_le r.0 id) rs) rs) (length ss) → take (n - m) (drop m ss) ≡ samples_in id (laid rs ss)
+  part_runs id m n a p q =
+      let ids = spread rs (length ss) in
+      ap (λ k. take (n - k) (drop k ss)) (p ∙ sym (places_are (λ i. nat_lt i id) rs (length ss) h))
+      ∙ ap (λ k. take (k - below id ids) (drop (below id ids) ss)) (q ∙ sym (places_are (λ i. nat_le i id) rs (length ss) h))
+      ∙ part_is id ids ss ids_length a
 
-  pub entry_there : (k i : ℕ) (s : Sample) (e : ℕ × Sample) → k < length now → i ≡ get_or is k i → s ≡ get_or ss k s → ◌≡◌ {A = ℕ × Sample} (i, s) (get_or now k e)
-  entry_there k i s e l p q = (λ n. (p n, q n)) ∙ sym (paired_at is ss k i s e h (sample_inside k l)) ∙ ap (λ l. get_or l k e) v
+  pub places : (id m n : ℕ) → m ≡ run_end (drop (count_by (λ r. nat_lt r.0 id) rs) rs) (length ss) → n ≡ run_end (drop (count_by (λ r. nat_le r.0 id) rs) rs) (length ss) → m ≤ n
+  places id m n p q =
+      let b = below_upto id (spread rs (length ss)) in
+      let f = places_are (λ i. nat_lt i id) rs (length ss) h in
+      let g = places_are (λ i. nat_le i id) rs (length ss) h in
+      omega (arith, b, f, g, p, q)
 
--- entries one by one
-entries_more : (ks : List (ℕ × (ℤ × ℤ))) (k : ℕ) (e : ℕ × (ℤ × ℤ)) → k < length ks → e ≡ get_or ks k e → map entry_of (take (suc k) ks) ≡ map entry_of (take k ks) ++ entry_of e ∷ []
-entries_more [] k e l h = absurd (omega arith)
-entries_more (x ∷ ks) zero e l h = ap (λ z. entry_of z ∷ []) (sym h)
-entries_more (x ∷ ks) (suc k) e l h = ap (λ l. entry_of x ∷ l) (entries_more ks k e (omega arith) h)
+  pub rows_there : (now : Entries) → laid rs ss ≡ now → length ss ≡ length now
+  rows_there now v = sym laid_length ∙ ap length v
+
+  pub entry_there : (now : Entries) (k i : ℕ) (s : Sample) (e : ℕ × Sample) (d : ℕ × ℕ) → laid rs ss ≡ now → k < length now → i ≡ (get_or rs (count_by (λ r. nat_le r.1 k) rs - 1) d).0 → s ≡ get_or ss k s → ◌≡◌ {A = ℕ × Sample} (i, s) (get_or now k e)
+  entry_there now k i s e d v l p q =
+      let r = rows_there now v in
+      let m : k < length ss = omega (arith, r, l) in
+      (λ n. ((p ∙ sym (id_at k rs (length ss) i d h m)) n, q n)) ∙ sym (paired_at (spread rs (length ss)) ss k i s e ids_length m) ∙ ap (λ l. get_or l k e) v
+
+rising_last : (xs : List ℕ) (a b : ℕ) → AreRising (xs ++ a ∷ b ∷ []) → a ≤ b
+rising_last [] a b r = r 0 1 0 (omega arith) (omega arith)
+rising_last (x ∷ xs) a b r = rising_last xs a b (λ i j d l m. r (suc i) (suc j) d (omega arith) (omega arith))
+
+more_length : (ss : List Sample) (s : Sample) → length (ss ++ s ∷ []) ≡ suc (length ss)
+more_length ss s = omega (arith, length-append ss (s ∷ []))
+
+-- ---- a further entry
+module _ (rs : List (ℕ × ℕ)) (ss : List Sample) (id : ℕ) (s : Sample) (h : are_runs rs (length ss) ≡ true) where
+  ids : List ℕ
+  ids = spread rs (length ss)
+
+  ids_pushed : paired (spread rs (length ss) ++ id ∷ []) (ss ++ s ∷ []) ≡ laid rs ss ++ (id, s) ∷ []
+  ids_pushed = paired_push (spread rs (length ss)) ss id s (ids_length rs ss h)
+
+  ids_more : length (spread rs (length ss) ++ id ∷ []) ≡ length (ss ++ s ∷ [])
+  ids_more = omega (arith, length-append (spread rs (length ss)) (id ∷ []), length-append ss (s ∷ []), ids_length rs ss h)
+
+  pub laid_with : (new : List (ℕ × ℕ)) (ts : List Sample) → new ≡ run_noted rs (id, length ss) → ts ≡ ss ++ s ∷ [] → laid new ts ≡ laid rs ss ++ (id, s) ∷ []
+  laid_with new ts p q =
+      (λ n. laid (p n) (q n))
+      ∙ ap (λ k. paired (spread (run_noted rs (id, length ss)) k) (ss ++ s ∷ [])) (more_length ss s)
+      ∙ ap (λ is. paired is (ss ++ s ∷ [])) (noted_spread rs (length ss) id h)
+      ∙ ids_pushed
+
+  last_upto : ascends (laid rs ss ++ (id, s) ∷ []) ≡ true → (r : ℕ × ℕ) (qs : List (ℕ × ℕ)) → rs ≡ r ∷ qs → (last_run r qs).0 ≤ id
+  last_upto a r qs e =
+      let rising : AreRising (spread rs (length ss) ++ id ∷ []) = are_rising (spread rs (length ss) ++ id ∷ []) (ss ++ s ∷ []) ids_more (ap ascends ids_pushed ∙ a) in
+      let l : (last_run r qs).1 < length ss = runs_last r qs (length ss) (ap (λ x. are_runs x (length ss)) (sym e) ∙ h) in
+      let is : spread rs (length ss) ++ id ∷ [] ≡ spread (r ∷ qs) (length ss - 1) ++ (last_run r qs).0 ∷ id ∷ [] =
+      ap (λ x. spread x (length ss) ++ id ∷ []) e
+      ∙ ap (λ x. x ++ id ∷ []) (last_spread r qs (length ss) l)
+      ∙ append_assoc (spread (r ∷ qs) (length ss - 1)) ((last_run r qs).0 ∷ []) (id ∷ []) in
+      rising_last (spread (r ∷ qs) (length ss - 1)) (last_run r qs).0 id (subst AreRising is rising)
+
+  pub runs_with : (new : List (ℕ × ℕ)) (ts : List Sample) → new ≡ run_noted rs (id, length ss) → ts ≡ ss ++ s ∷ [] → ascends (laid rs ss ++ (id, s) ∷ []) ≡ true → are_runs new (length ts) ≡ true
+  runs_with new ts p q a =
+      (λ n. are_runs (p n) (length (q n))) ∙ ap (are_runs (run_noted rs (id, length ss))) (more_length ss s) ∙ noted_runs rs (length ss) id h (last_upto a)
+
+-- ---- entries one by one
+
+front_after : (c : ℕ × Sample) (xs ys : Entries) → ascends_after c (xs ++ ys) ≡ true → ascends_after c xs ≡ true
+front_after c [] ys h = refl
+front_after c (x ∷ xs) ys h = both (is_upto c x) (ascends_after x xs) (first_so (is_upto c x) (ascends_after x (xs ++ ys)) h) (front_after x xs ys (second_so (is_upto c x) (ascends_after x (xs ++ ys)) h))
+
+front_ascends : (xs ys : Entries) → ascends (xs ++ ys) ≡ true → ascends xs ≡ true
+front_ascends [] ys h = refl
+front_ascends (x ∷ xs) ys h = front_after x xs ys h
 
 plus_one : (k : ℕ) → k + 1 ≡ suc k
 plus_one k = omega arith
-
-pub sorted_more : (is js : List ℕ) (ss ts : List Sample) (ks : List (ℕ × (ℤ × ℤ))) (k : ℕ) (e : ℕ × (ℤ × ℤ)) → js ≡ is ++ e.0 ∷ [] → ts ≡ ss ++ (record { time = e.1.0; value = e.1.1 }) ∷ [] → length is ≡ length ss → paired is ss ≡ map entry_of (take k ks) → k < length ks → e ≡ get_or ks k e →
-    paired js ts ≡ map entry_of (take (k + 1) ks)
-sorted_more is js ss ts ks k e a b h p l q =
-    (λ n. paired (a n) (b n)) ∙ paired_push is ss e.0 (record { time = e.1.0; value = e.1.1 }) h ∙ ap (λ es. es ++ entry_of e ∷ []) p ∙ sym (entries_more ks k e l q) ∙ ap (λ n. map entry_of (take n ks)) (sym (plus_one k))
-
-push_sizes : (is : List ℕ) (ss : List Sample) (i : ℕ) (s : Sample) → length is ≡ length ss → length (is ++ i ∷ []) ≡ length (ss ++ s ∷ [])
-push_sizes is ss i s h = omega (arith, h, length-append is (i ∷ []), length-append ss (s ∷ []))
-
-pub pushed_sizes : (is js : List ℕ) (ss ts : List Sample) (i : ℕ) (s : Sample) → length is ≡ length ss → js ≡ is ++ i ∷ [] → ts ≡ ss ++ s ∷ [] → length js ≡ length ts
-pushed_sizes is js ss ts i s h p q = ap length p ∙ push_sizes is ss i s h ∙ sym (ap length q)
 
 append_none : (es : Entries) → es ++ [] ≡ es
 append_none [] = refl
 append_none (e ∷ es) = ap (λ l. e ∷ l) (append_none es)
 
+module _ (out whole rest behind : Entries) (e : ℕ × Sample) (q : rest ≡ e ∷ behind) (w : out ++ rest ≡ whole) where
+  pub goes_on : (new : Entries) → new ≡ out ++ e ∷ [] → new ++ behind ≡ whole
+  goes_on new p = ap (λ l. l ++ behind) p ∙ append_assoc out (e ∷ []) behind ∙ ap (λ r. out ++ r) (sym q) ∙ w
+
+  pub fits : ascends whole ≡ true → ascends (out ++ e ∷ []) ≡ true
+  fits a = front_ascends (out ++ e ∷ []) behind (ap ascends (goes_on (out ++ e ∷ []) refl) ∙ a)
+
+pub sorted_next : (ks : List (ℕ × (ℤ × ℤ))) (k : ℕ) (e : ℕ × (ℤ × ℤ)) (t : ℤ) → k < length ks → e ≡ get_or ks k e → t ≡ e.1.0 → map entry_of (drop k ks) ≡ (e.0, record { time = t; value = e.1.1 }) ∷ map entry_of (drop (k + 1) ks)
+sorted_next ks k e t l q h =
+    ap (map entry_of) (drop_at k ks e l)
+    ∙ ap (λ x. entry_of x ∷ map entry_of (drop (suc k) ks)) (sym q)
+    ∙ ap (λ n. entry_of e ∷ map entry_of (drop n ks)) (sym (plus_one k))
+    ∙ ap (λ u. (e.0, record { time = u; value = e.1.1 }) ∷ map entry_of (drop (k + 1) ks)) (sym h)
+
 -- ---- a step of a merge: the next entry of the first block, or of the second
-module _ (is js : List ℕ) (ss ts : List Sample) (i : ℕ) (s : Sample) (h : length is ≡ length ss) (p : js ≡ is ++ i ∷ []) (q : ts ≡ ss ++ s ∷ []) where
-  pushed : paired js ts ≡ paired is ss ++ (i, s) ∷ []
-  pushed = (λ n. paired (p n) (q n)) ∙ paired_push is ss i s h
+module _ (one other : Entries) (k l : ℕ) (e : ℕ × Sample) where
+  first_step : k < length one → e ≡ get_or one k e → merged (e ∷ drop (suc k) one) (drop l other) ≡ e ∷ merged (drop (suc k) one) (drop l other) → merged (drop k one) (drop l other) ≡ e ∷ merged (drop (suc k) one) (drop l other)
+  first_step m g f = ap (λ x. merged x (drop l other)) (drop_at k one e m) ∙ ap (λ x. merged (x ∷ drop (suc k) one) (drop l other)) (sym g) ∙ f
 
-  pushed_on : (rest : Entries) → paired js ts ++ rest ≡ paired is ss ++ (i, s) ∷ rest
-  pushed_on rest = ap (λ l. l ++ rest) pushed ∙ append_assoc (paired is ss) ((i, s) ∷ []) rest
+  second_step : l < length other → e ≡ get_or other l e → merged (drop k one) (e ∷ drop (suc l) other) ≡ e ∷ merged (drop k one) (drop (suc l) other) → merged (drop k one) (drop l other) ≡ e ∷ merged (drop k one) (drop (suc l) other)
+  second_step m g f = ap (merged (drop k one)) (drop_at l other e m) ∙ ap (λ x. merged (drop k one) (x ∷ drop (suc l) other)) (sym g) ∙ f
 
-  module _ (one other : Entries) (k l : ℕ) (whole : Entries) (e : paired is ss ++ merged (drop k one) (drop l other) ≡ whole) where
-    first_step : k < length one → (i, s) ≡ get_or one k (i, s) → merged ((i, s) ∷ drop (suc k) one) (drop l other) ≡ (i, s) ∷ merged (drop (suc k) one) (drop l other) →
-        paired js ts ++ merged (drop (suc k) one) (drop l other) ≡ whole
-    first_step m g f =
-        pushed_on (merged (drop (suc k) one) (drop l other))
-        ∙ ap (λ r. paired is ss ++ r) (sym f ∙ ap (λ x. merged (x ∷ drop (suc k) one) (drop l other)) g ∙ ap (λ x. merged x (drop l other)) (sym (drop_at k one (i, s) m)))
-        ∙ e
+  module _ (within : k ≤ length one) (inside : l ≤ length other) (some : k + l < length one + length other) where
+    first_by : (u v w : Bool) → nat_le (length other) l ≡ u → nat_lt k (length one) ≡ v → is_upto (get_or one k no_entry) (get_or other l no_entry) ≡ w → (u || (v && w)) ≡ true →
+        e ≡ get_or one k e → merged (drop k one) (drop l other) ≡ e ∷ merged (drop (suc k) one) (drop l other)
+    first_by true v w a b c z g =
+        let n : length other ≤ l = grind (arith, nat_tests) in
+        first_step (omega (arith, n)) g (merged_first e (drop (suc k) one) (drop l other) (drop_past l other n))
+    first_by false true true a b c z g =
+        let m : k < length one = grind (arith, nat_tests) in
+        let n : l < length other = grind (arith, nat_tests) in
+        let o : get_or one k no_entry ≡ e = get_same k one no_entry e m ∙ sym g in
+        first_step m g (ap (merged (e ∷ drop (suc k) one)) (drop_at l other no_entry n)
+        ∙ merged_lesser e (get_or other l no_entry) (drop (suc k) one) (drop (suc l) other) (ap (λ x. is_upto x (get_or other l no_entry)) (sym o) ∙ c)
+        ∙ ap (λ x. e ∷ merged (drop (suc k) one) x) (sym (drop_at l other no_entry n)))
+    first_by false true false a b c z g = cc
+    first_by false false w a b c z g = cc
 
-    second_step : l < length other → (i, s) ≡ get_or other l (i, s) → merged (drop k one) ((i, s) ∷ drop (suc l) other) ≡ (i, s) ∷ merged (drop k one) (drop (suc l) other) →
-        paired js ts ++ merged (drop k one) (drop (suc l) other) ≡ whole
-    second_step m g f =
-        pushed_on (merged (drop k one) (drop (suc l) other))
-        ∙ ap (λ r. paired is ss ++ r) (sym f ∙ ap (λ x. merged (drop k one) (x ∷ drop (suc l) other)) g ∙ ap (λ x. merged (drop k one) x) (sym (drop_at l other (i, s) m)))
-        ∙ e
+    pub first_next : leads one k other l ≡ true → e ≡ get_or one k e → merged (drop k one) (drop l other) ≡ e ∷ merged (drop (k + 1) one) (drop l other)
+    first_next z g = first_by (nat_le (length other) l) (nat_lt k (length one)) (is_upto (get_or one k no_entry) (get_or other l no_entry)) refl refl refl z g ∙ ap (λ n. e ∷ merged (drop n one) (drop l other)) (sym (plus_one k))
 
-    module _ (within : k ≤ length one) (inside : l ≤ length other) (some : k + l < length one + length other) where
-      first_by : (u v w : Bool) → nat_le (length other) l ≡ u → nat_lt k (length one) ≡ v → is_upto (get_or one k no_entry) (get_or other l no_entry) ≡ w → (u || (v && w)) ≡ true →
-          (i, s) ≡ get_or one k (i, s) → paired js ts ++ merged (drop (suc k) one) (drop l other) ≡ whole
-      first_by true v w a b c z g =
-          let n : length other ≤ l = grind (arith, nat_tests) in
-          first_step (omega (arith, n)) g (merged_first (i, s) (drop (suc k) one) (drop l other) (drop_past l other n))
-      first_by false true true a b c z g =
-          let m : k < length one = grind (arith, nat_tests) in
-          let n : l < length other = grind (arith, nat_tests) in
-          let o : get_or one k no_entry ≡ (i, s) = get_same k one no_entry (i, s) m ∙ sym g in
-          first_step m g (ap (merged ((i, s) ∷ drop (suc k) one)) (drop_at l other no_entry n)
-          ∙ merged_lesser (i, s) (get_or other l no_entry) (drop (suc k) one) (drop (suc l) other) (ap (λ x. is_upto x (get_or other l no_entry)) (sym o) ∙ c)
-          ∙ ap (λ x. (i, s) ∷ merged (drop (suc k) one) x) (sym (drop_at l other no_entry n)))
-      first_by false true false a b c z g = cc
-      first_by false false w a b c z g = cc
+    second_by : (u v w : Bool) → nat_le (length other) l ≡ u → nat_lt k (length one) ≡ v → is_upto (get_or one k no_entry) (get_or other l no_entry) ≡ w → (u || (v && w)) ≡ false →
+        e ≡ get_or other l e → merged (drop k one) (drop l other) ≡ e ∷ merged (drop k one) (drop (suc l) other)
+    second_by true v w a b c z g = cc
+    second_by false true true a b c z g = cc
+    second_by false true false a b c z g =
+        let m : k < length one = grind (arith, nat_tests) in
+        let n : l < length other = grind (arith, nat_tests) in
+        let o : get_or other l no_entry ≡ e = get_same l other no_entry e n ∙ sym g in
+        second_step n g (ap (λ x. merged x (e ∷ drop (suc l) other)) (drop_at k one no_entry m)
+        ∙ merged_greater (get_or one k no_entry) e (drop (suc k) one) (drop (suc l) other) (ap (is_upto (get_or one k no_entry)) (sym o) ∙ c)
+        ∙ ap (λ x. e ∷ merged x (drop (suc l) other)) (sym (drop_at k one no_entry m)))
+    second_by false false w a b c z g =
+        let m : length one ≤ k = grind (arith, nat_tests) in
+        let n : l < length other = grind (arith, nat_tests) in
+        let z : drop k one ≡ [] = drop_past k one m in
+        second_step n g (ap (λ x. merged x (e ∷ drop (suc l) other)) z ∙ ap (λ x. e ∷ merged x (drop (suc l) other)) (sym z))
 
-      pub first_more : leads one k other l ≡ true → (i, s) ≡ get_or one k (i, s) → paired js ts ++ merged (drop (k + 1) one) (drop l other) ≡ whole
-      first_more z g = ap (λ n. paired js ts ++ merged (drop n one) (drop l other)) (plus_one k) ∙ first_by (nat_le (length other) l) (nat_lt k (length one)) (is_upto (get_or one k no_entry) (get_or other l no_entry)) refl refl refl z g
-
-      second_by : (u v w : Bool) → nat_le (length other) l ≡ u → nat_lt k (length one) ≡ v → is_upto (get_or one k no_entry) (get_or other l no_entry) ≡ w → (u || (v && w)) ≡ false →
-          (i, s) ≡ get_or other l (i, s) → paired js ts ++ merged (drop k one) (drop (suc l) other) ≡ whole
-      second_by true v w a b c z g = cc
-      second_by false true true a b c z g = cc
-      second_by false true false a b c z g =
-          let m : k < length one = grind (arith, nat_tests) in
-          let n : l < length other = grind (arith, nat_tests) in
-          let o : get_or other l no_entry ≡ (i, s) = get_same l other no_entry (i, s) n ∙ sym g in
-          second_step n g (ap (λ x. merged x ((i, s) ∷ drop (suc l) other)) (drop_at k one no_entry m)
-          ∙ merged_greater (get_or one k no_entry) (i, s) (drop (suc k) one) (drop (suc l) other) (ap (is_upto (get_or one k no_entry)) (sym o) ∙ c)
-          ∙ ap (λ x. (i, s) ∷ merged x (drop (suc l) other)) (sym (drop_at k one no_entry m)))
-      second_by false false w a b c z g =
-          let m : length one ≤ k = grind (arith, nat_tests) in
-          let n : l < length other = grind (arith, nat_tests) in
-          let z : drop k one ≡ [] = drop_past k one m in
-          second_step n g (ap (λ x. merged x ((i, s) ∷ drop (suc l) other)) z ∙ ap (λ x. (i, s) ∷ merged x (drop (suc l) other)) (sym z))
-
-      pub second_more : leads one k other l ≡ false → (i, s) ≡ get_or other l (i, s) → paired js ts ++ merged (drop k one) (drop (l + 1) other) ≡ whole
-      second_more z g = ap (λ n. paired js ts ++ merged (drop k one) (drop n other)) (plus_one l) ∙ second_by (nat_le (length other) l) (nat_lt k (length one)) (is_upto (get_or one k no_entry) (get_or other l no_entry)) refl refl refl z g
-
-pub merge_done : (is : List ℕ) (ss : List Sample) (one other : Entries) (k l : ℕ) → length one ≤ k → length other ≤ l → paired is ss ++ merged (drop k one) (drop l other) ≡ merged one other → paired is ss ≡ merged one other
-merge_done is ss one other k l m n e =
-    sym (ap (λ x. paired is ss ++ merged x (drop l other)) (drop_past k one m) ∙ ap (λ x. paired is ss ++ x) (drop_past l other n) ∙ append_none (paired is ss)) ∙ e
+    pub second_next : leads one k other l ≡ false → e ≡ get_or other l e → merged (drop k one) (drop l other) ≡ e ∷ merged (drop k one) (drop (l + 1) other)
+    second_next z g = second_by (nat_le (length other) l) (nat_lt k (length one)) (is_upto (get_or one k no_entry) (get_or other l no_entry)) refl refl refl z g ∙ ap (λ n. e ∷ merged (drop k one) (drop n other)) (sym (plus_one l))
 
 -- ---- which list has a next entry
 pub first_has : (one other : Entries) (k l : ℕ) → l ≤ length other → k + l < length one + length other → leads one k other l ≡ true → k < length one
@@ -292,19 +308,19 @@ second_has one other k l z = has_by (nat_le (length other) l) (nat_lt k (length 
 
 -- ---- entries that stay
 module _ (p : ℕ × Sample → Bool) (es : Entries) (k : ℕ) (e : ℕ × Sample) (l : k < length es) (g : e ≡ get_or es k e) where
-  stays : p e ≡ true → filter p (drop k es) ≡ e ∷ filter p (drop (suc k) es)
-  stays h = ap (filter p) (drop_at k es e l ∙ ap (λ x. x ∷ drop (suc k) es) (sym g)) ∙ ap (λ v. cond v (e ∷ filter p (drop (suc k) es)) (filter p (drop (suc k) es))) h
+  filter_next : filter p (drop k es) ≡ cond (p e) (e ∷ filter p (drop (suc k) es)) (filter p (drop (suc k) es))
+  filter_next = ap (filter p) (drop_at k es e l ∙ ap (λ x. x ∷ drop (suc k) es) (sym g))
+
+  pub stays : p e ≡ true → filter p (drop k es) ≡ e ∷ filter p (drop (k + 1) es)
+  stays h = filter_next ∙ ap (λ v. cond v (e ∷ filter p (drop (suc k) es)) (filter p (drop (suc k) es))) h ∙ ap (λ n. e ∷ filter p (drop n es)) (sym (plus_one k))
 
   pub goes_out : (whole front : Entries) → p e ≡ false → front ++ filter p (drop k es) ≡ whole → front ++ filter p (drop (k + 1) es) ≡ whole
   goes_out whole front h w =
       ap (λ n. front ++ filter p (drop n es)) (plus_one k)
-      ∙ ap (λ x. front ++ x) (sym (ap (filter p) (drop_at k es e l ∙ ap (λ x. x ∷ drop (suc k) es) (sym g)) ∙ ap (λ v. cond v (e ∷ filter p (drop (suc k) es)) (filter p (drop (suc k) es))) h)) ∙ w
+      ∙ ap (λ x. front ++ x) (sym (filter_next ∙ ap (λ v. cond v (e ∷ filter p (drop (suc k) es)) (filter p (drop (suc k) es))) h)) ∙ w
 
-  pub stays_in : (is js : List ℕ) (ss ts : List Sample) (whole : Entries) → length is ≡ length ss → js ≡ is ++ e.0 ∷ [] → ts ≡ ss ++ e.1 ∷ [] → p e ≡ true → paired is ss ++ filter p (drop k es) ≡ whole → paired js ts ++ filter p (drop (k + 1) es) ≡ whole
-  stays_in is js ss ts whole h a b t w = ap (λ n. paired js ts ++ filter p (drop n es)) (plus_one k) ∙ pushed_on is js ss ts e.0 e.1 h a b (filter p (drop (suc k) es)) ∙ ap (λ x. paired is ss ++ x) (sym (stays t)) ∙ w
-
-pub filter_done : (p : ℕ × Sample → Bool) (is : List ℕ) (ss : List Sample) (es : Entries) (k : ℕ) → length es ≤ k → paired is ss ++ filter p (drop k es) ≡ filter p es → paired is ss ≡ filter p es
-filter_done p is ss es k l e = sym (ap (λ x. paired is ss ++ filter p x) (drop_past k es l) ∙ append_none (paired is ss)) ∙ e
+pub filter_done : (p : ℕ × Sample → Bool) (out es : Entries) (k : ℕ) → length es ≤ k → out ++ filter p (drop k es) ≡ filter p es → out ≡ filter p es
+filter_done p out es k l e = sym (ap (λ x. out ++ filter p x) (drop_past k es l) ∙ append_none out) ∙ e
 
 pub left_same : (marks : List Bool) (from to f t : ℤ) (es new : Entries) → f ≡ from → t ≡ to → new ≡ filter (is_left marks f t) es → new ≡ filter (is_left marks from to) es
 left_same marks from to f t es new p q e = e ∙ (λ i. filter (is_left marks (p i) (q i)) es)

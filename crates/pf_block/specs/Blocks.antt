@@ -1,6 +1,6 @@
 -- The samples of a snapshot in blocks, the newest last. Each block has samples of some series, by rising id and then by
 -- time. Prometheus keeps samples so in time-ordered blocks; that they double is this project's own.
-use Rattle.std.specs.Prelude.{ℕ, suc, ◌+◌, ◌<◌, ◌≤◌, ℤ, pos, Bool, true, false, not, ◌&&◌, ◌||◌, cond, Option, None, Some, List, [], ◌∷◌, ◌++◌, length, slice_index_or, int_le, nat_eq, nat_lt, nat_le}
+use Rattle.std.specs.Prelude.{ℕ, ◌+◌, ℤ, pos, Bool, true, false, not, ◌&&◌, ◌||◌, cond, Option, None, Some, List, [], ◌∷◌, ◌++◌, length, slice_index_or, int_le, nat_eq, nat_lt, nat_le}
 use Rattle.pf_base.specs.declared.plain.Row.{Row}
 use Rattle.pf_base.specs.declared.plain.Sample.{Sample}
 use Rattle.pf_base.specs.LabelSets.{Pairs}
@@ -11,12 +11,6 @@ use Rattle.pf_block.specs.Snaps.{sample_of}
 -- samples, each with the id of its series
 abbrev pub Entries : Type 0
 Entries = List (ℕ × Sample)
-
--- ids and samples side by side
-abbrev pub paired : List ℕ → List Sample → Entries
-paired [] samples = []
-paired (i ∷ is) [] = []
-paired (i ∷ is) (s ∷ ss) = (i, s) ∷ paired is ss
 
 -- the first stands before the second, or they are of one series and time
 abbrev pub is_upto : ℕ × Sample → ℕ × Sample → Bool
@@ -30,15 +24,6 @@ ascends_after a (b ∷ bs) = is_upto a b && ascends_after b bs
 abbrev pub ascends : Entries → Bool
 ascends [] = true
 ascends (a ∷ es) = ascends_after a es
-
--- ids that don't fall
-abbrev pub AreRising : List ℕ → Type 0
-AreRising ids = (i j d : ℕ) → i ≤ j → j < length ids → slice_index_or ids i d ≤ slice_index_or ids j d
-
--- the number of first ids that a test is true of
-abbrev pub count_by : (ℕ → Bool) → List ℕ → ℕ
-count_by p [] = 0
-count_by p (i ∷ is) = cond (p i) (suc (count_by p is)) 0
 
 -- two sorted lists in one: each time the lesser of the two first entries, and where they are alike the first list's
 abbrev pub put_before : ℕ × Sample → (Entries → Entries) → Entries → Entries

@@ -49,32 +49,38 @@ fn clear_below(blocks: &[Arc<Block>], id: u32, time: i64) -> usize
     clear
 }
 
-/// Whether the entry at a place is of the series of the one before it.
-fn follows(block: &Block, place: usize) -> bool
+/// Whether the entry at a place is of the series of the one before it. They are found at once in the run `near` or behind it.
+fn follows(block: &Block, place: usize, near: usize) -> bool
     requires { place < length block.now }
     ensures { result ≡ true → (e : ℕ × Sample) → (0 < place) × ((slice_index_or block.now (place - 1) e).0 ≡ (slice_index_or block.now place e).0) }
 {
     if place == 0 {
         return false;
     }
-    block.entry_at(place - 1).0 == block.entry_at(place).0
+    block.entry_near(place - 1, near).1.0 == block.entry_near(place, near).1.0
 }
 
-/// The same number with a further entry of the block.
-fn clear_with(blocks: &[Arc<Block>], block: &Block, place: usize, clear: usize) -> usize
+/// The run of a further entry of the block, and the same number with that entry.
+fn clear_with(
+    blocks: &[Arc<Block>],
+    block: &Block,
+    place: usize,
+    near: usize,
+    clear: usize,
+) -> (usize, usize)
     requires rises { (id : ℕ) → rises (series_in id (map arc_value blocks.now)) ≡ true }
     requires inside { place < length block.now }
     requires within { clear ≤ length blocks.now }
     requires clear { is_clear (take clear (map arc_value blocks.now)) (take place block.now) ≡ true }
-    ensures within { result ≤ length blocks.now }
-    ensures clear { is_clear (take result (map arc_value blocks.now)) (take (place + 1) block.now) ≡ true }
+    ensures within { result.1 ≤ length blocks.now }
+    ensures clear { is_clear (take result.1 (map arc_value blocks.now)) (take (place + 1) block.now) ≡ true }
 {
     let _rows = block.rows();
-    if follows(block, place) {
-        return clear;
+    let (run, (id, sample)) = block.entry_near(place, near);
+    if follows(block, place, near) {
+        return (run, clear);
     }
-    let (id, sample) = block.entry_at(place);
-    clear.min(clear_below(blocks, id, sample.time))
+    (run, clear.min(clear_below(blocks, id, sample.time)))
 }
 
 /// How many of the first blocks have no sample after one of its series in a further block.
@@ -84,8 +90,9 @@ pub fn clear_of(blocks: &[Arc<Block>], block: &Block) -> usize
     ensures clear { is_clear (take result (map arc_value blocks.now)) block.now ≡ true }
 {
     let mut clear = blocks.len();
+    let mut near = 0;
     for i in 0..block.rows() {
-        clear = clear_with(blocks, block, i, clear);
+        (near, clear) = clear_with(blocks, block, i, near, clear);
     }
     clear
 }

@@ -1,9 +1,14 @@
-use Rattle.std.proofs.Common.{rules, of_calls, nat_le}
-use Rattle.std.proofs.lemmas.List.Sorted.{IsPartitionPoint-from_clause}
-use Rattle.pf_block.proofs.Pairing.{upto_parted, count_is}
+use Rattle.std.proofs.Common.{arith}
+use Rattle.pf_block.proofs.Runs.{upto_apart, upto_past, upto_same}
 use Rattle.pf_block.proofs.block.count_upto.Goals as goal
 
-pub returns-clause-value : goal.returns-clause-value
-returns-clause-value c =
-    let point = IsPartitionPoint-from_clause (λ i. nat_le i c.args.id) _ _ c.partition_point.ensures.partitioned (upto_parted c.args.id c.args.ids.now c.requires) (λ a r q k. search (rules, of_calls)) in
-    count_is (λ i. nat_le i c.args.id) c.args.ids.now c.partition_point.result c.partition_point.ensures.bound point.0 point.1
+pub returns-then-below-runs : goal.returns-then-below-runs
+returns-then-below-runs c = upto_past c.args.id c.args.runs.now c.args.below c.requires.below (omega arith)
+
+pub returns-then-run-id : goal.returns-then-run-id
+returns-then-run-id c =
+    let e = upto_same c.args.id c.args.runs.now c.args.below (0, 0) c.requires.apart c.if-below-runs.false c.requires.below c.if-run-id.true in
+    omega (arith, e)
+
+pub returns : goal.returns
+returns c = upto_apart c.args.id c.args.runs.now c.args.below (0, 0) c.requires.below c.if-run-id.false

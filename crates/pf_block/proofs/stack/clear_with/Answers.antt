@@ -10,5 +10,5 @@ returns-then-follows-clause-clear c =
 
 pub returns-clause-clear : goal.returns-clause-clear
 returns-clause-clear c =
-    clear_by_test (map arc_value c.args.blocks.now) c.args.block.now c.args.place c.entry_at-id.result c.args.clear c.clear_below.result c.min.result _ c.requires.inside (c.entry_at-id.ensures c.entry_at-id.result)
-    (omega arith) (to_z-of_z w64 c.entry_at-id.result.1.time (search rules)) c.requires.clear c.clear_below.ensures.clear
+    clear_by_test (map arc_value c.args.blocks.now) c.args.block.now c.args.place c.entry_near-run.result.1 c.args.clear c.clear_below.result c.min.result _ c.requires.inside (c.entry_near-run.ensures c.entry_near-run.result.1)
+    (omega arith) (to_z-of_z w64 c.entry_near-run.result.1.1.time (search rules)) c.requires.clear c.clear_below.ensures.clear

@@ -1,13 +1,12 @@
 use Rattle.std.proofs.Common.{◌≡◌, ◌≤◌, ◌+◌, ◌-◌, ◌++◌, length, drop}
-use Rattle.pf_block.specs.Blocks.{merged, paired}
+use Rattle.pf_block.specs.Blocks.{merged}
 use Rattle.pf_block.proofs.block.Block.merged.Given as goal
 
 abbrev pub invariant-loop-i : goal.invariant-loop-i
 invariant-loop-i l = record {
-  size : length l.ids.items ≡ length l.samples.items;
   within : l.i ≤ length l.self;
   inside : l.j ≤ length l.other;
-  same : paired l.ids.items l.samples.items ++ merged (drop l.i l.self) (drop l.j l.other) ≡ merged l.self l.other;
+  same : l.block ++ merged (drop l.i l.self) (drop l.j l.other) ≡ merged l.self l.other;
 }
 
 abbrev pub decreases-loop-i : goal.decreases-loop-i

@@ -1,4 +1,4 @@
-use Rattle.std.proofs.Common.{sym, ap, ◌∙◌, length, rules}
+use Rattle.std.proofs.Common.{sym, ap, ◌∙◌, length}
 use Rattle.std.specs.Arc.{arc_value}
 use Rattle.pf_block.proofs.Totals.{sizes_count}
 use Rattle.pf_block.proofs.sizes.BlockSizes.count.Goals as goal
