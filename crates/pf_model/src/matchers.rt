@@ -142,6 +142,13 @@ impl Matchers {
         &self.items[i]
     }
 
+    /// The matchers, in the selector's order.
+    pub fn as_slice(&self) -> &[Matcher]
+        ensures { result.now ≡ self.now }
+    {
+        &self.items
+    }
+
     /// Whether each matcher holds of the value of its label.
     pub fn accepts(&self, labels: &Labels) -> Result<bool, OutOfMemory>
         ensures { IfOk result (λ b. b ≡ accepts self.now labels.now) }
