@@ -1,0 +1,10 @@
+mod LastHeld
+mod Places
+mod RangeCells
+mod ReadCells
+mod RunValues
+mod SeriesOrder
+mod SetRows
+mod StepTimes
+mod TimedCells
+mod WindowCells

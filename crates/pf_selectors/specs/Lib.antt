@@ -1,0 +1,2 @@
+pub mod SeriesColumns
+pub mod Times

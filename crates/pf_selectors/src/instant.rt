@@ -1,0 +1,196 @@
+//! Instant selectors over a whole run.
+
+ghost use Rattle.std.specs.Prelude.{◌≡◌, ◌<◌, ◌≤◌, ℕ, true, Some, List, IfOk, length, map, option_map};
+ghost use Rattle.std.specs.List.{All};
+ghost use Rattle.pf_base.specs.declared.plain.Row.{Row};
+ghost use Rattle.pf_block.specs.Samples.{rises, until};
+ghost use Rattle.pf_block.specs.Snaps.{IsSnap};
+ghost use Rattle.pf_columns.specs.Columns.{cell_at};
+ghost use Rattle.pf_columns.specs.Steps.{step_at};
+ghost use Rattle.pf_model.specs.declared.cell.StepCell.TheVariants.{Good};
+ghost use Rattle.pf_model.specs.declared.expr.Matcher.{Matcher};
+ghost use Rattle.pf_model.specs.Binding.{accepted_ids};
+ghost use Rattle.pf_model.specs.Cells.{cell_of};
+ghost use Rattle.pf_model.specs.Evaluation.{selected, timed};
+ghost use Rattle.pf_model.specs.InstantFunctions.{each_value};
+ghost use Rattle.pf_model.specs.Micros.{seconds};
+ghost use Rattle.pf_range.specs.Windows.{IsTime};
+ghost use Rattle.pf_store.specs.Standing.{StandsFor};
+ghost use Rattle.pf_selectors.specs.SeriesColumns.{labels_read, read_at, read_column, value_read, values_read};
+ghost use Rattle.pf_selectors.specs.Times.{AreTimes, time_at};
+
+use crate::cursor::{moved, newest, read};
+use crate::times::Times;
+use pf_base::{Labels, OutOfMemory, Sample, Value};
+use pf_block::Snap;
+use pf_columns::{Column, StepCells, normalised};
+use std::alloc::Global;
+
+/// How far back a sample is read, in milliseconds.
+const LOOKBACK: i64 = 300_000;
+
+/// What is read of a sample: its value, or its time.
+#[derive(Clone, Copy)]
+enum Reading {
+    Value,
+    Time,
+}
+
+/// A time in seconds.
+fn seconds(time: i64) -> Value
+    ensures { result ≡ seconds time }
+{
+    Value::new(time as i128 * 1_000)
+}
+
+fn value_read(reading: Reading, sample: Option<Sample>) -> Option<Value>
+    ensures { result ≡ option_map (value_read reading) sample }
+{
+    match (sample, reading) {
+        (None, _) => None,
+        (Some(sample), Reading::Value) => Some(sample.value),
+        (Some(sample), Reading::Time) => Some(seconds(sample.time)),
+    }
+}
+
+fn labels_read(reading: Reading, labels: &Labels) -> Result<Labels, OutOfMemory>
+    ensures { IfOk result (λ l. l ≡ labels_read reading labels.now) }
+{
+    match reading {
+        Reading::Value => Ok(labels.clone()?),
+        Reading::Time => labels.without_name(),
+    }
+}
+
+/// The last sample in the look-back of a time, where so many samples aren't after it.
+fn read_at(samples: &[Sample], count: usize, time: i64) -> Option<Sample>
+    requires rises { rises samples.now ≡ true }
+    requires time { IsTime time }
+    requires count { count ≡ until time samples.now }
+    requires within { count ≤ length samples.now }
+    ensures { result ≡ read_at samples.now time }
+{
+    newest(samples, count, time - LOOKBACK)
+}
+
+fn values_read(
+    alloc: Global,
+    reading: Reading,
+    samples: &[Sample],
+    times: &Times,
+) -> Result<Vec<Option<Value>>, OutOfMemory>
+    requires rises { rises samples.now ≡ true }
+    requires times { AreTimes times.now }
+    ensures { IfOk result (λ v. v.items ≡ values_read reading samples.now times.now) }
+{
+    let mut found = Vec::with_capacity(alloc, times.len as usize)?;
+    let mut count = 0;
+    for i in 0..times.len {
+        let time = times.at(i);
+        count = moved(samples, count, time);
+        found.push(value_read(reading, read_at(samples, count, time)))?;
+    }
+    Ok(found)
+}
+
+/// The column of a series. `samples` is overwritten.
+fn read_column(
+    alloc: Global,
+    reading: Reading,
+    snap: &Snap,
+    id: u32,
+    times: &Times,
+    samples: &mut Vec<Sample>,
+) -> Result<Column, OutOfMemory>
+    requires inside { id < length snap.now.labels }
+    requires times { AreTimes times.now }
+    requires some { 0 < times.now.len }
+    ensures { IfOk result (λ c. c ≡ read_column reading snap.now times.now id) }
+{
+    let span = times.span();
+    read(snap, id, span.first - LOOKBACK, span.last, samples)?;
+    Ok(Column {
+        labels: labels_read(reading, snap.labels(id))?,
+        values: values_read(alloc, reading, samples, times)?,
+    })
+}
+
+fn read_columns(
+    alloc: Global,
+    reading: Reading,
+    snap: &Snap,
+    ids: &[u32],
+    times: &Times,
+) -> Result<Vec<Column>, OutOfMemory>
+    requires inside { All (λ id. id < length snap.now.labels) ids.now }
+    requires times { AreTimes times.now }
+    requires some { 0 < times.now.len }
+    ensures { IfOk result (λ v. v.items ≡ map (read_column reading snap.now times.now) ids.now) }
+{
+    let mut columns = Vec::with_capacity(alloc, ids.len())?;
+    let mut samples = Vec::new(alloc);
+    for id in ids {
+        columns.push(read_column(alloc, reading, snap, *id, times, &mut samples)?)?;
+    }
+    Ok(columns)
+}
+
+/// What is read of some series at each step.
+fn read_cells(
+    alloc: Global,
+    reading: Reading,
+    snap: &Snap,
+    ids: &[u32],
+    times: &Times,
+) -> Result<StepCells, OutOfMemory>
+    requires inside { All (λ id. id < length snap.now.labels) ids.now }
+    requires times { AreTimes times.now }
+    ensures cells { IfOk result (λ s. (k : ℕ) → k < times.now.len → step_at s k ≡ cell_of (cell_at (map (read_column reading snap.now times.now) ids.now) k)) }
+    ensures snap { IsSnap snap.now }
+{
+    let _count = snap.series_count();
+    if times.len == 0 {
+        return Ok(StepCells {
+            columns: Vec::new(alloc),
+            bads: Vec::new(alloc),
+        });
+    }
+    let columns = read_columns(alloc, reading, snap, ids, times)?;
+    let found = normalised(alloc, columns, Vec::new(alloc), times.len)?;
+    Ok(found)
+}
+
+/// What an instant selector is at each step, where `ids` are the series that its matchers accept, in label order: for
+/// each of them its last sample in the look-back of five minutes. Prometheus, Querying basics: Instant vector selectors.
+pub fn selected(
+    alloc: Global,
+    snap: &Snap,
+    ids: &[u32],
+    times: &Times,
+) -> Result<StepCells, OutOfMemory>
+    requires inside { All (λ id. id < length snap.now.labels) ids.now }
+    requires times { AreTimes times.now }
+    ensures { IfOk result (λ s. (samples : List Row) (ms : List Matcher) → StandsFor snap.now samples → ids.now ≡ accepted_ids ms snap.now.labels → (k : ℕ) → k < times.now.len
+        → step_at s k ≡ Good (selected samples ms (time_at times.now k))) }
+{
+    let found = read_cells(alloc, Reading::Value, snap, ids, times)?;
+    Ok(found)
+}
+
+/// What the function `timestamp` of an instant selector is at each step, where `ids` are the series that its matchers
+/// accept, in label order: the times in seconds of the samples that are read, without the metric name. Prometheus, Query
+/// functions.
+pub fn sample_times(
+    alloc: Global,
+    snap: &Snap,
+    ids: &[u32],
+    times: &Times,
+) -> Result<StepCells, OutOfMemory>
+    requires inside { All (λ id. id < length snap.now.labels) ids.now }
+    requires times { AreTimes times.now }
+    ensures { IfOk result (λ s. (samples : List Row) (ms : List Matcher) → StandsFor snap.now samples → ids.now ≡ accepted_ids ms snap.now.labels → (k : ℕ) → k < times.now.len
+        → step_at s k ≡ cell_of (each_value Some (selected (map timed samples) ms (time_at times.now k)))) }
+{
+    let found = read_cells(alloc, Reading::Time, snap, ids, times)?;
+    Ok(found)
+}

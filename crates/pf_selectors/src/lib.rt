@@ -1,0 +1,22 @@
+//! What selectors read of a snapshot over a run of steps, as columns: a label set with its value at each step.
+//!
+//! What the layers above use:
+//!
+//! - `selected` is an instant selector: for each series its last sample in the look-back of each time.
+//! - `ranged` is a function of a range selector: for each series its value over the window before each time.
+//! - `sample_times` is the function `timestamp` of an instant selector: the times of the samples that are read.
+//! - `Times` are the times of a run. They are those that are read at: `@` and the offset are put in before, so that a
+//!   constant `@` has step 0.
+//!
+//! Series are named by their ids in the snapshot. Each one's samples in the run's range are read once, and walked as the
+//! times move on.
+#![tactic(auto)]
+
+mod cursor;
+mod instant;
+mod times;
+mod windows;
+
+pub use instant::{sample_times, selected};
+pub use times::Times;
+pub use windows::ranged;
