@@ -1,0 +1,5 @@
+use Rattle.pf_resolve.proofs.Selectors.{not_one}
+use Rattle.pf_resolve.proofs.sharding.is_range_selector.Goals as goal
+
+pub returns-else-args-eq1 : goal.returns-else-args-eq1
+returns-else-args-eq1 c = not_one c.args.args.now c.if-args-eq1.false

@@ -1,0 +1,8 @@
+//! Queries with their range put in, the times that they read, and which of them are evaluated shard by shard.
+#![tactic(auto)]
+
+mod resolution;
+mod sharding;
+
+pub use resolution::resolve;
+pub use sharding::shardable;

@@ -1,0 +1,115 @@
+//! `start()`, `end()` and absent resolutions put in.
+
+ghost use Rattle.std.specs.Prelude.{◌≡◌, map};
+ghost use Rattle.pf_model.specs.Resolving.{all_resolved, resolved, resolved_at, resolved_mods};
+ghost use Rattle.pf_model.specs.Trees.{tree_of, trees_of};
+
+use pf_base::Value;
+use pf_model::{At, Expr, Mods};
+use std::mem;
+
+/// One minute, in milliseconds.
+const MINUTE: u64 = 60_000;
+
+fn resolved_at(at: Option<At>, start: u64, end: u64) -> Option<At>
+    ensures { result ≡ resolved_at start end at }
+{
+    match at {
+        None => None,
+        Some(At::Time { millis }) => Some(At::Time { millis }),
+        Some(At::Start) => Some(At::Time { millis: start }),
+        Some(At::End) => Some(At::Time { millis: end }),
+    }
+}
+
+fn resolved_mods(mods: Mods, start: u64, end: u64) -> Mods
+    ensures { result ≡ resolved_mods start end mods }
+{
+    Mods {
+        at: resolved_at(mods.at, start, end),
+        offset: mods.offset,
+    }
+}
+
+/// What stands in a tree's place while it is resolved.
+fn blank() -> Expr {
+    Expr::Number {
+        value: Value::new(0),
+    }
+}
+
+/// A query with its range put in: the first and the last time of its range, in milliseconds, for `start()` and `end()`, and one
+/// minute for an absent resolution. Prometheus, Querying basics: @ modifier, Subquery. It takes no memory, and calls itself as
+/// deep as the tree is high.
+pub fn resolve(expr: Expr, start: u64, end: u64) -> Expr
+    ensures { tree_of result ≡ resolved start end (tree_of expr) }
+{
+    match expr {
+        Expr::Number { value } => Expr::Number { value },
+        Expr::Text { text } => Expr::Text { text },
+        Expr::Unary { minus, mut arg } => {
+            let inner = mem::replace(&mut *arg, blank());
+            *arg = resolve(inner, start, end);
+            Expr::Unary { minus, arg }
+        }
+        Expr::Binary {
+            op,
+            matching,
+            mut left,
+            mut right,
+        } => {
+            let first = mem::replace(&mut *left, blank());
+            *left = resolve(first, start, end);
+            let second = mem::replace(&mut *right, blank());
+            *right = resolve(second, start, end);
+            Expr::Binary {
+                op,
+                matching,
+                left,
+                right,
+            }
+        }
+        Expr::Call { function, mut args } => {
+            for i in 0..args.len() {
+                let inner = mem::replace(&mut args[i], blank());
+                args[i] = resolve(inner, start, end);
+            }
+            Expr::Call { function, args }
+        }
+        Expr::Aggregate {
+            op,
+            grouping,
+            mut args,
+        } => {
+            for k in 0..args.len() {
+                let inner = mem::replace(&mut args[k], blank());
+                args[k] = resolve(inner, start, end);
+            }
+            Expr::Aggregate { op, grouping, args }
+        }
+        Expr::Select {
+            selector,
+            range,
+            mods,
+        } => Expr::Select {
+            selector,
+            range,
+            mods: resolved_mods(mods, start, end),
+        },
+        Expr::Subquery {
+            mut arg,
+            range,
+            resolution,
+            mods,
+        } => {
+            let inner = mem::replace(&mut *arg, blank());
+            *arg = resolve(inner, start, end);
+            Expr::Subquery {
+                arg,
+                range,
+                resolution: Some(resolution.unwrap_or(MINUTE)),
+                mods: resolved_mods(mods, start, end),
+            }
+        }
+    }
+}
