@@ -1,3 +1,4 @@
+pub mod AcceptedIds
 pub mod ApartRows
 pub mod Deletions
 pub mod Holding

@@ -8,6 +8,7 @@
 #![tactic(auto)]
 
 mod judged;
+mod matched;
 mod taken;
 mod tenant_log;
 mod verdict;
