@@ -155,21 +155,21 @@ module _ (range : ℕ) (s : SnapData) (times : Times) (ids : List ℕ) (k : ℕ)
 
 -- ---- no samples at all
 
-absent_more : (ys xs : List Sample) (from to : ℤ) (v : Option ℤ) → unless_some (ys ++ xs) v ≡ unless_some xs (unless_some ys v)
-absent_more [] xs from to v = refl
-absent_more (y ∷ ys) [] from to v = refl
-absent_more (y ∷ ys) (x ∷ xs) from to v = refl
+absent_more : (ys xs : List Sample) (v : Option ℤ) → unless_some (ys ++ xs) v ≡ unless_some xs (unless_some ys v)
+absent_more [] xs v = refl
+absent_more (y ∷ ys) [] v = refl
+absent_more (y ∷ ys) (x ∷ xs) v = refl
 
-absent_is : (xs : List Sample) (from to : ℤ) → unless_some xs (Some one) ≡ range_function AbsentOverTime xs from to
-absent_is [] from to = refl
-absent_is (x ∷ xs) from to = refl
+absent_is : (xs : List Sample) (a b : ℤ) → unless_some xs (Some one) ≡ range_function AbsentOverTime xs a b
+absent_is [] a b = refl
+absent_is (x ∷ xs) a b = refl
 
 present_by : (range : ℕ) (s : SnapData) (times : Times) (k : ℕ) (es : List Entry) (v : Option ℤ)
     → unless_present range s times k (map (λ e. e.1) es) v ≡ unless_some (joined (λ (e : Entry). window_at range (samples_of s e.1) times k) es) v
 present_by range s times k [] v = refl
 present_by range s times k (e ∷ es) v =
     present_by range s times k es (unless_some (window_at range (samples_of s e.1) times k) v)
-    ∙ sym (absent_more (window_at range (samples_of s e.1) times k) (joined (λ (x : Entry). window_at range (samples_of s x.1) times k) es) (pos 0) (pos 0) v)
+    ∙ sym (absent_more (window_at range (samples_of s e.1) times k) (joined (λ (x : Entry). window_at range (samples_of s x.1) times k) es) v)
 
 pub absence_is : (range : ℕ) (s : SnapData) (times : Times) (ids : List ℕ) (k : ℕ) → IsSnap s → (samples : List Row) (ms : List Matcher) → StandsFor s samples → AreApart samples
     → ids ≡ accepted_ids ms s.labels → (absent : Pairs)

@@ -1,10 +1,10 @@
 -- The times of a run lie between its first and its last.
-use Rattle.std.proofs.Common.{◌≡◌, ℕ, Bool, true, false, cond, ◌-◌, ◌*◌, ◌<◌, ◌≤◌, suc, ℤ, pos, negsuc, ◌+ℤ◌, ◌*ℤ◌, ◌≤ℤ◌, FitsSigned, w64, sym, ◌∙◌, subst, arith}
+use Rattle.std.proofs.Common.{◌≡◌, ℕ, Bool, true, false, cond, ◌-◌, ◌*◌, ◌<◌, ◌≤◌, suc, ℤ, pos, negsuc, ◌+ℤ◌, ◌*ℤ◌, ◌≤ℤ◌, FitsSigned, w64, sym, ◌∙◌, subst, arith, ◌-ℤ◌}
 use Rattle.std.specs.Prelude.{int_le}
 use Rattle.std.proofs.lemmas.Int.{ints}
 use Rattle.std.proofs.lemmas.Nat.{mul-le}
 use Rattle.pf_range.specs.Windows.{IsTime}
-use Rattle.pf_selectors.specs.Times.{AreTimes, time_at}
+use Rattle.pf_selectors.specs.Times.{AreEnds, AreStarts, AreTimes, time_at}
 use Rattle.pf_selectors.specs.declared.times.Times.{Times}
 
 pub at_first : (t : Times) → time_at t 0 ≡ t.start
@@ -63,3 +63,19 @@ step_fits t k l h = product_fits t.start (pos k *ℤ t.step) (first_time t (omeg
 pub of_lower : (P : ℤ → Type 0) (a b m : ℤ) (c : Bool) → m ≡ cond c a b → P a → P b → P m
 of_lower P a b m true e p q = subst P (sym e) p
 of_lower P a b m false e p q = subst P (sym e) q
+
+-- where the first and the last time are bounded, all are
+module _ (range : ℕ) (t : Times) (a b : ℤ) (p : a ≡ t.start) (q : b ≡ (t.start +ℤ (pos (t.len - 1) *ℤ t.step))) (h : AreEnds range a b) where
+  pub all_times : AreTimes t
+  all_times k l =
+      let f : IsTime t.start = subst IsTime p h.first in
+      let g : IsTime (t.start +ℤ (pos (t.len - 1) *ℤ t.step)) = subst IsTime q h.last in
+      (low_by (negsuc 1125899906842623) t.start t.step k (t.len - 1) (omega arith) f.0 g.0, high_by (pos 1125899906842624) t.start t.step k (t.len - 1) (omega arith) f.1 g.1)
+
+  pub all_starts : AreStarts range t
+  all_starts k l =
+      let f : IsTime (t.start -ℤ pos range) = subst (λ z. IsTime (z -ℤ pos range)) p h.first_start in
+      let g : IsTime ((t.start +ℤ (pos (t.len - 1) *ℤ t.step)) -ℤ pos range) = subst (λ z. IsTime (z -ℤ pos range)) q h.last_start in
+      let lo = low_by (negsuc 1125899906842623 +ℤ pos range) t.start t.step k (t.len - 1) (omega arith) (omega (arith, ints, f.0)) (omega (arith, ints, g.0)) in
+      let hi = high_by (pos 1125899906842624 +ℤ pos range) t.start t.step k (t.len - 1) (omega arith) (omega (arith, ints, f.1)) (omega (arith, ints, g.1)) in
+      (omega (arith, ints, lo), omega (arith, ints, hi))

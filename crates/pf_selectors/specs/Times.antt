@@ -14,3 +14,10 @@ AreTimes times = (k : ℕ) → k < times.len → IsTime (time_at times k)
 -- and so is where the window of so many milliseconds before it begins
 abbrev pub AreStarts : ℕ → Times → Type 0
 AreStarts range times = (k : ℕ) → k < times.len → IsTime (time_at times k -ℤ pos range)
+
+-- the first and the last time, and their windows
+pub record AreEnds (range : ℕ) (a b : ℤ) : Type 0 where
+  pub first : IsTime a
+  pub last : IsTime b
+  pub first_start : IsTime (a -ℤ pos range)
+  pub last_start : IsTime (b -ℤ pos range)

@@ -1,8 +1,8 @@
 //! The times of a run.
 
-ghost use Rattle.std.specs.Prelude.{◌≡◌, ◌<◌, ◌-ℤ◌, ℕ, pos, int_le, true};
+ghost use Rattle.std.specs.Prelude.{◌≡◌, ◌<◌, ◌+ℤ◌, ◌-ℤ◌, ◌*ℤ◌, ℕ, ℤ, pos, int_le, true, Some};
 ghost use Rattle.pf_range.specs.Windows.{IsTime};
-ghost use Rattle.pf_selectors.specs.Times.{AreStarts, AreTimes, time_at};
+ghost use Rattle.pf_selectors.specs.Times.{AreEnds, AreStarts, AreTimes, time_at};
 
 /// The times of so many steps, in milliseconds: that of the step k is `start + k * step`.
 #[derive(Clone, Copy, Debug, PartialEq, Eq)]
@@ -19,6 +19,33 @@ pub(crate) struct Span {
     pub(crate) last: i64,
 }
 
+/// The time of a step, unless it is too large.
+fn end_of(start: i64, by: i64, step: u32) -> Option<i64>
+    ensures { (z : ℤ) → result ≡ Some z → z ≡ start +ℤ (pos step *ℤ by) }
+{
+    let way = (step as i64).checked_mul(by)?;
+    start.checked_add(way)
+}
+
+/// Whether a time is within 2^50 milliseconds before and after 0.
+fn is_time(time: i64) -> bool
+    ensures { result ≡ true → IsTime time }
+{
+    -1_125_899_906_842_624 <= time && time <= 1_125_899_906_842_624
+}
+
+fn is_start(time: i64, range: u64) -> bool
+    ensures { result ≡ true → IsTime (time -ℤ pos range) }
+{
+    range <= 2_251_799_813_685_248 && is_time(time) && is_time(time - range as i64)
+}
+
+fn are_ends(start: i64, end: i64, range: u64) -> bool
+    ensures { result ≡ true → AreEnds range start end }
+{
+    is_time(start) && is_time(end) && is_start(start, range) && is_start(end, range)
+}
+
 impl Times {
     /// The time of a step, counted from 0.
     pub fn at(&self, step: u32) -> i64
@@ -28,6 +55,21 @@ impl Times {
         ensures within { IsTime result }
     {
         self.start + step as i64 * self.step
+    }
+
+    /// Whether all times, and where the windows of `range` milliseconds before them begin, are within 2^50 milliseconds
+    /// before and after 0. A run of no step has none.
+    pub fn are_bounded(&self, range: u64) -> bool
+        ensures times { result ≡ true → AreTimes self.now }
+        ensures starts { result ≡ true → AreStarts range self.now }
+    {
+        if self.len == 0 {
+            return true;
+        }
+        match end_of(self.start, self.step, self.len - 1) {
+            Some(end) => are_ends(self.start, end, range),
+            None => false,
+        }
     }
 
     /// Where the window of so many milliseconds before a step begins.
