@@ -1,6 +1,7 @@
 -- A snapshot's samples, where a further block is put on its blocks, and where samples are cut out of them.
-use Rattle.std.proofs.Common.{◌≡◌, ℕ, zero, suc, ◌+◌, ◌<◌, ◌≤◌, ◌^◌, ℤ, pos, Bool, true, false, cond, ◌||◌, not, List, [], ◌∷◌, ◌++◌, length, map, take, drop, get_or, min, refl, sym, ap, ◌∙◌, subst, arith, append_assoc, Option}
-use Rattle.std.specs.Prelude.{int_le, nat_eq, nat_lt, slice_index_or}
+use Rattle.std.proofs.Common.{◌≡◌, ℕ, zero, suc, ◌+◌, ◌<◌, ◌≤◌, ◌^◌, ℤ, pos, Bool, true, false, cond, ◌&&◌, ◌||◌, not, List, [], ◌∷◌, ◌++◌, length, map, take, drop, get_or, min, refl, sym, ap, ◌∙◌, subst, arith, append_assoc, Option}
+use Rattle.std.specs.Prelude.{◌-ℤ◌, int_le, int_lt, nat_eq, nat_lt, slice_index_or}
+use Rattle.std.proofs.lemmas.Int.{ints}
 use Rattle.std.specs.List.{list_all, list_any, filter}
 use Rattle.std.specs.Cmp.{first_so, second_so}
 use Rattle.std.proofs.lemmas.Bool.Decides.{nat_tests}
@@ -8,9 +9,9 @@ use Rattle.pf_base.specs.declared.plain.Row.{Row}
 use Rattle.pf_base.specs.declared.plain.Sample.{Sample}
 use Rattle.pf_base.specs.LabelSets.{Pairs}
 use Rattle.pf_block.specs.Blocks.{Entries, ascends, ascends_after, entries_of, is_left, is_upto, labels_with, samples_in, same_sample, times_in}
-use Rattle.pf_block.specs.Samples.{is_outside, is_series, last_of, rises, window_of}
+use Rattle.pf_block.specs.Samples.{is_outside, is_series, is_within, last_of, rises, window_of}
 use Rattle.pf_block.specs.Snaps.{SnapData, IsSnap, are_new, are_timed, cut_from, samples_of, with_rows, without_rows}
-use Rattle.pf_block.specs.Stacks.{IsKept, IsStacked, cut_all, doubles, is_clear, is_not_after, merged_into, series_from, series_in, snap_of, topped}
+use Rattle.pf_block.specs.Stacks.{IsCut, IsKept, IsStacked, cut_all, doubles, is_clear, is_not_after, merged_into, series_from, series_in, snap_of, topped}
 use Rattle.pf_block.proofs.Canonical.{all_not_after, ascends_behind, ascends_lower, goes, goes_on, one_list, rises_apart, rises_front, rises_goes, same_is, series_goes}
 use Rattle.pf_block.proofs.Keeping.{all_at, cut_snap}
 use Rattle.pf_block.proofs.Merging.{merged_times, merged_ascends, times, times_append, times_more}
@@ -302,9 +303,41 @@ cut_at first series from to (xs ∷ xss) (suc k) l =
     let e : (first + 1) + k ≡ first + suc k = omega arith in
     cut_at (first + 1) series from to xss k (omega arith) ∙ ap (λ i. cond (list_any (nat_eq i) series) (filter (is_outside from to) (get_or xss k [])) (get_or xss k [])) e
 
-one_doubles : (es : Entries) → doubles (map length (topped es)) ≡ true
-one_doubles [] = refl
-one_doubles (e ∷ es) = refl
+-- ---- first blocks that nothing is cut out of
+
+out_of : (f t x : ℤ) → (int_lt (f -ℤ pos 1) x && int_le x t) ≡ false → (int_lt x f || int_lt t x) ≡ true
+out_of f t x h = grind (arith, ints)
+
+outside_by : (f t : ℤ) (x : Sample) (xs : List Sample) (v : Bool) → is_within (f -ℤ pos 1) t x ≡ v → cond v (x ∷ window_of xs (f -ℤ pos 1) t) (window_of xs (f -ℤ pos 1) t) ≡ [] → (window_of xs (f -ℤ pos 1) t ≡ [] → filter (is_outside f t) xs ≡ xs)
+    → filter (is_outside f t) (x ∷ xs) ≡ x ∷ xs
+outside_by f t x xs true e h r = cc
+outside_by f t x xs false e h r = ap (λ b. cond b (x ∷ filter (is_outside f t) xs) (filter (is_outside f t) xs)) (out_of f t x.time e) ∙ ap (λ l. x ∷ l) (r h)
+
+outside_all : (f t : ℤ) (xs : List Sample) → window_of xs (f -ℤ pos 1) t ≡ [] → filter (is_outside f t) xs ≡ xs
+outside_all f t [] h = refl
+outside_all f t (x ∷ xs) h = outside_by f t x xs (is_within (f -ℤ pos 1) t x) refl h (outside_all f t xs)
+
+fewer_times : (p : Sample → Bool) (x : Sample) (xs : List Sample) → times_in x (filter p xs) ≤ times_in x xs
+fewer_times p x [] = omega arith
+fewer_times p x (y ∷ ys) = let r = fewer_times p x ys in elim (p y) as (λ v. times_in x (cond v (y ∷ filter p ys) (filter p ys)) ≤ cond (same_sample x y) 1 0 + times_in x ys) [ true ↦ omega (arith, r) | false ↦ omega (arith, r) ]
+
+-- an id of a list has a place
+record HasPlace (k : ℕ) (ids : List ℕ) : Type 0 where
+  place : ℕ
+  within : place < length ids
+  is : get_or ids place 0 ≡ k
+
+place_by : (k i : ℕ) (ids : List ℕ) (v : Bool) → nat_eq k i ≡ v → (v || list_any (nat_eq k) ids) ≡ true → (list_any (nat_eq k) ids ≡ true → HasPlace k ids) → HasPlace k (i ∷ ids)
+place_by k i ids true e h f = record { place = 0; within = omega arith; is = let q : i ≡ k = grind (arith, nat_tests) in q }
+place_by k i ids false e h f = let r = f h in record { place = suc r.place; within = let w : r.place < length ids = r.within in omega (arith, w); is = r.is }
+
+place_of : (k : ℕ) (ids : List ℕ) → list_any (nat_eq k) ids ≡ true → HasPlace k ids
+place_of k [] h = cc
+place_of k (i ∷ ids) h = place_by k i ids (nat_eq k i) refl h (place_of k ids)
+
+front_empty : (xs ys : List Sample) → xs ++ ys ≡ [] → xs ≡ []
+front_empty [] ys h = refl
+front_empty (x ∷ xs) ys h = cc
 
 -- samples cut out
 module _ (labels : List Pairs) (bs : List Entries) (series : List ℕ) (from to : ℕ) (marks : List Bool) (f t : ℤ) (kept : IsKept labels bs)
@@ -336,24 +369,96 @@ module _ (labels : List Pairs) (bs : List Entries) (series : List ℕ) (from to 
       let n : length new.samples ≤ k = let a : length new.samples ≡ length labels = new_snap.alike in omega (arith, a, l) in
       ap (times_in x) (over_end new.samples k n ∙ cut_none marks f t k ∙ ap (left_of marks f t k) (sym (kept.known k l))) ∙ sym (cut_times marks f t k x bs)
 
-  pub without_is : (snap_of labels (topped (cut_all marks f t bs)) ≡ new) × IsKept labels (topped (cut_all marks f t bs))
-  without_is =
-      let a : ascends (cut_all marks f t bs) ≡ true = cut_ascends marks f t bs kept.sorted in
-      kept_of new labels (topped (cut_all marks f t bs)) new_snap refl (all_topped (cut_all marks f t bs) a)
-      (λ k. series_topped k (cut_all marks f t bs) ∙ one_list (samples_of new k) (samples_in k (cut_all marks f t bs)) (inside_at k new.samples new_snap.lawful) (series_goes k (cut_all marks f t bs) a) (times_same k (nat_lt k (length labels)) refl))
-      (one_doubles (cut_all marks f t bs))
+  module _ (stack : List Entries) (c : IsCut series marks f t bs stack) where
+    abbrev front : ℕ → List Sample
+    front k = series_in k (take c.count bs)
+
+    abbrev behind : ℕ → List Sample
+    behind k = series_in k (drop c.count bs)
+
+    abbrev left : Entries
+    left = cut_all marks f t (drop c.count bs)
+
+    front_by : (k : ℕ) (v : Bool) → list_any (nat_eq k) series ≡ v → cond v (filter (is_outside f t) (front k)) (front k) ≡ front k
+    front_by k true e =
+        let r = place_of k series e in
+        outside_all f t (front k) (subst (λ j. window_of (series_in j (take c.count bs)) (f -ℤ pos 1) t ≡ []) r.is (c.none r.place r.within 0))
+    front_by k false e = refl
+
+    front_left : (k : ℕ) (v : Bool) → nat_lt k (length labels) ≡ v → left_of marks f t k (front k) ≡ front k
+    front_left k true e =
+        let l : k < length labels = grind (arith, nat_tests) in
+        ap (λ v. cond v (filter (is_outside f t) (front k)) (front k)) (marked k l) ∙ front_by k (list_any (nat_eq k) series) refl
+    front_left k false e =
+        let l : length labels ≤ k = grind (arith, nat_tests) in
+        let n : front k ≡ [] = front_empty (front k) (behind k) (series_split k c.count bs ∙ kept.known k l) in
+        ap (left_of marks f t k) n ∙ sym (cut_none marks f t k) ∙ sym n
+
+    stack_left : (k : ℕ) (x : Sample) → times_in x (series_in k stack) ≡ times_in x (left_of marks f t k (series_in k bs))
+    stack_left k x =
+        let a : times_in x (series_in k stack) ≡ times_in x (front k) + times k x left = stack_times (take c.count bs) c.count left stack c.stacked k x in
+        let b : times k x left ≡ times_in x (left_of marks f t k (behind k)) = cut_times marks f t k x (drop c.count bs) in
+        let d : times_in x (left_of marks f t k (front k)) ≡ times_in x (front k) = ap (times_in x) (front_left k (nat_lt k (length labels)) refl) in
+        let e = times_append x (left_of marks f t k (front k)) (left_of marks f t k (behind k)) in
+        let g : times_in x (left_of marks f t k (series_in k bs)) ≡ times_in x (left_of marks f t k (front k) ++ left_of marks f t k (behind k)) =
+        ap (times_in x) (ap (left_of marks f t k) (sym (series_split k c.count bs)) ∙ left_append marks f t k (front k) (behind k)) in
+        omega (arith, a, b, d, e, g)
+
+    left_fewer : (k : ℕ) (x : Sample) (xs : List Sample) → times_in x (left_of marks f t k xs) ≤ times_in x xs
+    left_fewer k x xs = elim (slice_index_or marks k false) as (λ v. times_in x (cond v (filter (is_outside f t) xs) xs) ≤ times_in x xs) [ true ↦ fewer_times (is_outside f t) x xs | false ↦ omega arith ]
+
+    module _ (k : ℕ) where
+      whole_rises : rises (front k ++ behind k) ≡ true
+      whole_rises = subst (λ l. rises l ≡ true) (sym (series_split k c.count bs)) (kept_rises labels bs kept k)
+
+      front_rises : rises (front k) ≡ true
+      front_rises = rises_front (front k) (behind k) whole_rises
+
+      abbrev bottom : List Sample
+      bottom = series_in k (take c.stacked.count (take c.count bs))
+
+      abbrev taken : List Sample
+      taken = series_in k (drop c.stacked.count (take c.count bs))
+
+      parts_rise : rises (bottom ++ taken) ≡ true
+      parts_rise = subst (λ l. rises l ≡ true) (sym (series_split k c.stacked.count (take c.count bs))) front_rises
+
+      both_apart : (x y : Sample) (n : ℕ) → times_in y taken ≡ n → 0 < times_in x bottom → 0 < n + times k y left → int_le x.time y.time ≡ true
+      both_apart x y (suc n) e l m = rises_apart bottom taken x y parts_rise l (omega (arith, e))
+      both_apart x y zero e l m =
+          let a : times_in x (bottom ++ taken) ≡ times_in x (front k) = ap (times_in x) (series_split k c.stacked.count (take c.count bs)) in
+          let b = times_append x bottom taken in
+          let d : times k y left ≡ times_in y (left_of marks f t k (behind k)) = cut_times marks f t k y (drop c.count bs) in
+          let g = left_fewer k y (behind k) in
+          rises_apart (front k) (behind k) x y whole_rises (omega (arith, a, b, l)) (omega (arith, d, g, m))
+
+      left_ascends : ascends left ≡ true
+      left_ascends = cut_ascends marks f t (drop c.count bs) (all_drop c.count bs kept.sorted)
+
+      cut_goes : goes (series_in k stack) ≡ true
+      cut_goes =
+          let a : ascends (merged_into (drop c.stacked.count (take c.count bs)) left) ≡ true =
+          into_ascends (drop c.stacked.count (take c.count bs)) left (all_drop c.stacked.count (take c.count bs) (all_take c.count bs kept.sorted)) left_ascends in
+          subst (λ l. goes l ≡ true) (sym (stack_is (take c.count bs) c.count left stack c.stacked k))
+          (goes_on bottom (samples_in k (merged_into (drop c.stacked.count (take c.count bs)) left)) (rises_goes bottom (rises_front bottom taken parts_rise)) (series_goes k (merged_into (drop c.stacked.count (take c.count bs)) left) a)
+          (λ x y l m. both_apart x y (times_in y taken) refl l (subst (λ n. 0 < n) (into_times k y (drop c.stacked.count (take c.count bs)) left) m)))
+
+    pub without_is : (snap_of labels stack ≡ new) × IsKept labels stack
+    without_is =
+        kept_of new labels stack new_snap refl (stack_sorted (take c.count bs) c.count left stack c.stacked (all_take c.count bs kept.sorted) (left_ascends 0))
+        (λ k. one_list (samples_of new k) (series_in k stack) (inside_at k new.samples new_snap.lawful) (cut_goes k)
+        (λ x. times_same k (nat_lt k (length labels)) refl x ∙ cut_times marks f t k x bs ∙ sym (stack_left k x)))
+        c.stacked.doubles
 
 pub lawful_at : (s : SnapData) (id : ℕ) → IsSnap s → id < length s.labels → is_series (samples_of s id) ≡ true
 lawful_at s id h l = let a = h.alike in all_at is_series s.samples id [] h.lawful (omega (arith, a, l))
 
-pub cut_made : (labels news : List Pairs) (bs cs stack : List Entries) (series : List ℕ) (from to : ℕ) (marks ms : List Bool) (f t : ℤ) → IsKept labels bs → stack ≡ topped (cut_all ms f t cs) → ms ≡ marks → cs ≡ bs →
+pub cut_made : (labels news : List Pairs) (bs cs stack : List Entries) (series : List ℕ) (from to : ℕ) (marks ms : List Bool) (f t : ℤ) → IsKept labels bs → IsCut series ms f t cs stack → ms ≡ marks → cs ≡ bs →
     ((k : ℕ) → k < length labels → slice_index_or marks k false ≡ list_any (nat_eq k) series) → f ≡ pos (min from 4398046511104) → t ≡ pos (min to 4398046511103) →
     news ≡ labels → (snap_of news stack ≡ without_rows (snap_of labels bs) series from to) × IsKept news stack
 cut_made labels news bs cs stack series from to marks ms f t kept g o r marked p q e =
-    let w = without_is labels bs series from to marks f t kept marked p q in
-    let h : stack ≡ topped (cut_all marks f t bs) = g ∙ (λ i. topped (cut_all (o i) f t (r i))) in
-    subst (λ s. (snap_of news s ≡ without_rows (snap_of labels bs) series from to) × IsKept news s) (sym h)
-    (subst (λ l. (snap_of l (topped (cut_all marks f t bs)) ≡ without_rows (snap_of labels bs) series from to) × IsKept l (topped (cut_all marks f t bs))) (sym e) w)
+    let c : IsCut series marks f t bs stack = subst (λ m. IsCut series m f t bs stack) o (subst (λ b. IsCut series ms f t b stack) r g) in
+    subst (λ l. (snap_of l stack ≡ without_rows (snap_of labels bs) series from to) × IsKept l stack) (sym e) (without_is labels bs series from to marks f t kept marked p q stack c)
 
 pub window_read : (id : ℕ) (bs cs : List Entries) (ys r : List Sample) (a u b v : ℤ) → r ≡ window_of (series_in id bs) a u → bs ≡ cs → series_in id cs ≡ ys → a ≡ b → u ≡ v → r ≡ window_of ys b v
 window_read id bs cs ys r a u b v e p q f g = e ∙ ap (λ l. window_of (series_in id l) a u) p ∙ ap (λ l. window_of l a u) q ∙ (λ i. window_of ys (f i) (g i))

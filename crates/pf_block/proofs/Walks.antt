@@ -1,6 +1,6 @@
 -- Walks over blocks, from the newest to the oldest and on.
 use Rattle.std.proofs.Common.{◌≡◌, ℕ, zero, suc, ◌+◌, ◌-◌, ◌*◌, ◌/◌, ◌<◌, ◌≤◌, ℤ, pos, Bool, true, false, ◌&&◌, ◌||◌, List, [], ◌∷◌, ◌++◌, length, map, take, drop, get_or, min, refl, sym, ap, ◌∙◌, subst, arith, Some, None, Option}
-use Rattle.std.specs.Prelude.{int_le, int_lt, nat_eq, nat_lt, nat_le}
+use Rattle.std.specs.Prelude.{◌-ℤ◌, int_le, int_lt, nat_eq, nat_lt, nat_le}
 use Rattle.std.specs.List.{filter, list_all, slice_get}
 use Rattle.std.specs.Cmp.{first_so, second_so}
 use Rattle.std.proofs.lemmas.Int.{ints}
@@ -8,7 +8,7 @@ use Rattle.std.proofs.lemmas.Bool.Decides.{nat_tests}
 use Rattle.pf_base.specs.declared.plain.Sample.{Sample}
 use Rattle.pf_block.specs.Blocks.{Entries, ascends, ascends_after, is_left, is_upto, merged, samples_in}
 use Rattle.pf_block.specs.Samples.{is_within, last_of, last_onto, rises, rises_after, window_of}
-use Rattle.pf_block.specs.Stacks.{IsStacked, cut_all, doubles, is_clear, is_not_after, merged_into, series_in, takes_in, topped}
+use Rattle.pf_block.specs.Stacks.{IsCut, IsStacked, cut_all, doubles, is_clear, is_not_after, merged_into, series_in, takes_in, topped}
 use Rattle.pf_block.proofs.Canonical.{rises_back, rises_front}
 use Rattle.pf_block.proofs.Pairing.{drop_at}
 use Rattle.pf_block.proofs.Searches.{both, last_is}
@@ -75,7 +75,7 @@ last_missing [] h = refl
 last_missing (y ∷ ys) h = absurd (some_onto y ys h)
 
 module _ (id : ℕ) (after upto : ℤ) (bs : List Entries) (n : ℕ) (b : Entries) (l : n < length bs) (h : b ≡ get_or bs n []) (ws : List Sample) (w : ws ≡ window_of (samples_in id b) after upto) where
-  window_next : window_of (series_in id (take (suc n) bs)) after upto ≡ window_of (series_in id (take n bs)) after upto ++ ws
+  pub window_next : window_of (series_in id (take (suc n) bs)) after upto ≡ window_of (series_in id (take n bs)) after upto ++ ws
   window_next =
       ap (λ x. window_of x after upto) (series_next id bs n b l h) ∙ filter_append (is_within after upto) (series_in id (take n bs)) (samples_in id b)
       ∙ ap (λ x. window_of (series_in id (take n bs)) after upto ++ x) (sym w)
@@ -376,6 +376,61 @@ module _ {X : Type 0} (f : X → Entries) (id : ℕ) (more behind : List X) (x :
   pub walk_behind : rises (series_in id (map f more)) ≡ true → rises (series_in id (map f behind)) ≡ true
   walk_behind r = behind_rises id b (map f behind) (rises_all r)
 
+-- ---- first blocks with no sample in a window
+
 pub none_left : (xs : List Sample) → length xs ≡ 0 → xs ≡ []
 none_left [] h = refl
 none_left (x ∷ xs) h = absurd (omega (arith, h))
+
+module _ (id : ℕ) (bs : List Entries) (a u : ℤ) where
+  abbrev HasNone : ℕ → Type 0
+  HasNone n = window_of (series_in id (take n bs)) a u ≡ []
+
+  front_none : (xs ys : List Sample) → xs ++ ys ≡ [] → xs ≡ []
+  front_none [] ys h = refl
+  front_none (x ∷ xs) ys h = cc
+
+  take_less : (m n : ℕ) → m ≤ n → (cs : List Entries) → (rest : List Entries) × (take n cs ≡ take m cs ++ rest)
+  take_less zero n l cs = (take n cs, refl)
+  take_less (suc m) zero l cs = absurd (omega (arith, l))
+  take_less (suc m) (suc n) l [] = ([], refl)
+  take_less (suc m) (suc n) l (c ∷ cs) = let r = take_less m n (omega (arith, l)) cs in (r.0, ap (λ l. c ∷ l) r.1)
+
+  pub fewer_none : (m n : ℕ) → m ≤ n → HasNone n → HasNone m
+  fewer_none m n l h =
+      let r = take_less m n l bs in
+      front_none (window_of (series_in id (take m bs)) a u) (window_of (series_in id r.0) a u)
+      (sym (filter_append (is_within a u) (series_in id (take m bs)) (series_in id r.0)) ∙ ap (λ x. window_of x a u) (sym (series_append id (take m bs) r.0) ∙ ap (series_in id) (sym r.1)) ∙ h)
+
+  pub one_more_none : (n : ℕ) (b : Entries) (ws : List Sample) → n < length bs → b ≡ get_or bs n [] → ws ≡ window_of (samples_in id b) a u → length ws ≡ 0 → HasNone n → HasNone (n + 1)
+  one_more_none n b ws l e w z h =
+      let p : n + 1 ≡ suc n = omega arith in
+      ap (λ k. window_of (series_in id (take k bs)) a u) p ∙ window_next id a u bs n b l e ws w ∙ ap (λ x. x ++ ws) h ∙ none_left ws z
+
+same_at : (ids : List ℕ) (i d e : ℕ) → i < length ids → get_or ids i d ≡ get_or ids i e
+same_at [] i d e l = absurd (omega arith)
+same_at (x ∷ ids) zero d e l = refl
+same_at (x ∷ ids) (suc i) d e l = same_at ids i d e (omega arith)
+
+-- one more of some ids
+pub all_none : (ids : List ℕ) (bs : List Entries) (a u : ℤ) (i m n new : ℕ) → i < length ids → new ≤ m → new ≤ n → ((k : ℕ) → k < i → (d : ℕ) → window_of (series_in (get_or ids k d) (take m bs)) a u ≡ [])
+    → window_of (series_in (get_or ids i 0) (take n bs)) a u ≡ [] → (k : ℕ) → k < i + 1 → (d : ℕ) → window_of (series_in (get_or ids k d) (take new bs)) a u ≡ []
+all_none ids bs a u i m n new w x y f h k l d = by (nat_lt k i) refl where
+  by : (v : Bool) → nat_lt k i ≡ v → window_of (series_in (get_or ids k d) (take new bs)) a u ≡ []
+  by true e = fewer_none (get_or ids k d) bs a u new m x (f k (grind (arith, nat_tests)) d)
+  by false e =
+      let p : k ≡ i = grind (arith, nat_tests) in
+      ap (λ j. window_of (series_in j (take new bs)) a u) (ap (λ j. get_or ids j d) p ∙ same_at ids i d 0 w) ∙ fewer_none (get_or ids i 0) bs a u new n y h
+
+pub kept_doubles : {X : Type 0} (f : X → Entries) (xs : List X) (n : ℕ) → doubles (map length (map f xs)) ≡ true → doubles (map length (map f (take n xs))) ≡ true
+kept_doubles f xs n h = ap (λ l. doubles (map length l)) (map_take f n xs) ∙ ap doubles (map_take length n (map f xs)) ∙ take_doubles (map length (map f xs)) n h
+
+pub cut_is : (ids : List ℕ) (marks : List Bool) (from to : ℤ) (bs : List Entries) (keep count : ℕ) (top : Entries) (cs stack : List Entries) (f t a u : ℤ) → cs ≡ take keep bs → top ≡ cut_all marks f t (drop count bs) → count ≡ keep → f ≡ from → t ≡ to
+    → a ≡ from -ℤ pos 1 → u ≡ to → ((k : ℕ) → k < length ids → (d : ℕ) → window_of (series_in (get_or ids k d) (take keep bs)) a u ≡ []) → IsStacked cs keep top stack → IsCut ids marks from to bs stack
+cut_is ids marks from to bs keep count top cs stack f t a u p q r x y z w h s = record {
+  count = keep;
+  none = λ k l d. sym (λ i. window_of (series_in (get_or ids k d) (take keep bs)) (z i) (w i)) ∙ h k l d;
+  stacked =
+      subst (λ l. IsStacked l keep (cut_all marks from to (drop keep bs)) stack) p
+      (subst (λ e. IsStacked cs keep e stack) (q ∙ (λ i. cut_all marks (x i) (y i) (drop (r i) bs))) s);
+}

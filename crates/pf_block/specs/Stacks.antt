@@ -1,9 +1,10 @@
 -- Blocks on one another, the newest last, and what they stand for. This project's own.
-use Rattle.std.specs.Prelude.{◌≡◌, ℕ, zero, suc, ◌+◌, ◌*◌, ◌/◌, ◌≤◌, ℤ, Bool, true, false, ◌||◌, ◌&&◌, List, [], ◌∷◌, ◌++◌, length, map, filter, take, drop, slice_index_or, int_le, nat_le, nat_lt}
+use Rattle.std.specs.Prelude.{◌≡◌, ℕ, zero, suc, ◌+◌, ◌*◌, ◌/◌, ◌<◌, ◌≤◌, ℤ, pos, ◌-ℤ◌, Bool, true, false, ◌||◌, ◌&&◌, List, [], ◌∷◌, ◌++◌, length, map, filter, take, drop, slice_index_or, int_le, nat_le, nat_lt}
 use Rattle.std.specs.List.{list_all}
 use Rattle.pf_base.specs.declared.plain.Sample.{Sample}
 use Rattle.pf_base.specs.LabelSets.{Pairs}
 use Rattle.pf_block.specs.Blocks.{Entries, ascends, samples_in, merged, is_left}
+use Rattle.pf_block.specs.Samples.{window_of}
 use Rattle.pf_block.specs.Snaps.{SnapData, IsSnap}
 
 -- the samples of a series in all blocks
@@ -74,3 +75,10 @@ pub record IsStacked (blocks : List Entries) (clear : ℕ) (es : Entries) (stack
 abbrev pub cut_all : List Bool → ℤ → ℤ → List Entries → Entries
 cut_all marks from to [] = []
 cut_all marks from to (b ∷ bs) = merged (filter (is_left marks from to) b) (cut_all marks from to bs)
+
+-- blocks without the samples of marked series, which are those of some ids, at times from `from` to `to`: on first blocks
+-- that have none of them there is what is left of the others
+pub record IsCut (ids : List ℕ) (marks : List Bool) (from to : ℤ) (blocks stack : List Entries) : Type 0 where
+  pub count : ℕ
+  pub none : (k : ℕ) → k < length ids → (d : ℕ) → window_of (series_in (slice_index_or ids k d) (take count blocks)) (from -ℤ pos 1) to ≡ []
+  pub stacked : IsStacked (take count blocks) count (cut_all marks from to (drop count blocks)) stack

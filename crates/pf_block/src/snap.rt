@@ -172,7 +172,7 @@ impl Snap {
         let snap = Snap {
             alloc: self.alloc,
             index: Arc::try_clone(&self.index)?,
-            blocks: cut(self.alloc, &self.blocks, &marks, from, to)?,
+            blocks: cut(self.alloc, &self.blocks, series, &marks, from, to)?,
         };
         Ok(Arc::new(self.alloc, snap)?)
     }

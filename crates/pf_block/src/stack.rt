@@ -1,11 +1,11 @@
 //! Blocks on one another, the newest last.
 
-ghost use Rattle.std.specs.Prelude.{◌≡◌, ℕ, ◌+◌, ◌-◌, ◌<◌, ◌≤◌, ◌++◌, true, IfOk, length, map, slice_index_or, take};
+ghost use Rattle.std.specs.Prelude.{◌≡◌, ℕ, ◌+◌, ◌-◌, ◌<◌, ◌≤◌, ◌≤ℤ◌, ◌++◌, true, [], IfOk, length, map, pos, slice_index_or, take};
 ghost use Rattle.std.specs.Arc.{arc_value};
 ghost use Rattle.std.specs.List.{list_all};
 ghost use Rattle.pf_base.specs.declared.plain.Sample.{Sample};
 ghost use Rattle.pf_block.specs.Samples.{rises, last_of, window_of};
-ghost use Rattle.pf_block.specs.Stacks.{IsStacked, cut_all, doubles, is_clear, is_not_after, series_in, takes_in, topped};
+ghost use Rattle.pf_block.specs.Stacks.{IsCut, IsStacked, doubles, is_clear, is_not_after, series_in, takes_in, topped};
 
 use crate::block::Block;
 use pf_base::{OutOfMemory, Sample};
@@ -148,22 +148,59 @@ pub fn stacked(
     Ok(stack)
 }
 
-/// All blocks in one, without the samples of the marked series at times from `from` to `to`.
+/// How many of the first blocks have no sample of a series after `after`, up to and with `upto`.
+fn free_of(blocks: &[Arc<Block>], id: u32, after: i64, upto: i64) -> usize
+    requires { rises (series_in id (map arc_value blocks.now)) ≡ true }
+    ensures within { result ≤ length blocks.now }
+    ensures none { window_of (series_in id (take result (map arc_value blocks.now))) after upto ≡ [] }
+{
+    let mut free = 0;
+    while free < blocks.len() {
+        let block = &blocks[free];
+        if block.window(id, after, upto).len() > 0 {
+            return free;
+        }
+        free += 1;
+    }
+    free
+}
+
+/// How many of the first blocks have none of any of these series.
+fn free_of_all(blocks: &[Arc<Block>], series: &[u32], after: i64, upto: i64) -> usize
+    requires { (id : ℕ) → rises (series_in id (map arc_value blocks.now)) ≡ true }
+    ensures within { result ≤ length blocks.now }
+    ensures none { (k : ℕ) → k < length series.now → (d : ℕ) → window_of (series_in (slice_index_or series.now k d) (take result (map arc_value blocks.now))) after upto ≡ [] }
+{
+    let mut free = blocks.len();
+    for id in series {
+        free = free.min(free_of(blocks, *id, after, upto));
+    }
+    free
+}
+
+/// The blocks without the samples of the marked series, which are these, at times from `from` to `to`. The first blocks that
+/// have none of them stay as they are.
 pub fn cut(
     alloc: Global,
     blocks: &[Arc<Block>],
+    series: &[u32],
     marks: &[bool],
     from: i64,
     to: i64,
 ) -> Result<Vec<Arc<Block>>, OutOfMemory>
-    ensures { IfOk result (λ v. map arc_value v.items ≡ topped (cut_all marks.now from to (map arc_value blocks.now))) }
+    requires from { pos 0 ≤ℤ from }
+    requires rises { (id : ℕ) → rises (series_in id (map arc_value blocks.now)) ≡ true }
+    requires doubles { doubles (map length (map arc_value blocks.now)) ≡ true }
+    ensures { IfOk result (λ v. IsCut series.now marks.now from to (map arc_value blocks.now) (map arc_value v.items)) }
 {
+    let keep = free_of_all(blocks, series, from - 1, to);
     let mut count = blocks.len();
     let mut top = Block::new(alloc);
-    while count > 0 {
+    while count > keep {
         count -= 1;
         let left = blocks[count].without(marks, from, to)?;
         top = left.merged(&top)?;
     }
-    on_first(alloc, &[], top)
+    let stack = stacked(alloc, &blocks[..keep], keep, top)?;
+    Ok(stack)
 }

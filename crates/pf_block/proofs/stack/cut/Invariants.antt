@@ -6,6 +6,7 @@ use Rattle.pf_block.proofs.stack.cut.Given as goal
 abbrev pub invariant-loop-count : goal.invariant-loop-count
 invariant-loop-count l = record {
   within : l.count ≤ length l.blocks;
+  behind : l.keep ≤ l.count;
   same : l.top ≡ cut_all l.marks l.from l.to (drop l.count (map arc_value l.blocks));
 }
 

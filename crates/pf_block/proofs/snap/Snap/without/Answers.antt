@@ -1,8 +1,10 @@
-use Rattle.std.proofs.Common.{◌<◌, length, map, sym, ap, ◌∙◌, subst, arith}
+use Rattle.std.proofs.Common.{◌≡◌, ◌<◌, true, length, map, sym, ap, ◌∙◌, subst, arith}
 use Rattle.std.proofs.lemmas.Int.{ints}
 use Rattle.std.specs.Arc.{arc_value}
 use Rattle.pf_block.specs.Snaps.{without_rows}
-use Rattle.pf_block.proofs.Stacking.{cut_made}
+use Rattle.pf_block.specs.Samples.{rises}
+use Rattle.pf_block.specs.Stacks.{series_in}
+use Rattle.pf_block.proofs.Stacking.{cut_made, kept_rises}
 use Rattle.pf_block.proofs.snap.Snap.without.Goals as goal
 
 pub invariant_of-snap : goal.invariant_of-snap
@@ -20,3 +22,7 @@ returns c =
     (λ k l. c.in_ok-marks.ensures.1 k (subst (λ n. k < n) (sym (c.count.ensures.value ∙ ap length c.deref.ensures)) l))
     (omega (arith, ints)) (omega (arith, ints)) c.in_ok-try_clone.ensures).0
     ∙ ap (λ s. without_rows s c.args.series.now c.args.from c.args.to) c.self.view_is
+
+pub cut-requires-clause-rises : goal.cut-requires-clause-rises
+cut-requires-clause-rises c = λ id.
+    subst (λ l. rises (series_in id (map arc_value l)) ≡ true) (sym c.deref-2.ensures.value) (kept_rises (arc_value c.self.inside.index) (map arc_value c.self.inside.blocks.items) c.self.invariant id)
