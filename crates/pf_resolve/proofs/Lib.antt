@@ -1,3 +1,6 @@
+pub mod Multiples
 pub mod Resolved
 pub mod Selectors
+pub mod Settling
 pub mod Variants
+pub mod Walks

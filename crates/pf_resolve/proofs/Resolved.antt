@@ -1,9 +1,9 @@
 -- A query with its range put in, argument by argument.
-use Rattle.std.proofs.Common.{◌≡◌, ℕ, zero, suc, ◌≤◌, List, [], ◌∷◌, map, length, take, refl, sym, ap, ◌∙◌, arith}
+use Rattle.std.proofs.Common.{◌≡◌, ℕ, ◌≤◌, List, [], ◌∷◌, map, length, take, refl, sym, ap, ◌∙◌}
 use Rattle.std.proofs.lemmas.List.{take_all}
 use Rattle.pf_model.specs.declared.expr.Expr.{Expr}
 use Rattle.pf_model.specs.Resolving.{all_resolved, resolved}
-use Rattle.pf_model.specs.Trees.{Tree, Trees, more, tree_of, trees_of}
+use Rattle.pf_model.specs.Trees.{Tree, more, tree_of, trees_of}
 
 all_is : (start end : ℕ) (ts : List Tree) → trees_of (map (resolved start end) ts) ≡ all_resolved start end (trees_of ts)
 all_is start end [] = refl

@@ -1,2 +1,4 @@
 pub mod Bounds
 pub mod Forms
+pub mod Settled
+pub mod TimesRead

@@ -1,8 +1,9 @@
 //! `start()`, `end()` and absent resolutions put in.
 
-ghost use Rattle.std.specs.Prelude.{◌≡◌, map};
-ghost use Rattle.pf_model.specs.Resolving.{all_resolved, resolved, resolved_at, resolved_mods};
-ghost use Rattle.pf_model.specs.Trees.{tree_of, trees_of};
+ghost use Rattle.std.specs.Prelude.{◌≡◌, true};
+ghost use Rattle.pf_model.specs.Resolving.{resolved, resolved_at, resolved_mods};
+ghost use Rattle.pf_model.specs.Trees.{tree_of};
+ghost use Rattle.pf_resolve.specs.Settled.{is_settled};
 
 use pf_base::Value;
 use pf_model::{At, Expr, Mods};
@@ -42,6 +43,14 @@ fn blank() -> Expr {
 /// minute for an absent resolution. Prometheus, Querying basics: @ modifier, Subquery. It takes no memory, and calls itself as
 /// deep as the tree is high.
 pub fn resolve(expr: Expr, start: u64, end: u64) -> Expr
+    ensures tree { tree_of result ≡ resolved start end (tree_of expr) }
+    ensures settled { is_settled (tree_of result) ≡ true }
+    ensures same { is_settled (tree_of expr) ≡ true → tree_of result ≡ tree_of expr }
+{
+    put_in(expr, start, end)
+}
+
+fn put_in(expr: Expr, start: u64, end: u64) -> Expr
     ensures { tree_of result ≡ resolved start end (tree_of expr) }
 {
     match expr {
@@ -49,7 +58,7 @@ pub fn resolve(expr: Expr, start: u64, end: u64) -> Expr
         Expr::Text { text } => Expr::Text { text },
         Expr::Unary { minus, mut arg } => {
             let inner = mem::replace(&mut *arg, blank());
-            *arg = resolve(inner, start, end);
+            *arg = put_in(inner, start, end);
             Expr::Unary { minus, arg }
         }
         Expr::Binary {
@@ -59,9 +68,9 @@ pub fn resolve(expr: Expr, start: u64, end: u64) -> Expr
             mut right,
         } => {
             let first = mem::replace(&mut *left, blank());
-            *left = resolve(first, start, end);
+            *left = put_in(first, start, end);
             let second = mem::replace(&mut *right, blank());
-            *right = resolve(second, start, end);
+            *right = put_in(second, start, end);
             Expr::Binary {
                 op,
                 matching,
@@ -72,7 +81,7 @@ pub fn resolve(expr: Expr, start: u64, end: u64) -> Expr
         Expr::Call { function, mut args } => {
             for i in 0..args.len() {
                 let inner = mem::replace(&mut args[i], blank());
-                args[i] = resolve(inner, start, end);
+                args[i] = put_in(inner, start, end);
             }
             Expr::Call { function, args }
         }
@@ -83,7 +92,7 @@ pub fn resolve(expr: Expr, start: u64, end: u64) -> Expr
         } => {
             for k in 0..args.len() {
                 let inner = mem::replace(&mut args[k], blank());
-                args[k] = resolve(inner, start, end);
+                args[k] = put_in(inner, start, end);
             }
             Expr::Aggregate { op, grouping, args }
         }
@@ -103,7 +112,7 @@ pub fn resolve(expr: Expr, start: u64, end: u64) -> Expr
             mods,
         } => {
             let inner = mem::replace(&mut *arg, blank());
-            *arg = resolve(inner, start, end);
+            *arg = put_in(inner, start, end);
             Expr::Subquery {
                 arg,
                 range,

@@ -1,7 +1,7 @@
 use Rattle.std.proofs.Common.{◌≡◌, map, take}
 use Rattle.pf_model.specs.Resolving.{resolved}
 use Rattle.pf_model.specs.Trees.{tree_of}
-use Rattle.pf_resolve.proofs.resolution.+resolve.Given as goal
+use Rattle.pf_resolve.proofs.resolution.+put_in.Given as goal
 
 abbrev pub invariant-loop-i : goal.invariant-loop-i
 invariant-loop-i l = record {

@@ -1,0 +1,222 @@
+//! The times that a query reads.
+
+ghost use Rattle.std.specs.Prelude.{◌≡◌, ◌+◌, ◌*◌, ◌<◌, ◌≤◌, ◌≤ℤ◌, ◌<ℤ◌, ℤ, pos, ◌-ℤ◌, ◌*ℤ◌, true, unsigned_abs, map};
+ghost use Rattle.pf_model.specs.Evaluation.{fixed_time, multiples, read_time};
+ghost use Rattle.pf_model.specs.Micros.{cut_down};
+ghost use Rattle.pf_model.specs.Reach.{all_times_read, all_together, lowest, reach, times_read, together, window_times};
+ghost use Rattle.pf_model.specs.Trees.{height, heights, tree_of, trees_of};
+ghost use Rattle.pf_resolve.specs.Bounds.{HasRoom, are_small, are_small_mods, is_small, is_small_at};
+ghost use Rattle.pf_resolve.specs.TimesRead.{times_in};
+
+use pf_model::{At, Expr, Mods};
+
+/// How far back an instant selector reads, in milliseconds.
+const LOOKBACK: u64 = 300_000;
+
+/// One minute, in milliseconds.
+const MINUTE: u64 = 60_000;
+
+/// The least and the greatest of some times.
+#[derive(Clone, Copy)]
+struct Times {
+    earliest: i64,
+    latest: i64,
+}
+
+/// Both together, where there is one.
+fn together(left: Option<Times>, right: Option<Times>) -> Option<Times>
+    ensures { times_in result ≡ together (times_in left) (times_in right) }
+{
+    let Some(a) = left else {
+        return right;
+    };
+    let Some(b) = right else {
+        return left;
+    };
+    Some(Times {
+        earliest: a.earliest.min(b.earliest),
+        latest: a.latest.max(b.latest),
+    })
+}
+
+fn fixed_time(at: Option<At>, t: i64) -> i64
+    requires { is_small_at at ≡ true }
+    ensures { result ≡ fixed_time at t }
+{
+    match at {
+        Some(At::Time { millis }) => millis as i64,
+        Some(At::Start) => t,
+        Some(At::End) => t,
+        None => t,
+    }
+}
+
+/// The time that is read at: that of `@`, or else the evaluation's, less the offset.
+fn read_time(mods: Mods, t: i64) -> i64
+    requires small { are_small_mods mods ≡ true }
+    requires room { unsigned_abs t ≤ 2251799813685248 }
+    ensures value { result ≡ read_time mods t }
+    ensures size { unsigned_abs result ≤ unsigned_abs t + 8796093022206 }
+{
+    fixed_time(mods.at, t) - mods.offset
+}
+
+/// A time in whole steps, cut down; where the step is 0, the time before 0 is -1 and every other 0.
+fn cut_down(time: i64, step: u64) -> i64
+    requires room { unsigned_abs time ≤ 2251799813685248 }
+    requires step { step ≤ 4398046511103 }
+    ensures { result ≡ cut_down time step }
+{
+    if step == 0 {
+        return if time < 0 { -1 } else { 0 };
+    }
+    time.div_euclid(step as i64)
+}
+
+/// The times that a selector reads whose window ends at a time.
+fn window_times(range: u64, to: i64) -> Times
+    requires small { range ≤ 4398046511103 }
+    requires room { unsigned_abs to ≤ 2251799813685248 }
+    ensures { times_in (Some result) ≡ window_times range to }
+{
+    Times {
+        earliest: to - range as i64 + 1,
+        latest: to,
+    }
+}
+
+/// The number of multiples of a step in (from, to].
+fn count_of(step: u64, from: i64, to: i64) -> u64
+    requires step { step ≤ 4398046511103 }
+    requires order { from ≤ℤ to }
+    requires first { unsigned_abs from ≤ 2251799813685248 }
+    requires last { unsigned_abs to ≤ 2251799813685248 }
+    ensures value { result ≡ unsigned_abs (cut_down to step -ℤ cut_down from step) }
+    ensures all { cut_down to step -ℤ pos result ≡ cut_down from step }
+{
+    let last = cut_down(to, step);
+    last.abs_diff(cut_down(from, step))
+}
+
+fn step_back(last: i64, steps: u64) -> i64
+    requires last { unsigned_abs last ≤ 2251799813685248 }
+    requires steps { steps ≤ 4503599627370496 }
+    ensures { result ≡ last -ℤ pos steps }
+{
+    last - steps as i64
+}
+
+fn product(count: i64, step: u64) -> i64
+    requires step { step ≤ 4398046511103 }
+    requires within { unsigned_abs (count *ℤ pos step) ≤ 2251799813685248 }
+    ensures { result ≡ count *ℤ pos step }
+{
+    count * step as i64
+}
+
+/// The multiple of a step in (from, to] with so many behind it.
+fn multiple(step: u64, from: i64, to: i64, behind: u64) -> i64
+    requires step { step ≤ 4398046511103 }
+    requires order { from ≤ℤ to }
+    requires first { unsigned_abs from ≤ 2251799813685248 }
+    requires last { unsigned_abs to ≤ 2251799813685248 }
+    requires there { behind < unsigned_abs (cut_down to step -ℤ cut_down from step) }
+    ensures value { result ≡ (cut_down to step -ℤ pos behind) *ℤ pos step }
+    ensures within { (from ≤ℤ result) × (result ≤ℤ to) }
+{
+    let last = cut_down(to, step);
+    product(step_back(last, behind), step)
+}
+
+fn window_start(range: u64, to: i64) -> i64
+    requires range { range ≤ 4398046511103 }
+    requires room { unsigned_abs to ≤ 2251799813685248 }
+    ensures value { result ≡ to -ℤ pos range }
+    ensures order { result ≤ℤ to }
+    ensures size { unsigned_abs result ≤ unsigned_abs to + 4398046511103 }
+{
+    to - range as i64
+}
+
+/// The times that a subquery's expression reads whose window ends at a time, at the multiples of a step.
+#[cycle(times)]
+fn times_at_multiples(arg: &Expr, range: u64, step: u64, to: i64) -> Option<Times>
+    requires small { is_small (tree_of arg.now) ≡ true }
+    requires range { range ≤ 4398046511103 }
+    requires step { step ≤ 4398046511103 }
+    requires room { unsigned_abs to + 4398046511103 + 17592186044416 * height (tree_of arg.now) ≤ 2251799813685248 }
+    ensures { times_in result ≡ all_together (map (λ u. times_read (tree_of arg.now) u) (multiples step (to -ℤ pos range) to)) }
+{
+    let from = window_start(range, to);
+    let mut times = None;
+    for k in 0..count_of(step, from, to) {
+        times = together(times_read(arg, multiple(step, from, to, k)), times);
+    }
+    times
+}
+
+#[cycle(times)]
+fn all_times_read(args: &[Expr], t: i64) -> Option<Times>
+    requires small { are_small (trees_of (map tree_of args.now)) ≡ true }
+    requires room { unsigned_abs t + 17592186044416 * heights (trees_of (map tree_of args.now)) ≤ 2251799813685248 }
+    ensures { times_in result ≡ all_times_read (trees_of (map tree_of args.now)) t }
+{
+    let mut times = None;
+    for arg in args {
+        times = together(times, times_read(arg, t));
+    }
+    times
+}
+
+/// The times that a query may read at a time; none where it reads nothing.
+#[cycle(times)]
+fn times_read(expr: &Expr, t: i64) -> Option<Times>
+    requires small { is_small (tree_of expr.now) ≡ true }
+    requires room { HasRoom (tree_of expr.now) t }
+    ensures { times_in result ≡ times_read (tree_of expr.now) t }
+{
+    match expr {
+        Expr::Number { .. } => None,
+        Expr::Text { .. } => None,
+        Expr::Unary { arg, .. } => times_read(arg, t),
+        Expr::Binary { left, right, .. } => together(times_read(left, t), times_read(right, t)),
+        Expr::Call { args, .. } => all_times_read(args, t),
+        Expr::Aggregate { args, .. } => all_times_read(args, t),
+        Expr::Select { range, mods, .. } => {
+            Some(window_times(range.unwrap_or(LOOKBACK), read_time(*mods, t)))
+        }
+        Expr::Subquery {
+            arg,
+            range,
+            resolution,
+            mods,
+        } => {
+            let to = read_time(*mods, t);
+            times_at_multiples(arg, *range, resolution.unwrap_or(MINUTE), to)
+        }
+    }
+}
+
+/// The latest time in milliseconds that a query may read at a time, none where it reads nothing. It takes no memory, and calls
+/// itself as deep as the tree is high; a subquery's expression is asked at each of its times.
+pub fn reach(expr: &Expr, t: i64) -> Option<i64>
+    requires tall { height (tree_of expr.now) ≤ 64 }
+    requires small { is_small (tree_of expr.now) ≡ true }
+    requires time { (pos 0 ≤ℤ t) × (t ≤ℤ pos 4398046511103) }
+    ensures { result ≡ reach (tree_of expr.now) t }
+{
+    let times = times_read(expr, t)?;
+    Some(times.latest)
+}
+
+/// The earliest time in milliseconds that a query may read at a time, none where it reads nothing. It takes no memory, and calls
+/// itself as deep as the tree is high; a subquery's expression is asked at each of its times.
+pub fn lowest(expr: &Expr, t: i64) -> Option<i64>
+    requires tall { height (tree_of expr.now) ≤ 64 }
+    requires small { is_small (tree_of expr.now) ≡ true }
+    requires time { (pos 0 ≤ℤ t) × (t ≤ℤ pos 4398046511103) }
+    ensures { result ≡ lowest (tree_of expr.now) t }
+{
+    let times = times_read(expr, t)?;
+    Some(times.earliest)
+}
