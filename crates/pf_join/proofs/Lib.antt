@@ -1,5 +1,8 @@
 pub mod ElementOrder
+pub mod Finding
 pub mod Joining
-pub mod Keys
+pub mod KeyOrder
+pub mod KeyedJoins
+pub mod WithoutName
 pub mod Repeats
 pub mod Results

@@ -1,7 +1,9 @@
--- Elements in label order have two of equal labels exactly where two neighbours are such.
-use Rattle.std.proofs.Common.{◌≡◌, Bool, true, false, cond, ◌||◌, Some, List, [], ◌∷◌, refl, sym, ap, ◌∙◌, subst}
+-- Keys in order have two equal ones exactly where two neighbours are such.
+use Rattle.std.proofs.Common.{◌≡◌, Bool, true, false, cond, ◌||◌, Some, List, [], ◌∷◌, map, refl, sym, ap, ◌∙◌, subst}
+use Rattle.std.specs.Cmp.{IsTotalOrder}
 use Rattle.std.specs.List.{All, list_any}
 use Rattle.std.specs.Ordering.{is_eq, is_gt}
+use Rattle.std.specs.declared.cmp.Ordering.{Ordering}
 use Rattle.std.proofs.lemmas.List.Elements.{All-head, All-tail}
 use Rattle.pf_base.specs.LabelSets.{Pairs}
 use Rattle.pf_base.specs.LabelOrder.{labels_cmp, labels_total}
@@ -10,13 +12,10 @@ use Rattle.pf_base.proofs.Sorting.{Ascends, ascends_isort, level}
 use Rattle.pf_model.specs.declared.cell.Element.{Element}
 use Rattle.pf_model.specs.declared.cell.ErrorKind.TheVariants.{DoubleLabels}
 use Rattle.pf_model.specs.declared.cell.StepCell.TheVariants.{Good, Bad}
-use Rattle.pf_model.specs.Cells.{cell_of, element_cmp, has_equal, in_label_order, labels_of}
+use Rattle.pf_model.specs.Cells.{cell_of, has_equal, in_label_order}
 use Rattle.pf_model.specs.Selection.{same_labels}
 use Rattle.pf_model.proofs.KeySets.{same_is, same_turned}
-use Rattle.pf_join.specs.Neighbours.{repeats_after, repeats_labels}
-use Rattle.pf_join.proofs.ElementOrder.{element_total}
-
--- ---- among elements in order
+use Rattle.pf_join.specs.Neighbours.{repeats, repeats_after}
 
 -- l lies below m, and m is at most n: so l is not n
 apart_by : (l m n : Pairs) (b : Bool) → same_labels l n ≡ b → is_gt (labels_cmp l m) ≡ false → same_labels l m ≡ false → is_gt (labels_cmp m n) ≡ false → b ≡ false
@@ -24,31 +23,6 @@ apart_by l m n true e p s q =
     let back : is_gt (labels_cmp m l) ≡ false = subst (λ x. is_gt (labels_cmp m x) ≡ false) (sym (same_is l n e)) q in
     let same : same_labels l m ≡ true = ap is_eq (level (labels_cmp l m) (labels_cmp m l) (labels_total.antisymm l m) p back) in cc
 apart_by l m n false e p s q = refl
-
-lacks : (l m : Pairs) (es : List Element) → is_gt (labels_cmp l m) ≡ false → same_labels l m ≡ false → All (λ e. is_gt (labels_cmp m e.labels) ≡ false) es
-    → list_any (same_labels l) (labels_of es) ≡ false
-lacks l m [] p s a = refl
-lacks l m (e ∷ es) p s a =
-    ap (λ b. b || list_any (same_labels l) (labels_of es)) (apart_by l m e.labels (same_labels l e.labels) refl p s (All-head (λ f. is_gt (labels_cmp m f.labels) ≡ false) e es a))
-    ∙ lacks l m es p s (All-tail (λ f. is_gt (labels_cmp m f.labels) ≡ false) e es a)
-
-after_by : (l m : Pairs) (es : List Element) (b : Bool) → same_labels l m ≡ b → is_gt (labels_cmp l m) ≡ false → All (λ e. is_gt (labels_cmp m e.labels) ≡ false) es
-    → (rest : Bool) → (b || rest) ≡ ((b || list_any (same_labels l) (labels_of es)) || rest)
-after_by l m es true s p a rest = refl
-after_by l m es false s p a rest = sym (ap (λ b. b || rest) (lacks l m es p s a))
-
-after_is : (e : Element) (es : List Element) → Ascends element_cmp (e ∷ es)
-    → repeats_after (Some e.labels) es ≡ (list_any (same_labels e.labels) (labels_of es) || has_equal (labels_of es))
-after_is e [] a = refl
-after_is e (f ∷ fs) a =
-    ap (λ b. same_labels e.labels f.labels || b) (after_is f fs a.1)
-    ∙ after_by e.labels f.labels fs (same_labels e.labels f.labels) refl (All-head (λ g. is_gt (element_cmp e g) ≡ false) f fs a.0) a.1.0 (has_equal (labels_of (f ∷ fs)))
-
-ascending_is : (es : List Element) → Ascends element_cmp es → repeats_labels es ≡ has_equal (labels_of es)
-ascending_is [] a = refl
-ascending_is (e ∷ es) a = after_is e es a
-
--- ---- elements in order have an equal pair where the elements have one
 
 turned : (a b c : Bool) → (a || (b || c)) ≡ (b || (a || c))
 turned true true c = refl
@@ -61,43 +35,93 @@ crossed false true true d = refl
 crossed false true false d = refl
 crossed false false c d = refl
 
-any_ins_by : (l : Pairs) (e f : Element) (fs : List Element) (b : Bool) → list_any (same_labels l) (labels_of (ins element_cmp e fs)) ≡ (same_labels l e.labels || list_any (same_labels l) (labels_of fs))
-    → list_any (same_labels l) (labels_of (cond b (f ∷ ins element_cmp e fs) (e ∷ f ∷ fs))) ≡ (same_labels l e.labels || list_any (same_labels l) (labels_of (f ∷ fs)))
-any_ins_by l e f fs true r = ap (λ b. same_labels l f.labels || b) r ∙ turned (same_labels l f.labels) (same_labels l e.labels) (list_any (same_labels l) (labels_of fs))
-any_ins_by l e f fs false r = refl
+module _ {X : Type 0} (key : X → Pairs) where
+  abbrev pub by_key : X → X → Ordering
+  by_key x y = labels_cmp (key x) (key y)
 
-any_ins : (l : Pairs) (e : Element) (es : List Element) → list_any (same_labels l) (labels_of (ins element_cmp e es)) ≡ (same_labels l e.labels || list_any (same_labels l) (labels_of es))
-any_ins l e [] = refl
-any_ins l e (f ∷ fs) = any_ins_by l e f fs (is_gt (element_cmp e f)) (any_ins l e fs)
+  pub by_key_total : IsTotalOrder by_key
+  by_key_total = record {
+    antisymm = λ x y. labels_total.antisymm (key x) (key y);
+    trans = λ x y z. labels_total.trans (key x) (key y) (key z);
+    congr = λ x y z. labels_total.congr (key x) (key y) (key z);
+  }
 
-any_isort : (l : Pairs) (es : List Element) → list_any (same_labels l) (labels_of (isort element_cmp es)) ≡ list_any (same_labels l) (labels_of es)
-any_isort l [] = refl
-any_isort l (e ∷ es) = any_ins l e (isort element_cmp es) ∙ ap (λ b. same_labels l e.labels || b) (any_isort l es)
+  abbrev keys : List X → List Pairs
+  keys xs = map key xs
 
-equal_ins_by : (e f : Element) (fs : List Element) (b : Bool) → has_equal (labels_of (ins element_cmp e fs)) ≡ (list_any (same_labels e.labels) (labels_of fs) || has_equal (labels_of fs))
-    → has_equal (labels_of (cond b (f ∷ ins element_cmp e fs) (e ∷ f ∷ fs))) ≡ (list_any (same_labels e.labels) (labels_of (f ∷ fs)) || has_equal (labels_of (f ∷ fs)))
-equal_ins_by e f fs true r =
-    (λ i. any_ins f.labels e fs i || r i)
-    ∙ ap (λ b. (b || list_any (same_labels f.labels) (labels_of fs)) || (list_any (same_labels e.labels) (labels_of fs) || has_equal (labels_of fs))) (same_turned f.labels e.labels)
-    ∙ crossed (same_labels e.labels f.labels) (list_any (same_labels f.labels) (labels_of fs)) (list_any (same_labels e.labels) (labels_of fs)) (has_equal (labels_of fs))
-equal_ins_by e f fs false r = refl
+  abbrev among : Pairs → List X → Bool
+  among l xs = list_any (same_labels l) (keys xs)
 
-equal_ins : (e : Element) (es : List Element) → has_equal (labels_of (ins element_cmp e es)) ≡ (list_any (same_labels e.labels) (labels_of es) || has_equal (labels_of es))
-equal_ins e [] = refl
-equal_ins e (f ∷ fs) = equal_ins_by e f fs (is_gt (element_cmp e f)) (equal_ins e fs)
+  -- ---- among elements in order
 
-equal_isort : (es : List Element) → has_equal (labels_of (isort element_cmp es)) ≡ has_equal (labels_of es)
-equal_isort [] = refl
-equal_isort (e ∷ es) = equal_ins e (isort element_cmp es) ∙ λ i. any_isort e.labels es i || equal_isort es i
+  lacks : (l m : Pairs) (xs : List X) → is_gt (labels_cmp l m) ≡ false → same_labels l m ≡ false → All (λ x. is_gt (labels_cmp m (key x)) ≡ false) xs
+      → among l xs ≡ false
+  lacks l m [] p s a = refl
+  lacks l m (x ∷ xs) p s a =
+      ap (λ b. b || among l xs) (apart_by l m (key x) (same_labels l (key x)) refl p s (All-head (λ y. is_gt (labels_cmp m (key y)) ≡ false) x xs a))
+      ∙ lacks l m xs p s (All-tail (λ y. is_gt (labels_cmp m (key y)) ≡ false) x xs a)
 
-repeats_is : (es sorted : List Element) → sorted ≡ in_label_order es → repeats_labels sorted ≡ has_equal (labels_of es)
-repeats_is es sorted e =
-    ap repeats_labels e ∙ ascending_is (isort element_cmp es) (ascends_isort element_cmp element_total es) ∙ equal_isort es
+  after_by : (l m : Pairs) (xs : List X) (b : Bool) → same_labels l m ≡ b → is_gt (labels_cmp l m) ≡ false → All (λ x. is_gt (labels_cmp m (key x)) ≡ false) xs
+      → (rest : Bool) → (b || rest) ≡ ((b || among l xs) || rest)
+  after_by l m xs true s p a rest = refl
+  after_by l m xs false s p a rest = sym (ap (λ b. b || rest) (lacks l m xs p s a))
+
+  after_is : (x : X) (xs : List X) → Ascends by_key (x ∷ xs) → repeats_after key (Some (key x)) xs ≡ (among (key x) xs || has_equal (keys xs))
+  after_is x [] a = refl
+  after_is x (y ∷ ys) a =
+      ap (λ b. same_labels (key x) (key y) || b) (after_is y ys a.1)
+      ∙ after_by (key x) (key y) ys (same_labels (key x) (key y)) refl (All-head (λ z. is_gt (by_key x z) ≡ false) y ys a.0) a.1.0 (has_equal (keys (y ∷ ys)))
+
+  pub ascending_is : (xs : List X) → Ascends by_key xs → repeats key xs ≡ has_equal (keys xs)
+  ascending_is [] a = refl
+  ascending_is (x ∷ xs) a = after_is x xs a
+
+  -- ---- elements in order have an equal pair where the elements have one
+
+  any_ins_by : (l : Pairs) (x y : X) (ys : List X) (b : Bool) → among l (ins by_key x ys) ≡ (same_labels l (key x) || among l ys)
+      → among l (cond b (y ∷ ins by_key x ys) (x ∷ y ∷ ys)) ≡ (same_labels l (key x) || among l (y ∷ ys))
+  any_ins_by l x y ys true r = ap (λ b. same_labels l (key y) || b) r ∙ turned (same_labels l (key y)) (same_labels l (key x)) (among l ys)
+  any_ins_by l x y ys false r = refl
+
+  any_ins : (l : Pairs) (x : X) (xs : List X) → among l (ins by_key x xs) ≡ (same_labels l (key x) || among l xs)
+  any_ins l x [] = refl
+  any_ins l x (y ∷ ys) = any_ins_by l x y ys (is_gt (by_key x y)) (any_ins l x ys)
+
+  pub any_isort : (l : Pairs) (xs : List X) → among l (isort by_key xs) ≡ among l xs
+  any_isort l [] = refl
+  any_isort l (x ∷ xs) = any_ins l x (isort by_key xs) ∙ ap (λ b. same_labels l (key x) || b) (any_isort l xs)
+
+  equal_ins_by : (x y : X) (ys : List X) (b : Bool) → has_equal (keys (ins by_key x ys)) ≡ (among (key x) ys || has_equal (keys ys))
+      → has_equal (keys (cond b (y ∷ ins by_key x ys) (x ∷ y ∷ ys))) ≡ (among (key x) (y ∷ ys) || has_equal (keys (y ∷ ys)))
+  equal_ins_by x y ys true r =
+      (λ i. any_ins (key y) x ys i || r i)
+      ∙ ap (λ b. (b || among (key y) ys) || (among (key x) ys || has_equal (keys ys))) (same_turned (key y) (key x))
+      ∙ crossed (same_labels (key x) (key y)) (among (key y) ys) (among (key x) ys) (has_equal (keys ys))
+  equal_ins_by x y ys false r = refl
+
+  equal_ins : (x : X) (xs : List X) → has_equal (keys (ins by_key x xs)) ≡ (among (key x) xs || has_equal (keys xs))
+  equal_ins x [] = refl
+  equal_ins x (y ∷ ys) = equal_ins_by x y ys (is_gt (by_key x y)) (equal_ins x ys)
+
+  pub equal_isort : (xs : List X) → has_equal (keys (isort by_key xs)) ≡ has_equal (keys xs)
+  equal_isort [] = refl
+  equal_isort (x ∷ xs) = equal_ins x (isort by_key xs) ∙ λ i. any_isort (key x) xs i || equal_isort xs i
+
+  pub repeats_is : (xs sorted : List X) → sorted ≡ isort by_key xs → repeats key sorted ≡ has_equal (keys xs)
+  repeats_is xs sorted e =
+      ap (repeats key) e ∙ ascending_is (isort by_key xs) (ascends_isort by_key by_key_total xs) ∙ equal_isort xs
+
+own : (ls : List Pairs) → map (λ l. l) ls ≡ ls
+own [] = refl
+own (l ∷ ls) = ap (λ ms. l ∷ ms) (own ls)
+
+pub sets_repeat : (ls sorted : List Pairs) → sorted ≡ isort labels_cmp ls → repeats (λ l. l) sorted ≡ has_equal ls
+sets_repeat ls sorted e = repeats_is (λ l. l) ls sorted e ∙ ap has_equal (own ls)
 
 -- ---- the two answers
 
-pub bad_cell : (es sorted : List Element) → sorted ≡ in_label_order es → repeats_labels sorted ≡ true → Bad DoubleLabels ≡ cell_of es
-bad_cell es sorted e h = sym (ap (λ b. cond b (Bad DoubleLabels) (Good (in_label_order es))) (sym (repeats_is es sorted e) ∙ h))
+pub bad_cell : (es sorted : List Element) → sorted ≡ in_label_order es → repeats (λ e. e.labels) sorted ≡ true → Bad DoubleLabels ≡ cell_of es
+bad_cell es sorted e h = sym (ap (λ b. cond b (Bad DoubleLabels) (Good (in_label_order es))) (sym (repeats_is (λ f. f.labels) es sorted e) ∙ h))
 
-pub good_cell : (es sorted : List Element) → sorted ≡ in_label_order es → repeats_labels sorted ≡ false → Good sorted ≡ cell_of es
-good_cell es sorted e h = ap Good e ∙ sym (ap (λ b. cond b (Bad DoubleLabels) (Good (in_label_order es))) (sym (repeats_is es sorted e) ∙ h))
+pub good_cell : (es sorted : List Element) → sorted ≡ in_label_order es → repeats (λ e. e.labels) sorted ≡ false → Good sorted ≡ cell_of es
+good_cell es sorted e h = ap Good e ∙ sym (ap (λ b. cond b (Bad DoubleLabels) (Good (in_label_order es))) (sym (repeats_is (λ f. f.labels) es sorted e) ∙ h))

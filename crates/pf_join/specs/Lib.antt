@@ -1,2 +1,3 @@
+pub mod KeyedElements
 pub mod Neighbours
 pub mod Results

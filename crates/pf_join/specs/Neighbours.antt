@@ -1,17 +1,16 @@
--- Neighbours with equal labels: this project's own.
+-- Neighbours with equal keys: this project's own.
 use Rattle.std.specs.Prelude.{Bool, false, ◌||◌, Option, Some, None, List, [], ◌∷◌}
 use Rattle.pf_base.specs.LabelSets.{Pairs}
-use Rattle.pf_model.specs.declared.cell.Element.{Element}
 use Rattle.pf_model.specs.Selection.{same_labels}
 
 abbrev pub is_repeated : Option Pairs → Pairs → Bool
 is_repeated None labels = false
 is_repeated (Some before) labels = same_labels before labels
 
--- an element has the labels of the one before it
-abbrev pub repeats_after : Option Pairs → List Element → Bool
-repeats_after before [] = false
-repeats_after before (e ∷ es) = is_repeated before e.labels || repeats_after (Some e.labels) es
+-- an element has the key of the one before it
+abbrev pub repeats_after : {X : Type 0} → (X → Pairs) → Option Pairs → List X → Bool
+repeats_after key before [] = false
+repeats_after key before (x ∷ xs) = is_repeated before (key x) || repeats_after key (Some (key x)) xs
 
-abbrev pub repeats_labels : List Element → Bool
-repeats_labels = repeats_after None
+abbrev pub repeats : {X : Type 0} → (X → Pairs) → List X → Bool
+repeats key xs = repeats_after key None xs

@@ -1,10 +1,11 @@
-//! Vectors in label order.
+//! Vectors in label order, and equal label sets.
 
 ghost use Rattle.std.specs.Prelude.{◌≡◌, IfOk};
-ghost use Rattle.std.specs.List.{list_any};
+ghost use Rattle.pf_base.specs.LabelOrder.{labels_cmp};
+ghost use Rattle.pf_base.specs.Sorting.{isort};
 ghost use Rattle.pf_model.specs.Cells.{cell_of, has_equal, in_label_order};
 ghost use Rattle.pf_model.specs.Selection.{same_labels};
-ghost use Rattle.pf_join.specs.Neighbours.{repeats_labels};
+ghost use Rattle.pf_join.specs.Neighbours.{repeats};
 
 use pf_base::{Labels, OutOfMemory};
 use pf_model::{Cell, Element, ErrorKind, StepCell};
@@ -18,7 +19,7 @@ pub(crate) fn is_same(labels: &Labels, other: &Labels) -> bool
 
 /// Whether two neighbours have equal labels.
 fn repeats_labels(elements: &[Element]) -> bool
-    ensures { result ≡ repeats_labels elements.now }
+    ensures { result ≡ repeats (λ e. e.labels) elements.now }
 {
     let mut last: Option<&Labels> = None;
     for element in elements {
@@ -52,21 +53,34 @@ pub(crate) fn cell_of(elements: Vec<Element>) -> Result<StepCell, OutOfMemory>
     Ok(StepCell::Good(Cell { elements }))
 }
 
-/// Whether a label set is one of some.
-pub(crate) fn stands_in(labels: &Labels, sets: &[Labels]) -> bool
-    ensures { result ≡ list_any (same_labels labels.now) sets.now }
+/// Whether two neighbours are equal.
+fn repeats(sets: &[Labels]) -> bool
+    ensures { result ≡ repeats (λ l. l) sets.now }
 {
-    sets.iter().any(|other| labels == other)
+    let mut last: Option<&Labels> = None;
+    for labels in sets {
+        if let Some(last) = last {
+            if is_same(last, labels) {
+                return true;
+            }
+        }
+        last = Some(labels);
+    }
+    false
+}
+
+fn in_order(mut sets: Vec<Labels>) -> Result<Vec<Labels>, OutOfMemory>
+    ensures { IfOk result (λ v. v.items ≡ isort labels_cmp sets.items) }
+{
+    sets.sort()?;
+    Ok(sets)
 }
 
 /// Whether two of some label sets are equal.
-pub(crate) fn has_equal(sets: &[Labels]) -> bool
-    ensures { result ≡ has_equal sets.now }
+#[tactic(auto, using(crate::proofs::Repeats::sets_repeat))]
+pub(crate) fn has_equal(sets: Vec<Labels>) -> Result<bool, OutOfMemory>
+    ensures { IfOk result (λ b. b ≡ has_equal sets.items) }
 {
-    for i in 0..sets.len() {
-        if stands_in(&sets[i], &sets[i + 1..]) {
-            return true;
-        }
-    }
-    false
+    let sorted = in_order(sets)?;
+    Ok(repeats(&sorted))
 }

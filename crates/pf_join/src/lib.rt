@@ -4,6 +4,7 @@
 #![tactic(auto)]
 
 mod cells;
+mod keys;
 mod matching;
 
 pub use matching::join;

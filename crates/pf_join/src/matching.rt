@@ -1,16 +1,18 @@
 //! Binary operators of two vectors.
 
 ghost use Rattle.std.specs.Prelude.{◌≡◌, ◌∷◌, ◌++◌, true, not, map, filter, IfOk, OnOk};
-ghost use Rattle.std.specs.List.{list_all, list_any};
-ghost use Rattle.pf_base.specs.LabelSets.{is_label_name};
+ghost use Rattle.std.specs.List.{list_all};
 ghost use Rattle.pf_base.specs.LabelChanges.{left_out, metric_name};
+ghost use Rattle.pf_base.specs.LabelSets.{is_label_name};
+ghost use Rattle.pf_base.specs.Sorting.{isort};
 ghost use Rattle.pf_model.specs.Cells.{has_equal};
 ghost use Rattle.pf_model.specs.Lists.{joined};
-ghost use Rattle.pf_model.specs.Selection.{same_labels};
-ghost use Rattle.pf_model.specs.Matching.{has_match, is_grouping, join, joined_pairs, keys_of, many_to_many, matching_key, one_side, pair_labels, taking};
-ghost use Rattle.pf_join.specs.Results.{cell_of_results, elements_of, joined_results, labels_of_pair, result_of, results_of};
+ghost use Rattle.pf_model.specs.Matching.{has_match, is_grouping, join, joined_pairs, matching_key, taking};
+ghost use Rattle.pf_join.specs.KeyedElements.{has_double, has_key, joined_keyed, key_of, keyed, keyed_cmp, keyed_of, keyed_results, shared_keys, those_with, those_without};
+ghost use Rattle.pf_join.specs.Results.{cell_of_results, elements_of, labels_of_pair, result_of};
 
-use crate::cells::{cell_of, has_equal, is_same, stands_in};
+use crate::cells::{cell_of, has_equal};
+use crate::keys::{KeyIndex, Keyed};
 use pf_base::{Labels, OutOfMemory, Text, Value};
 use pf_math::{operated, result_labels};
 use pf_model::{BinaryOp, Cell, Element, ErrorKind, Matching, Side, Sign, StepCell};
@@ -24,7 +26,7 @@ struct Joined {
 }
 
 /// The labels of other names than these, without the metric name.
-#[tactic(auto, using(crate::proofs::Keys::left_without_name))]
+#[tactic(auto, using(crate::proofs::WithoutName::left_without_name))]
 fn others_left(labels: &Labels, names: &[Text]) -> Result<Labels, OutOfMemory>
     ensures { IfOk result (λ l. l ≡ left_out (metric_name ∷ names.now) labels.now) }
 {
@@ -42,20 +44,6 @@ fn matching_key(matching: &Matching, labels: &Labels) -> Result<Labels, OutOfMem
     }
 }
 
-fn keys_of(
-    alloc: Global,
-    matching: &Matching,
-    elements: &[Element],
-) -> Result<Vec<Labels>, OutOfMemory>
-    ensures { IfOk result (λ v. v.items ≡ keys_of matching.now elements.now) }
-{
-    let mut found = Vec::new(alloc);
-    for element in elements {
-        found.push(matching_key(matching, &element.labels)?)?;
-    }
-    Ok(found)
-}
-
 fn copy_of(element: &Element) -> Result<Element, OutOfMemory>
     ensures { IfOk result (λ e. e ≡ element.now) }
 {
@@ -65,13 +53,87 @@ fn copy_of(element: &Element) -> Result<Element, OutOfMemory>
     })
 }
 
-fn has_match(matching: &Matching, keys: &[Labels], element: &Element) -> Result<bool, OutOfMemory>
-    ensures { IfOk result (λ b. b ≡ list_any (same_labels (matching_key matching.now element.now.labels)) keys.now) }
+fn keyed_of(matching: &Matching, element: &Element) -> Result<Keyed, OutOfMemory>
+    ensures { IfOk result (λ x. x ≡ keyed_of matching.now element.now) }
 {
-    Ok(stands_in(&matching_key(matching, &element.labels)?, keys))
+    Ok(Keyed {
+        key: matching_key(matching, &element.labels)?,
+        element: copy_of(element)?,
+    })
+}
+
+/// Elements with their keys.
+fn keyed(
+    alloc: Global,
+    matching: &Matching,
+    elements: &[Element],
+) -> Result<Vec<Keyed>, OutOfMemory>
+    ensures { IfOk result (λ v. v.items ≡ keyed matching.now elements.now) }
+{
+    let mut found = Vec::new(alloc);
+    for element in elements {
+        found.push(keyed_of(matching, element)?)?;
+    }
+    Ok(found)
+}
+
+/// Elements in the order of their keys.
+fn index_of(
+    alloc: Global,
+    matching: &Matching,
+    elements: &[Element],
+) -> Result<KeyIndex, OutOfMemory>
+    ensures { IfOk result (λ x. x ≡ isort keyed_cmp (keyed matching.now elements.now)) }
+{
+    let entries = keyed(alloc, matching, elements)?;
+    let index = KeyIndex::of(entries)?;
+    Ok(index)
+}
+
+fn has_match(matching: &Matching, others: &KeyIndex, element: &Element) -> Result<bool, OutOfMemory>
+    ensures { IfOk result (λ b. b ≡ has_key (matching_key matching.now element.now.labels) others.now) }
+{
+    let key = matching_key(matching, &element.labels)?;
+    Ok(others.has_key(&key))
+}
+
+/// The elements whose key is one of the others'.
+fn those_with(
+    alloc: Global,
+    matching: &Matching,
+    others: &KeyIndex,
+    elements: &[Element],
+) -> Result<Vec<Element>, OutOfMemory>
+    ensures { IfOk result (λ v. v.items ≡ those_with matching.now others.now elements.now) }
+{
+    let mut found = Vec::new(alloc);
+    for element in elements {
+        if has_match(matching, others, element)? {
+            found.push(copy_of(element)?)?;
+        }
+    }
+    Ok(found)
+}
+
+/// Pushes the elements whose key is none of the others'.
+fn push_those_without(
+    found: &mut Vec<Element>,
+    matching: &Matching,
+    others: &KeyIndex,
+    elements: &[Element],
+) -> Result<(), OutOfMemory>
+    ensures { OnOk result (found.new.items ≡ found.old.items ++ those_without matching.now others.now elements.now) }
+{
+    for element in elements {
+        if !has_match(matching, others, element)? {
+            found.push(copy_of(element)?)?;
+        }
+    }
+    Ok(())
 }
 
 /// The elements that match one of the others.
+#[tactic(auto, using(crate::proofs::KeyedJoins::those_with_is))]
 fn matched(
     alloc: Global,
     matching: &Matching,
@@ -80,31 +142,34 @@ fn matched(
 ) -> Result<Vec<Element>, OutOfMemory>
     ensures { IfOk result (λ v. v.items ≡ filter (has_match matching.now others.now) elements.now) }
 {
-    let keys = keys_of(alloc, matching, others)?;
+    let index = index_of(alloc, matching, others)?;
+    let found = those_with(alloc, matching, &index, elements)?;
+    Ok(found)
+}
+
+fn copies_of(alloc: Global, elements: &[Element]) -> Result<Vec<Element>, OutOfMemory>
+    ensures { IfOk result (λ v. v.items ≡ elements.now) }
+{
     let mut found = Vec::new(alloc);
     for element in elements {
-        if has_match(matching, &keys, element)? {
-            found.push(copy_of(element)?)?;
-        }
+        found.push(copy_of(element)?)?;
     }
     Ok(found)
 }
 
-/// Pushes the elements that match none of the others.
-fn push_unmatched(
-    found: &mut Vec<Element>,
+/// Some elements, and behind them those of others whose key is none of theirs.
+fn both_of(
+    alloc: Global,
     matching: &Matching,
-    keys: &[Labels],
-    elements: &[Element],
-) -> Result<(), OutOfMemory>
-    ensures { OnOk result (found.new.items ≡ found.old.items ++ filter (λ e. not (list_any (same_labels (matching_key matching.now e.labels)) keys.now)) elements.now) }
+    index: &KeyIndex,
+    lefts: &[Element],
+    rights: &[Element],
+) -> Result<Vec<Element>, OutOfMemory>
+    ensures { IfOk result (λ v. v.items ≡ lefts.now ++ those_without matching.now index.now rights.now) }
 {
-    for element in elements {
-        if !has_match(matching, keys, element)? {
-            found.push(copy_of(element)?)?;
-        }
-    }
-    Ok(())
+    let mut found = copies_of(alloc, lefts)?;
+    push_those_without(&mut found, matching, index, rights)?;
+    Ok(found)
 }
 
 /// The left elements, and behind them the right ones that match none of these.
@@ -116,12 +181,22 @@ fn either(
 ) -> Result<Vec<Element>, OutOfMemory>
     ensures { IfOk result (λ v. v.items ≡ lefts.now ++ filter (λ r. not (has_match matching.now lefts.now r)) rights.now) }
 {
-    let keys = keys_of(alloc, matching, lefts)?;
+    let index = index_of(alloc, matching, lefts)?;
+    let found = both_of(alloc, matching, &index, lefts, rights)?;
+    Ok(found)
+}
+
+/// The elements whose key is none of the others'.
+fn those_without(
+    alloc: Global,
+    matching: &Matching,
+    others: &KeyIndex,
+    elements: &[Element],
+) -> Result<Vec<Element>, OutOfMemory>
+    ensures { IfOk result (λ v. v.items ≡ those_without matching.now others.now elements.now) }
+{
     let mut found = Vec::new(alloc);
-    for element in lefts {
-        found.push(copy_of(element)?)?;
-    }
-    push_unmatched(&mut found, matching, &keys, rights)?;
+    push_those_without(&mut found, matching, others, elements)?;
     Ok(found)
 }
 
@@ -134,9 +209,8 @@ fn unless(
 ) -> Result<Vec<Element>, OutOfMemory>
     ensures { IfOk result (λ v. v.items ≡ filter (λ l. not (has_match matching.now rights.now l)) lefts.now) }
 {
-    let keys = keys_of(alloc, matching, rights)?;
-    let mut found = Vec::new(alloc);
-    push_unmatched(&mut found, matching, &keys, lefts)?;
+    let index = index_of(alloc, matching, rights)?;
+    let found = those_without(alloc, matching, &index, lefts)?;
     Ok(found)
 }
 
@@ -182,22 +256,19 @@ fn result_of(
     })
 }
 
-/// Pushes what a left element gives with each right one that matches it.
+/// Pushes what a left element gives with the right ones of its key.
 fn push_results(
     found: &mut Vec<Joined>,
     op: BinaryOp,
     matching: &Matching,
     left: &Element,
-    rights: &[Element],
+    rights: &[Keyed],
 ) -> Result<(), OutOfMemory>
     requires { list_all is_label_name matching.now.include ≡ true }
-    ensures { OnOk result (found.new.items ≡ found.old.items ++ results_of op matching.now rights.now left.now) }
+    ensures { OnOk result (found.new.items ≡ found.old.items ++ map (λ r. result_of op matching.now left.now r.element) rights.now) }
 {
-    let key = matching_key(matching, &left.labels)?;
     for right in rights {
-        if is_same(&key, &matching_key(matching, &right.labels)?) {
-            found.push(result_of(op, matching, left, right)?)?;
-        }
+        found.push(result_of(op, matching, left, &right.element)?)?;
     }
     Ok(())
 }
@@ -207,15 +278,16 @@ fn results(
     alloc: Global,
     op: BinaryOp,
     matching: &Matching,
-    lefts: &[Element],
-    rights: &[Element],
+    lefts: &[Keyed],
+    rights: &KeyIndex,
 ) -> Result<Vec<Joined>, OutOfMemory>
     requires { list_all is_label_name matching.now.include ≡ true }
-    ensures { IfOk result (λ v. v.items ≡ joined (results_of op matching.now rights.now) lefts.now) }
+    ensures { IfOk result (λ v. v.items ≡ joined (keyed_results op matching.now rights.now) lefts.now) }
 {
     let mut found = Vec::new(alloc);
     for left in lefts {
-        push_results(&mut found, op, matching, left, rights)?;
+        let same = rights.with_key(&left.key);
+        push_results(&mut found, op, matching, &left.element, same)?;
     }
     Ok(found)
 }
@@ -256,52 +328,88 @@ fn is_grouping(side: Side) -> bool
     }
 }
 
-/// The elements of the one side.
-fn one_side<'a>(side: Side, lefts: &'a [Element], rights: &'a [Element]) -> &'a [Element]
-    ensures { result.now ≡ one_side side lefts.now rights.now }
+fn keys_of(alloc: Global, entries: &[Keyed]) -> Result<Vec<Labels>, OutOfMemory>
+    ensures { IfOk result (λ v. v.items ≡ map key_of entries.now) }
+{
+    let mut found = Vec::new(alloc);
+    for entry in entries {
+        found.push(entry.key.clone()?)?;
+    }
+    Ok(found)
+}
+
+/// Whether two elements of the one side have equal keys.
+fn has_double(
+    alloc: Global,
+    side: Side,
+    lefts: &[Keyed],
+    rights: &KeyIndex,
+) -> Result<bool, OutOfMemory>
+    ensures { IfOk result (λ b. b ≡ has_double side lefts.now rights.now) }
 {
     match side {
-        Side::One | Side::Left => rights,
-        Side::Right => lefts,
+        Side::One | Side::Left => Ok(rights.has_equal()),
+        Side::Right => has_equal(keys_of(alloc, lefts)?),
     }
 }
 
-/// Whether two elements have equal keys.
-fn has_equal_keys(
+/// The keys of the left elements that a right one has too.
+fn shared_keys(
     alloc: Global,
-    matching: &Matching,
-    elements: &[Element],
-) -> Result<bool, OutOfMemory>
-    ensures { IfOk result (λ b. b ≡ has_equal (keys_of matching.now elements.now)) }
+    lefts: &[Keyed],
+    rights: &KeyIndex,
+) -> Result<Vec<Labels>, OutOfMemory>
+    ensures { IfOk result (λ v. v.items ≡ shared_keys lefts.now rights.now) }
 {
-    let keys = keys_of(alloc, matching, elements)?;
-    Ok(has_equal(&keys))
+    let mut found = Vec::new(alloc);
+    for left in lefts {
+        if rights.has_key(&left.key) {
+            found.push(left.key.clone()?)?;
+        }
+    }
+    Ok(found)
 }
 
 /// Whether two left elements have equal keys that a right one has.
-fn many_to_many(
-    alloc: Global,
-    matching: &Matching,
-    lefts: &[Element],
-    rights: &[Element],
-) -> Result<bool, OutOfMemory>
-    ensures { IfOk result (λ b. b ≡ many_to_many matching.now lefts.now rights.now) }
+fn many_to_many(alloc: Global, lefts: &[Keyed], rights: &KeyIndex) -> Result<bool, OutOfMemory>
+    ensures { IfOk result (λ b. b ≡ has_equal (shared_keys lefts.now rights.now)) }
 {
-    let found = matched(alloc, matching, rights, lefts)?;
-    has_equal_keys(alloc, matching, &found)
+    has_equal(shared_keys(alloc, lefts, rights)?)
 }
 
 /// The cell of the results, where no two of a grouping have equal labels.
 fn cell_of_results(alloc: Global, side: Side, results: &[Joined]) -> Result<StepCell, OutOfMemory>
     ensures { IfOk result (λ c. c ≡ cell_of_results side results.now) }
 {
-    if is_grouping(side) && has_equal(&labels_of(alloc, results)?) {
+    if is_grouping(side) && has_equal(labels_of(alloc, results)?)? {
         return Ok(StepCell::Bad(ErrorKind::GroupingNotUnique));
     }
     cell_of(elements_of(alloc, results)?)
 }
 
 /// Arithmetic and comparison: the first error, or an element for each pair with a value.
+fn joined_keyed(
+    alloc: Global,
+    op: BinaryOp,
+    matching: &Matching,
+    lefts: &[Keyed],
+    rights: &KeyIndex,
+) -> Result<StepCell, OutOfMemory>
+    requires { list_all is_label_name matching.now.include ≡ true }
+    ensures { IfOk result (λ c. c ≡ joined_keyed op matching.now lefts.now rights.now) }
+{
+    if has_double(alloc, matching.side, lefts, rights)? {
+        return Ok(StepCell::Bad(ErrorKind::DoubleOnOneSide));
+    }
+    if !is_grouping(matching.side) && many_to_many(alloc, lefts, rights)? {
+        return Ok(StepCell::Bad(ErrorKind::ManyToMany));
+    }
+    let found = results(alloc, op, matching, lefts, rights)?;
+    cell_of_results(alloc, matching.side, &found)
+}
+
+/// The same of elements without their keys.
+#[tactic(auto, using(crate::proofs::KeyedJoins::joined_is))]
 fn joined_pairs(
     alloc: Global,
     op: BinaryOp,
@@ -310,20 +418,15 @@ fn joined_pairs(
     rights: &[Element],
 ) -> Result<StepCell, OutOfMemory>
     requires { list_all is_label_name matching.now.include ≡ true }
-    ensures { IfOk result (λ c. c ≡ joined_results op matching.now lefts.now rights.now) }
+    ensures { IfOk result (λ c. c ≡ joined_pairs op matching.now lefts.now rights.now) }
 {
-    if has_equal_keys(alloc, matching, one_side(matching.side, lefts, rights))? {
-        return Ok(StepCell::Bad(ErrorKind::DoubleOnOneSide));
-    }
-    if !is_grouping(matching.side) && many_to_many(alloc, matching, lefts, rights)? {
-        return Ok(StepCell::Bad(ErrorKind::ManyToMany));
-    }
-    let found = results(alloc, op, matching, lefts, rights)?;
-    cell_of_results(alloc, matching.side, &found)
+    let entries = keyed(alloc, matching, lefts)?;
+    let index = index_of(alloc, matching, rights)?;
+    let cell = joined_keyed(alloc, op, matching, &entries, &index)?;
+    Ok(cell)
 }
 
 /// The value of an operator at two vectors.
-#[tactic(auto, using(crate::proofs::Results::results_are_pairs))]
 pub fn join(
     alloc: Global,
     op: BinaryOp,

@@ -1,11 +1,11 @@
 use Rattle.std.proofs.Common.{◌++◌, ◌∷◌, [], ap, ◌∙◌}
-use Rattle.pf_model.specs.Matching.{matching_key}
+use Rattle.pf_join.specs.KeyedElements.{key_of}
 use Rattle.pf_join.proofs.Joining.{mapped_next}
 use Rattle.pf_join.proofs.matching.keys_of.Goals as goal
 
-pub loop-element-preserved : goal.loop-element-preserved
-loop-element-preserved c =
-    mapped_next (λ e. matching_key c.args.matching.now e.labels) c.loop-element.found.items c.push.new.self.items c.args.elements.now c.loop-element.element-index c.element-item.result
-    c.loop-element-test.true c.element-item.is
-    (c.in_ok-push.ensures.items ∙ ap (λ y. c.loop-element.found.items ++ y ∷ []) c.in_ok-matching_key.ensures)
-    c.loop-element.invariant
+pub loop-entry-preserved : goal.loop-entry-preserved
+loop-entry-preserved c =
+    mapped_next key_of c.loop-entry.found.items c.push.new.self.items c.args.entries.now c.loop-entry.entry-index c.entry-item.result
+    c.loop-entry-test.true c.entry-item.is
+    (c.in_ok-push.ensures.items ∙ ap (λ y. c.loop-entry.found.items ++ y ∷ []) c.in_ok-clone.ensures)
+    c.loop-entry.invariant

@@ -1,6 +1,6 @@
-use Rattle.std.proofs.Common.{◌≡◌, take}
-use Rattle.pf_model.specs.Matching.{keys_of}
+use Rattle.std.proofs.Common.{◌≡◌, map, take}
+use Rattle.pf_join.specs.KeyedElements.{key_of}
 use Rattle.pf_join.proofs.matching.keys_of.Given as goal
 
-abbrev pub invariant-loop-element : goal.invariant-loop-element
-invariant-loop-element l = l.found.items ≡ keys_of l.matching (take l.element-index l.elements)
+abbrev pub invariant-loop-entry : goal.invariant-loop-entry
+invariant-loop-entry l = l.found.items ≡ map key_of (take l.entry-index l.entries)
