@@ -3,7 +3,7 @@ use Rattle.std.specs.Prelude.{Bool, true, false, not, ◌&&◌, List, is_none}
 use Rattle.std.specs.List.{list_all}
 use Rattle.pf_base.specs.LabelSets.{is_label_name}
 use Rattle.pf_model.specs.declared.expr.Matcher.{Matcher}
-use Rattle.pf_model.specs.Selection.{all_plain, accepts_empty}
+use Rattle.pf_model.specs.Selection.{all_compared, accepts_empty}
 use Rattle.pf_eval.specs.Elementwise.{is_elementwise_call}
 use Rattle.pf_eval.specs.GroupValues.{is_each_group}
 use Rattle.pf_model.specs.Trees as tree
@@ -11,7 +11,7 @@ use Rattle.pf_model.specs.Trees.{Tree, Trees}
 
 -- the patterns are plain, and some matcher refuses the empty text
 abbrev pub gives_matchers : List Matcher → Bool
-gives_matchers ms = all_plain ms && not (accepts_empty ms)
+gives_matchers ms = all_compared ms && not (accepts_empty ms)
 
 -- numbers, signs, binary operators, functions of each element by itself, aggregations with a value for each group, and
 -- instant selectors

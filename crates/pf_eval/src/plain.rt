@@ -162,6 +162,9 @@ fn matchers_of(selector: &Selector) -> Result<Matchers, PlainError>
     ensures built { IfOk result (λ m. (m ≡ selector.now) × (gives_matchers selector.now ≡ true)) }
     ensures refused { result ≡ Err PlainError.NotBuilt → gives_matchers selector.now ≡ false }
 {
+    if !selector.is_compared() {
+        return Err(PlainError::NotBuilt);
+    }
     match Matchers::build(selector) {
         Ok(matchers) => Ok(matchers),
         Err(MatchError::OutOfMemory) => Err(PlainError::OutOfMemory),

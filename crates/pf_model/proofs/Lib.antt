@@ -1,3 +1,4 @@
+pub mod Crossing
 pub mod FirstLines
 mod Fitting
 mod Folds
@@ -19,6 +20,7 @@ mod TimesRead
 mod Worked
 mod WorkedLogs
 mod WorkedNames
+mod WorkedMatchers
 mod WorkedQueries
 mod WorkedRefusals
 mod WorkedTables

@@ -31,6 +31,7 @@ pub mod Resolving
 pub mod Scripts
 pub mod Selection
 pub mod Sharding
+pub mod Tests
 pub mod Tokens
 pub mod TreeCode
 pub mod Trees

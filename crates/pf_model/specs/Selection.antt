@@ -10,26 +10,35 @@ use Rattle.pf_base.specs.LabelOrder.{labels_cmp}
 use Rattle.pf_model.specs.declared.expr.Matcher.{Matcher}
 use Rattle.pf_model.specs.declared.expr.MatchSign.{MatchSign}
 use Rattle.pf_model.specs.declared.expr.MatchSign.TheVariants.{Equal, NotEqual, Like, NotLike}
-use Rattle.pf_model.specs.Patterns.{is_plain, is_like}
+use Rattle.pf_model.specs.Patterns.{is_plain, is_like, is_meant}
 
 abbrev pub same_labels : Pairs → Pairs → Bool
 same_labels l m = is_eq (labels_cmp l m)
 
--- what a sign says of a label's value and the matcher's text; a pattern is a plain one
+-- what a sign says of a label's value and the matcher's text
 abbrev pub holds : MatchSign → List ℕ → List ℕ → Bool
 holds Equal value text = bytes_eq value text
 holds NotEqual value text = not (bytes_eq value text)
 holds Like value pattern = is_like pattern value
 holds NotLike value pattern = not (is_like pattern value)
 
--- a matcher's text has a meaning: a pattern is plain, and a text that is compared may be any
+-- a matcher's text is compared as it is, or is a plain pattern, whose alternatives are
+abbrev pub is_compared : MatchSign → List ℕ → Bool
+is_compared Like pattern = is_plain pattern
+is_compared NotLike pattern = is_plain pattern
+is_compared sign text = true
+
+abbrev pub all_compared : List Matcher → Bool
+all_compared ms = list_all (λ m. is_compared m.sign m.text) ms
+
+-- a matcher's text has a meaning
 abbrev pub has_meaning : MatchSign → List ℕ → Bool
-has_meaning Like pattern = is_plain pattern
-has_meaning NotLike pattern = is_plain pattern
+has_meaning Like text = is_meant text
+has_meaning NotLike text = is_meant text
 has_meaning sign text = true
 
-abbrev pub all_plain : List Matcher → Bool
-all_plain ms = list_all (λ m. has_meaning m.sign m.text) ms
+abbrev pub all_meant : List Matcher → Bool
+all_meant ms = list_all (λ m. has_meaning m.sign m.text) ms
 
 -- every matcher holds of its label's value
 abbrev pub accepts : List Matcher → Pairs → Bool

@@ -6,6 +6,7 @@ mod expr;
 mod functions;
 mod lines;
 mod matchers;
+mod shared;
 mod words;
 
 pub use cell::{Cell, Element, ErrorKind, StepCell};
@@ -15,5 +16,5 @@ pub use expr::{
 };
 pub use functions::{AggOp, InstantFn, RangeFn, Sign};
 pub use lines::next_line;
-pub use matchers::{MatchError, Matchers, is_plain};
+pub use matchers::{MatchError, Matchers, MatchersAsker, is_plain};
 pub use words::{aggregation_word, function_name, match_text, operator_text};

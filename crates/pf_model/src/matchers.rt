@@ -1,74 +1,73 @@
 //! Matchers that series are selected by.
 
-ghost use Rattle.std.specs.Prelude.{◌≡◌, ◌↔◌, ◌<◌, IfOk, length, slice_index_or, true, false};
+ghost use Rattle.std.specs.Prelude.{◌≡◌, ◌<◌, IfOk, length, slice_index_or, true, false};
+ghost use Rattle.pf_base.specs.LabelSets.{value_of};
+ghost use Rattle.pf_match.specs.declared.error.PatternError.TheVariants as pattern;
 ghost use Rattle.pf_model.specs.declared.expr.Matcher.{Matcher};
-ghost use Rattle.pf_model.specs.Patterns.{is_like, is_plain, is_plain_byte};
-ghost use Rattle.pf_model.specs.Selection.{accepts, accepts_empty, all_plain, has_meaning, holds};
+ghost use Rattle.pf_model.specs.Patterns.{is_alternative, is_plain, is_plain_byte};
+ghost use Rattle.pf_model.specs.Selection.{accepts, accepts_empty, all_compared, all_meant, has_meaning, holds, is_compared};
+ghost use Rattle.pf_model.specs.Tests.{IsTest};
 
 use crate::expr::{MatchSign, Matcher, Selector};
 use pf_base::{Labels, OutOfMemory};
-use std::alloc::AllocError;
+use pf_match::{Pattern, PatternError, PatternMatcher};
+use std::alloc::Global;
 use std::marker::Model;
 
 /// Why a selector gives no matchers.
 #[derive(Clone, Copy, Debug, PartialEq, Eq)]
 pub enum MatchError {
-    /// A pattern of `=~` or `!~` that is not plain.
+    /// A pattern of `=~` or `!~` that is not plain is refused by `regex` for another cause than memory.
     BadPattern,
     /// Every matcher accepts the empty text.
     EmptySelector,
     OutOfMemory,
 }
 
-impl From<AllocError> for MatchError {
+impl From<OutOfMemory> for MatchError {
     ghost use Rattle.pf_model.specs.declared.matchers.MatchError.{MatchError};
 
     ghost from_gives = { λ _ e. e ≡ MatchError.OutOfMemory };
 
-    fn from(_error: AllocError) -> MatchError {
+    fn from(_error: OutOfMemory) -> MatchError {
         MatchError::OutOfMemory
     }
 }
 
-/// A selector's matchers, ready to be asked about label sets. Their patterns are plain, and at least one of them refuses
-/// the empty text.
-#[derive(Debug, Drop)]
-pub struct Matchers {
-    items: Vec<Matcher>,
-}
+impl From<PatternError> for MatchError {
+    ghost use Rattle.pf_model.specs.Tests.{match_error};
 
-impl Model for Matchers {
-    ghost use Rattle.std.specs.Prelude.{List, ◌≡◌, true, false};
-    ghost use Rattle.pf_model.specs.declared.expr.Matcher.{Matcher};
-    ghost use Rattle.pf_model.specs.Selection.{all_plain, accepts_empty};
+    ghost from_gives = { λ error e. e ≡ match_error error };
 
-    ghost Value = { List Matcher };
-
-    ghost view = { λ m. m.items.items };
-
-    ghost invariant = { λ m. (all_plain m.items.items ≡ true) × (accepts_empty m.items.items ≡ false) };
+    fn from(error: PatternError) -> MatchError {
+        match error {
+            PatternError::BadPattern => MatchError::BadPattern,
+            PatternError::OutOfMemory => MatchError::OutOfMemory,
+        }
+    }
 }
 
 impl MatchSign {
-    /// Whether a label's value passes, by the matcher's text.
+    /// Whether a matcher's text is compared: it is no pattern, or a plain one.
+    fn is_compared(self, text: &str) -> bool
+        ensures { result ≡ is_compared self text.now }
+    {
+        match self {
+            MatchSign::Equal | MatchSign::NotEqual => true,
+            MatchSign::Like | MatchSign::NotLike => is_plain(text),
+        }
+    }
+
+    /// Whether a label's value passes, by a text that is compared.
     fn holds(self, value: &str, text: &str) -> bool
+        requires { is_compared self text.now ≡ true }
         ensures { result ≡ holds self value.now text.now }
     {
         match self {
             MatchSign::Equal => value == text,
             MatchSign::NotEqual => value != text,
-            MatchSign::Like => is_like(text, value),
-            MatchSign::NotLike => !is_like(text, value),
-        }
-    }
-
-    /// Whether a matcher's text has a meaning: a pattern is plain.
-    fn has_meaning(self, text: &str) -> bool
-        ensures { result ≡ has_meaning self text.now }
-    {
-        match self {
-            MatchSign::Equal | MatchSign::NotEqual => true,
-            MatchSign::Like | MatchSign::NotLike => is_plain(text),
+            MatchSign::Like => is_alternative(text, value),
+            MatchSign::NotLike => !is_alternative(text, value),
         }
     }
 }
@@ -90,48 +89,253 @@ fn is_plain_byte(byte: u8) -> bool
 }
 
 /// Whether a value is one of a plain pattern's alternatives.
-fn is_like(pattern: &str, value: &str) -> bool
-    ensures { result ≡ is_like pattern.now value.now }
+fn is_alternative(pattern: &str, value: &str) -> bool
+    ensures { result ≡ is_alternative pattern.now value.now }
 {
     pattern.split('|').any(|alternative| value == alternative)
 }
 
-fn all_plain(matchers: &[Matcher]) -> bool
-    ensures { result ≡ all_plain matchers.now }
-{
-    matchers.iter().all(|m| m.sign.has_meaning(m.text.as_str()))
+impl Selector {
+    /// Whether no pattern is compiled for it: those that it has are plain.
+    pub fn is_compared(&self) -> bool
+        ensures { result ≡ all_compared self.now }
+    {
+        self.matchers
+            .iter()
+            .all(|m| m.sign.is_compared(m.text.as_str()))
+    }
 }
 
-fn all_accept_empty(matchers: &[Matcher]) -> bool
-    ensures { result ≡ accepts_empty matchers.now }
+/// A matcher, with its pattern where that isn't plain.
+#[derive(Debug, Drop)]
+struct Test {
+    matcher: Matcher,
+    pattern: Option<Pattern>,
+}
+
+impl Model for Test {
+    ghost use Rattle.pf_model.specs.declared.expr.Matcher.{Matcher};
+    ghost use Rattle.pf_model.specs.Tests.{IsTest};
+
+    ghost Value = { Matcher };
+
+    ghost view = { λ t. t.matcher };
+
+    ghost invariant = { λ t. IsTest t.matcher t.pattern };
+}
+
+/// A matcher's pattern, where it isn't plain.
+fn pattern_of(alloc: Global, matcher: &Matcher) -> Result<Option<Pattern>, PatternError>
+    ensures built { IfOk result (IsTest matcher.now) }
+    ensures refused { result ≡ Err pattern.BadPattern → is_compared matcher.now.sign matcher.now.text ≡ false }
 {
-    matchers.iter().all(|m| m.sign.holds("", m.text.as_str()))
+    let text = matcher.text.as_str();
+    if matcher.sign.is_compared(text) {
+        return Ok(None);
+    }
+    Ok(Some(Pattern::build(alloc, text)?))
+}
+
+fn test_of(alloc: Global, matcher: &Matcher) -> Result<Test, PatternError>
+    ensures built { IfOk result (λ t. t ≡ matcher.now) }
+    ensures meant { IfOk result (λ t. has_meaning matcher.now.sign matcher.now.text ≡ true) }
+    ensures refused { result ≡ Err pattern.BadPattern → is_compared matcher.now.sign matcher.now.text ≡ false }
+{
+    let pattern = pattern_of(alloc, matcher)?;
+    let matcher = matcher.clone()?;
+    Ok(Test { matcher, pattern })
+}
+
+fn tests_of(alloc: Global, matchers: &[Matcher]) -> Result<Vec<Test>, PatternError>
+    ensures built { IfOk result (λ v. v.items ≡ matchers.now) }
+    ensures meant { IfOk result (λ v. all_meant matchers.now ≡ true) }
+    ensures refused { result ≡ Err pattern.BadPattern → all_compared matchers.now ≡ false }
+{
+    let mut tests = Vec::new(alloc);
+    for matcher in matchers {
+        let test = test_of(alloc, matcher)?;
+        if tests.push(test).is_err() {
+            return Err(PatternError::OutOfMemory);
+        }
+    }
+    Ok(tests)
+}
+
+impl Test {
+    /// Whether a pattern that isn't plain lets a value pass.
+    fn passes(&self, pattern: &Pattern, value: &str) -> Result<bool, OutOfMemory>
+        requires text { pattern.now ≡ self.now.text }
+        requires kept { is_compared self.now.sign self.now.text ≡ false }
+        ensures { IfOk result (λ b. b ≡ holds self.now.sign value.now self.now.text) }
+    {
+        let is_found = pattern.matches(value)?;
+        Ok(is_found != (self.matcher.sign == MatchSign::NotLike))
+    }
+
+    /// Whether a label's value passes.
+    fn holds(&self, value: &str) -> Result<bool, OutOfMemory>
+        ensures { IfOk result (λ b. b ≡ holds self.now.sign value.now self.now.text) }
+    {
+        match &self.pattern {
+            Some(pattern) => self.passes(pattern, value),
+            None => Ok(self.matcher.sign.holds(value, self.matcher.text.as_str())),
+        }
+    }
+}
+
+/// A test with what asks its pattern of values.
+#[derive(Drop)]
+struct Asking<'m> {
+    matcher: &'m Matcher,
+    pattern: Option<PatternMatcher<'m>>,
+}
+
+impl<'m> Model for Asking<'m> {
+    ghost use Rattle.pf_model.specs.declared.expr.Matcher.{Matcher};
+    ghost use Rattle.pf_model.specs.Tests.{IsTest};
+
+    ghost Value = { Matcher };
+
+    ghost view = { λ a. a.matcher.now };
+
+    ghost invariant = { λ a. IsTest a.matcher.now a.pattern };
+}
+
+impl Test {
+    fn asking(&self) -> Result<Asking<'_>, OutOfMemory>
+        ensures { IfOk result (λ a. a ≡ self.now) }
+    {
+        let pattern = match &self.pattern {
+            Some(pattern) => Some(pattern.matcher()?),
+            None => None,
+        };
+        Ok(Asking {
+            matcher: &self.matcher,
+            pattern,
+        })
+    }
+}
+
+impl<'m> Asking<'m> {
+    /// Whether the value of its label passes.
+    fn holds(&mut self, labels: &Labels) -> bool
+        ensures value { result ≡ holds self.old.sign (value_of labels.now self.old.label) self.old.text }
+        ensures same { self.new ≡ self.old }
+    {
+        let value = labels.get(self.matcher.label.as_str());
+        match &mut self.pattern {
+            Some(pattern) => { pattern.matches(value) != (self.matcher.sign == MatchSign::NotLike) }
+            None => self.matcher.sign.holds(value, self.matcher.text.as_str()),
+        }
+    }
+}
+
+fn all_asking<'m>(alloc: Global, tests: &'m [Test]) -> Result<Vec<Asking<'m>>, OutOfMemory>
+    ensures { IfOk result (λ v. v.items ≡ tests.now) }
+{
+    let mut asking = Vec::new(alloc);
+    for test in tests {
+        asking.push(test.asking()?)?;
+    }
+    Ok(asking)
+}
+
+/// What asks matchers about label sets, one after another, seen by contracts as the matchers. Its caches grow as it is used,
+/// so it belongs to one thread.
+#[derive(Drop)]
+pub struct MatchersAsker<'m> {
+    tests: Vec<Asking<'m>>,
+}
+
+impl<'m> Model for MatchersAsker<'m> {
+    ghost use Rattle.std.specs.Prelude.{List};
+    ghost use Rattle.pf_model.specs.declared.expr.Matcher.{Matcher};
+
+    ghost Value = { List Matcher };
+
+    ghost view = { λ a. a.tests.items };
+}
+
+impl<'m> MatchersAsker<'m> {
+    /// Whether each matcher holds of the value of its label. Want of memory makes it slower, and is never answered.
+    pub fn accepts(&mut self, labels: &Labels) -> bool
+        ensures value { result ≡ accepts self.old labels.now }
+        ensures same { self.new ≡ self.old }
+    {
+        for i in 0..self.tests.len() {
+            if !self.tests[i].holds(labels) {
+                return false;
+            }
+        }
+        true
+    }
+}
+
+fn all_accept_empty(tests: &[Test]) -> Result<bool, OutOfMemory>
+    ensures { IfOk result (λ b. b ≡ accepts_empty tests.now) }
+{
+    for test in tests {
+        if !test.holds("")? {
+            return Ok(false);
+        }
+    }
+    Ok(true)
+}
+
+fn all_accept(tests: &[Test], labels: &Labels) -> Result<bool, OutOfMemory>
+    ensures { IfOk result (λ b. b ≡ accepts tests.now labels.now) }
+{
+    for test in tests {
+        if !test.holds(labels.get(test.matcher.label.as_str()))? {
+            return Ok(false);
+        }
+    }
+    Ok(true)
+}
+
+/// A selector's matchers, ready to be asked about label sets. Their patterns have a meaning, and at least one of the
+/// matchers refuses the empty text. Threads may share them.
+#[derive(Debug, Drop)]
+pub struct Matchers {
+    tests: Vec<Test>,
+}
+
+impl Model for Matchers {
+    ghost use Rattle.std.specs.Prelude.{List, ◌≡◌, true, false};
+    ghost use Rattle.pf_model.specs.declared.expr.Matcher.{Matcher};
+    ghost use Rattle.pf_model.specs.Selection.{all_meant, accepts_empty};
+
+    ghost Value = { List Matcher };
+
+    ghost view = { λ m. m.tests.items };
+
+    ghost invariant = { λ m. (all_meant m.tests.items ≡ true) × (accepts_empty m.tests.items ≡ false) };
 }
 
 impl Matchers {
-    /// The matchers of a selector.
+    /// The matchers of a selector. A plain pattern is one or more alternatives with `|` between them, each of ASCII letters,
+    /// digits, `_`, `-`, `:` and `/`, and is compared with them; every other one is compiled once. Prometheus, Querying
+    /// basics: Time series selectors.
     pub fn build(selector: &Selector) -> Result<Matchers, MatchError>
         ensures built { IfOk result (λ m. m ≡ selector.now) }
-        ensures refused { (all_plain selector.now ≡ false) ↔ (result ≡ Err MatchError.BadPattern) }
-        ensures empty { ((all_plain selector.now ≡ true) × (accepts_empty selector.now ≡ true)) ↔ (result ≡ Err MatchError.EmptySelector) }
+        ensures meant { IfOk result (λ m. all_meant selector.now ≡ true) }
+        ensures selects { IfOk result (λ m. accepts_empty selector.now ≡ false) }
+        ensures refused { result ≡ Err MatchError.BadPattern → all_compared selector.now ≡ false }
+        ensures empty { result ≡ Err MatchError.EmptySelector → (all_meant selector.now ≡ true) × (accepts_empty selector.now ≡ true) }
     {
         let matchers = &selector.matchers;
-        if !all_plain(matchers) {
-            return Err(MatchError::BadPattern);
-        }
-        if all_accept_empty(matchers) {
+        let tests = tests_of(*matchers.allocator(), matchers)?;
+        if all_accept_empty(&tests)? {
             return Err(MatchError::EmptySelector);
         }
-        Ok(Matchers {
-            items: matchers.clone()?,
-        })
+        Ok(Matchers { tests })
     }
 
     /// The number of matchers.
     pub fn count(&self) -> usize
         ensures { result ≡ length self.now }
     {
-        self.items.len()
+        self.tests.len()
     }
 
     /// The matcher at a place.
@@ -139,20 +343,21 @@ impl Matchers {
         requires { i < length self.now }
         ensures { (d : Matcher) → result.now ≡ slice_index_or self.now i d }
     {
-        &self.items[i]
+        &self.tests[i].matcher
     }
 
-    /// The matchers, in the selector's order.
-    pub fn as_slice(&self) -> &[Matcher]
-        ensures { result.now ≡ self.now }
+    /// What asks them about many label sets.
+    pub fn asker(&self) -> Result<MatchersAsker<'_>, OutOfMemory>
+        ensures { IfOk result (λ a. a ≡ self.now) }
     {
-        &self.items
+        let tests = all_asking(*self.tests.allocator(), &self.tests)?;
+        Ok(MatchersAsker { tests })
     }
 
-    /// Whether each matcher holds of the value of its label.
+    /// Whether each matcher holds of the value of its label. For many label sets take an `asker`.
     pub fn accepts(&self, labels: &Labels) -> Result<bool, OutOfMemory>
         ensures { IfOk result (λ b. b ≡ accepts self.now labels.now) }
     {
-        Ok(self.items.iter().all(|m| m.sign.holds(labels.get(m.label.as_str()), m.text.as_str())))
+        all_accept(&self.tests, labels)
     }
 }

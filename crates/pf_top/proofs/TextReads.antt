@@ -31,7 +31,7 @@ use Rattle.pf_model.specs.ErrorTexts.{QueryFault, of_grammar, of_kinds, refused_
 use Rattle.pf_model.specs.Lists.{Each}
 use Rattle.pf_model.specs.Queries.{IsBuiltQuery, IsBuiltSelector, Readings, asked_of, asked_with, IsFaultOf, IsNoSelector, IsQuery, IsReading, IsSelector, IsUnbuiltQuery, IsUnbuiltSelector, Obstacle, Reading, empty, has_pattern, is_pattern, is_plain, is_unbuilt, is_unmodified, lawful, no_selector, obstacle_of, pattern, refused, selecting, selecting_by, selector_obstacle}
 use Rattle.pf_model.specs.Scripts.{Line, Numbered, ingest, delete, ask, answer}
-use Rattle.pf_model.specs.Selection.{accepts_empty, all_plain, has_meaning}
+use Rattle.pf_model.specs.Selection.{accepts_empty, all_compared, is_compared}
 use Rattle.pf_model.specs.Tokens.{only_if}
 use Rattle.pf_model.specs.Trees.{Tree, number, text, unary, binary, call, aggregate, select, subquery, instant, no_mods, tree_of}
 use Rattle.pf_model.specs.Typing.{Fault, asked_fault}
@@ -177,7 +177,7 @@ refused_right words e some h = by_fault (query_fault e) refl some h where
   by_fault (Some fault) is s f = (fault, (is, (f, fault_selects_none words fault f)))
 
 -- a selector without patterns in its way has plain matchers
-pub all_meant : (ms : List Matcher) → obstacle_of (instant ms) ≡ None → (all_plain ms ≡ true) × (accepts_empty ms ≡ false)
+pub all_meant : (ms : List Matcher) → obstacle_of (instant ms) ≡ None → (all_compared ms ≡ true) × (accepts_empty ms ≡ false)
 all_meant ms h = (plain ms (no_pattern (has_pattern ms) (accepts_empty ms) own), no_empty (has_pattern ms) (accepts_empty ms) own) where
   own : selector_obstacle 0 ms ≡ None
   own = sym (own_obstacle ms) ∙ h
@@ -191,17 +191,17 @@ all_meant ms h = (plain ms (no_pattern (has_pattern ms) (accepts_empty ms) own),
   no_empty false true g = cc
   no_empty false false g = refl
 
-  plain : (xs : List Matcher) → has_pattern xs ≡ false → all_plain xs ≡ true
+  plain : (xs : List Matcher) → has_pattern xs ≡ false → all_compared xs ≡ true
   plain [] g = refl
   plain (x ∷ xs) g = meant x.sign x.text xs (has_pattern xs) g (plain xs) where
-    meant : (s : MatchSign) (t : List ℕ) (ys : List Matcher) (any : Bool) → (is_pattern s || any) ≡ false → (any ≡ false → all_plain ys ≡ true)
-        → (has_meaning s t && all_plain ys) ≡ true
+    meant : (s : MatchSign) (t : List ℕ) (ys : List Matcher) (any : Bool) → (is_pattern s || any) ≡ false → (any ≡ false → all_compared ys ≡ true)
+        → (is_compared s t && all_compared ys) ≡ true
     meant Equal t ys any i rest = rest i
     meant NotEqual t ys any i rest = rest i
     meant Like t ys any i rest = absurd (true≢false i)
     meant NotLike t ys any i rest = absurd (true≢false i)
 
-pub no_bad_pattern : (t : Tree) (ms : List Matcher) → t ≡ instant ms → obstacle_of t ≡ None → all_plain ms ≡ false → ⊥
+pub no_bad_pattern : (t : Tree) (ms : List Matcher) → t ≡ instant ms → obstacle_of t ≡ None → all_compared ms ≡ false → ⊥
 no_bad_pattern t ms is none bad =
     let m = all_meant ms (subst (λ (x : Tree). obstacle_of x ≡ None) is none) in true≢false (sym m.0 ∙ bad)
 

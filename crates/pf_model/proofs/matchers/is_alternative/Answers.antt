@@ -2,7 +2,7 @@ use Rattle.std.proofs.Common.{rules, lit<}
 use Rattle.std.proofs.lemmas.Iterator.Search.{any_from_yields_List}
 use Rattle.std.proofs.lemmas.Iterator.Splits.{YieldsList-from_str_split}
 use Rattle.std.specs.Str.{bytes_eq}
-use Rattle.pf_model.proofs.matchers.is_like.Goals as goal
+use Rattle.pf_model.proofs.matchers.is_alternative.Goals as goal
 
 -- the parts of the split are the alternatives
 pub returns : goal.returns
