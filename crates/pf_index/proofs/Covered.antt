@@ -63,8 +63,12 @@ full : (vs : List (List ℕ)) → 0 < length (unless_empty vs) → (unless_empty
 full vs h = full_by vs (list_any is_empty vs) refl h
 
 -- what a plain pattern accepts is one of its alternatives
+chosen : (b c d : Bool) → b ≡ true → cond b c d ≡ true → c ≡ true
+chosen true c d e h = h
+chosen false c d e h = cc
+
 like_alternative : (pattern value : List ℕ) → is_plain pattern ≡ true → is_like pattern value ≡ true → list_any (bytes_eq value) (alternatives pattern) ≡ true
-like_alternative pattern value p h = h
+like_alternative pattern value p h = chosen (is_plain pattern) (list_any (bytes_eq value) (alternatives pattern)) _ p h
 
 or_none : (b : Bool) → b ≡ true → (b || false) ≡ true
 or_none true h = refl
