@@ -41,12 +41,12 @@ fn narrowed<'a>(snap: &'a Snap, found: Option<&'a [u32]>, matcher: &Matcher) -> 
 
 /// The fewest series that have the label of an `=` matcher with its text, none where no matcher is so.
 #[tactic(auto, using(crate::proofs::AcceptedIds::member_accepts))]
-fn candidates<'a>(snap: &'a Snap, matchers: &[Matcher]) -> Option<&'a [u32]>
+fn candidates<'a>(snap: &'a Snap, matchers: &Matchers) -> Option<&'a [u32]>
     ensures { IfSome result (λ ids. AreEnough matchers.now snap.now ids.now) }
 {
     let mut found: Option<&'a [u32]> = None;
-    for matcher in matchers {
-        found = narrowed(snap, found, matcher);
+    for i in 0..matchers.count() {
+        found = narrowed(snap, found, matchers.matcher(i));
     }
     found
 }
@@ -87,7 +87,7 @@ fn among_all(alloc: Global, snap: &Snap, matchers: &Matchers) -> Result<Vec<u32>
 pub fn accepted(alloc: Global, snap: &Snap, matchers: &Matchers) -> Result<Vec<u32>, OutOfMemory>
     ensures { IfOk result (λ v. AreAccepted matchers.now snap.now v.items) }
 {
-    let series = match candidates(snap, matchers.as_slice()) {
+    let series = match candidates(snap, matchers) {
         Some(ids) => among(alloc, snap, matchers, ids)?,
         None => among_all(alloc, snap, matchers)?,
     };
