@@ -1,9 +1,7 @@
 -- The functions of each element by itself, and the changes that they are.
-use Rattle.std.proofs.Common.{◌≡◌, Bool, true, false, List, [], ◌∷◌, refl, sym, ap, ◌∙◌, map}
-use Rattle.pf_model.specs.declared.cell.Element.{Element}
+use Rattle.std.proofs.Common.{◌≡◌, true, refl}
 use Rattle.pf_model.specs.declared.functions.InstantFn.{InstantFn}
 use Rattle.pf_model.specs.declared.functions.InstantFn.TheVariants as function
-use Rattle.pf_model.specs.InstantFunctions.{Beside}
 use Rattle.pf_math.specs.EachValue.{IsOfEachValue, is_each_value}
 
 pub each_value_is : (f : InstantFn) → is_each_value f ≡ true → IsOfEachValue f

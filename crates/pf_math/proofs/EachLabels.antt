@@ -1,9 +1,9 @@
 -- `label_replace` and `label_join` change each label set by itself.
-use Rattle.std.proofs.Common.{◌≡◌, ℕ, Bool, true, false, Option, Some, None, List, [], ◌∷◌, refl, sym, ap, ◌∙◌, map}
+use Rattle.std.proofs.Common.{◌≡◌, ℕ, true, Option, List, [], ◌∷◌, refl, ap, map}
 use Rattle.pf_model.specs.declared.cell.Element.{Element}
 use Rattle.pf_model.specs.declared.functions.InstantFn.{InstantFn}
 use Rattle.pf_model.specs.declared.functions.InstantFn.TheVariants as function
-use Rattle.pf_model.specs.InstantFunctions.{Beside, label_join, label_replace}
+use Rattle.pf_model.specs.InstantFunctions.{label_join, label_replace}
 use Rattle.pf_math.specs.Relabelling.{IsOfEachLabels, is_relabelling, joined_labels, replaced}
 
 -- unchanged labels

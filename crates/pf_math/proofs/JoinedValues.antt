@@ -1,7 +1,6 @@
 -- Texts joined by a separator: the first, and each other with the separator before it.
-use Rattle.std.proofs.Common.{◌≡◌, ℕ, List, [], ◌∷◌, ◌++◌, map, refl, sym, ap, ◌∙◌, append_assoc, append-nil, drop}
+use Rattle.std.proofs.Common.{◌≡◌, ℕ, List, [], ◌∷◌, ◌++◌, sym, ap, ◌∙◌, append_assoc, append-nil, drop}
 use Rattle.pf_base.specs.LabelSets.{Pairs, value_of}
-use Rattle.pf_model.specs.InstantFunctions.{joined_by}
 use Rattle.pf_model.specs.Lists.{joined}
 use Rattle.pf_math.specs.Relabelling.{joined_values}
 

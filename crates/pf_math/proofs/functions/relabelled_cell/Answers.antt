@@ -1,5 +1,4 @@
-use Rattle.std.proofs.Common.{rules, ◌≡◌, ap, ◌∙◌, option_map}
-use Rattle.std.specs.Arc.{arc_value}
+use Rattle.std.proofs.Common.{rules, ◌≡◌, ap, ◌∙◌}
 use Rattle.std.specs.Option.{option_copied}
 use Rattle.pf_model.specs.Cells.{cell_of}
 use Rattle.pf_math.specs.Arguments.{beside, expansion}

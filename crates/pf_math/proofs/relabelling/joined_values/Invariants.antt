@@ -1,4 +1,4 @@
-use Rattle.std.proofs.Common.{◌≡◌, ◌++◌, ◌∷◌, drop, string_bytes}
+use Rattle.std.proofs.Common.{◌≡◌, ◌++◌, drop, string_bytes}
 use Rattle.pf_base.specs.LabelSets.{value_of}
 use Rattle.pf_model.specs.Lists.{joined}
 use Rattle.pf_math.specs.Relabelling.{joined_values}
