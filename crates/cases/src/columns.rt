@@ -45,7 +45,7 @@ impl Form {
 }
 
 /// A value, and none for a dash.
-fn value_at(out: &mut Output, text: &str) -> Option<Value> {
+pub fn value_at(out: &mut Output, text: &str) -> Option<Value> {
     if text == "-" {
         None
     } else {
@@ -53,7 +53,8 @@ fn value_at(out: &mut Output, text: &str) -> Option<Value> {
     }
 }
 
-fn values_of(out: &mut Output, list: &str) -> Vec<Option<Value>> {
+/// The values of a list, `;` between them.
+pub fn values_of(out: &mut Output, list: &str) -> Vec<Option<Value>> {
     let mut values = Vec::new(out.alloc());
     for text in list.split(';') {
         let value = value_at(out, text);
@@ -103,7 +104,8 @@ fn run_of(out: &mut Output, list: &str) -> Option<Run> {
     Some(Run { steps, count })
 }
 
-fn push_cell(out: &mut Output, cell: &Cell) {
+/// Appends the elements of a vector.
+pub fn push_cell(out: &mut Output, cell: &Cell) {
     let mut is_first = true;
     for element in &cell.elements {
         if !is_first {

@@ -3,7 +3,8 @@
 use crate::output::Output;
 use crate::setting::Setting;
 use crate::{
-    base, columns, evaluation, language, outside, patterns, ranges, reports, runs, stores,
+    base, columns, evaluation, functions, language, outside, patterns, ranges, reports, runs,
+    stores,
 };
 
 /// A form of rows, by what it is about.
@@ -14,6 +15,7 @@ pub enum Form {
     Language(language::Form),
     Patterns(patterns::Form),
     Ranges(ranges::Form),
+    Functions(functions::Form),
     Columns(columns::Form),
     Evaluation(evaluation::Form),
     Reports(reports::Form),
@@ -39,6 +41,9 @@ impl Form {
         if let Some(form) = ranges::Form::named(name) {
             return Some(Form::Ranges(form));
         }
+        if let Some(form) = functions::Form::named(name) {
+            return Some(Form::Functions(form));
+        }
         if let Some(form) = columns::Form::named(name) {
             return Some(Form::Columns(form));
         }
@@ -63,6 +68,7 @@ pub fn answer(out: &mut Output, rt: HostRuntime, form: Form, setting: &Setting, 
         Form::Language(form) => form.answer(out, given),
         Form::Patterns(form) => form.answer(out, setting, given),
         Form::Ranges(form) => form.answer(out, given),
+        Form::Functions(form) => form.answer(out, setting, given),
         Form::Columns(form) => form.answer(out, given),
         Form::Evaluation(form) => form.answer(out, setting, given),
         Form::Reports(form) => form.answer(out, setting, given),

@@ -9,6 +9,7 @@ mod escapes;
 mod evaluation;
 mod file;
 mod forms;
+mod functions;
 mod language;
 mod output;
 mod outside;
