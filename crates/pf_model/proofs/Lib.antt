@@ -11,6 +11,7 @@ pub mod MergeQuery
 mod MergedParts
 pub mod OneAnswer
 pub mod OnePlace
+pub mod OwnResolved
 pub mod Places
 pub mod SelectorLabels
 mod ShardSteps

@@ -1,5 +1,6 @@
 pub mod Aggregation
 pub mod Binding
+pub mod Built
 pub mod Canonical
 pub mod Cells
 pub mod Clauses

@@ -126,3 +126,7 @@ log_with log rows vs = cond (any_taken vs) (log ++ append rows ∷ []) log
 -- a log with a deletion: it always has a further entry
 abbrev pub log_without : List Change → List Matcher → ℕ → ℕ → List Change
 log_without log ms from to = log ++ delete ms from to ∷ []
+
+-- the samples of one batch: of rows of a series with one time the first is taken
+abbrev pub batch_samples : List Row → List Row
+batch_samples rows = taken_rows rows (verdicts_on None [] rows)

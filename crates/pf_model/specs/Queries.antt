@@ -14,9 +14,11 @@ use Rattle.pf_model.specs.declared.expr.MatchSign.{MatchSign}
 use Rattle.pf_model.specs.declared.expr.MatchSign.TheVariants.{Equal, NotEqual, Like, NotLike}
 use Rattle.pf_model.specs.declared.expr.Mods.{Mods}
 use Rattle.pf_model.specs.declared.functions.InstantFn.TheVariants as function
+use Rattle.pf_model.specs.Built.{is_evaluated}
 use Rattle.pf_model.specs.Direct.{Asked}
 use Rattle.pf_model.specs.ErrorTexts.{QueryFault, of_grammar, of_kinds, refused_pattern, empty_selector, grid_text, query_text}
 use Rattle.pf_model.specs.Parsing.{Refusal, Parses, Refuses}
+use Rattle.pf_model.specs.Resolving.{is_settled}
 use Rattle.pf_model.specs.Selection.{accepts_empty}
 use Rattle.pf_model.specs.Tokens.{only_if}
 use Rattle.pf_model.specs.Trees.{Tree, call, select, preorder}
@@ -95,9 +97,13 @@ abbrev pub is_plain : Tree → Bool
 is_plain (select ms None mods) = is_unmodified mods
 is_plain _ = false
 
--- a query that is built: one that is refused, or an instant selector of `=` and `!=` without modifiers
+-- a tree that the evaluator does as it stands
+abbrev pub is_built_tree : Tree → Bool
+is_built_tree tree = is_settled tree && is_evaluated tree
+
+-- a query that is built: one that is refused, or one that the evaluator does
 abbrev pub is_built : Reading → Bool
-is_built (lawful tree) = is_plain tree
+is_built (lawful tree) = is_built_tree tree
 is_built (refused fault) = true
 
 abbrev pub IsBuiltQuery : List ℕ → Type 0
@@ -105,7 +111,7 @@ IsBuiltQuery text = (r : Reading) × (IsReading text r × (is_built r ≡ true))
 
 -- a lawful query that is not built
 abbrev pub is_unbuilt : Option Obstacle → Tree → Bool
-is_unbuilt None tree = not (is_plain tree)
+is_unbuilt None tree = not (is_built_tree tree)
 is_unbuilt (Some pattern) tree = true
 is_unbuilt (Some (empty which)) tree = false
 

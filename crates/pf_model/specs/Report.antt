@@ -1,17 +1,18 @@
 -- The printed report: the replies to each client's lines, and the journal. This project's own.
-use Rattle.std.specs.Prelude.{ℕ, ◌+◌, Bool, true, false, ◌||◌, Option, Some, None, Result, Err, List, [], ◌∷◌, ◌++◌, codes, cond, length, nat_lt, slice_get, unwrap_or, take}
+use Rattle.std.specs.Prelude.{ℕ, ◌+◌, Bool, true, false, ◌||◌, Option, Some, None, Result, Ok, Err, List, [], ◌∷◌, ◌++◌, codes, cond, length, nat_lt, slice_get, unwrap_or, take}
 use Rattle.std.specs.Fmt.{decimal}
 use Rattle.pf_base.specs.Grids.{maxt}
 use Rattle.pf_base.specs.NumberTexts.{value_text}
 use Rattle.pf_base.specs.declared.plain.Limits.{Limits}
-use Rattle.pf_model.specs.Direct.{Asked}
+use Rattle.pf_base.specs.declared.plain.Row.{Row}
+use Rattle.pf_model.specs.Direct.{Asked, direct}
 use Rattle.pf_model.specs.ErrorTexts.{full_text, tenants_text}
 use Rattle.pf_model.specs.Exposition.{bad_line, late_line, too_many}
 use Rattle.pf_model.specs.Json.{answer_text, error_text}
 use Rattle.pf_model.specs.Legal.{Moment, moments}
 use Rattle.pf_model.specs.Lists.{joined}
 use Rattle.pf_model.specs.Log.{Verdict, taken, too_old, repeated, differs}
-use Rattle.pf_model.specs.Machine.{What, append, delete, ask, full, no_tenant, cancel, answer, Entry, Open, open_at, answer_of}
+use Rattle.pf_model.specs.Machine.{What, append, delete, ask, full, no_tenant, cancel, answer, Entry, Open, answer_of, code_of, open_at}
 use Rattle.pf_model.specs.Queries.{Readings, asked_of}
 use Rattle.pf_model.specs.Scripts.{Line, Numbered}
 use Rattle.pf_model.specs.Scripts as script
@@ -233,3 +234,16 @@ journal_text names journal = line_text (codes "journal" ∷ decimal (length jour
 abbrev pub report : Limits → List (List ℕ) → List Entry → List (List Numbered) → Rest → List ℕ
 report l names journal scripts rest =
     clients_from l rest.readings (moments journal) 0 scripts rest.stops ++ journal_text names journal
+
+-- ---- evaluations
+
+-- a code, and a body, each on a line of its own
+abbrev pub evaluation_text : List ℕ → List ℕ → List ℕ
+evaluation_text code body = line_text (code ∷ []) ++ line_text (body ∷ [])
+
+-- what is printed of a query that is asked over samples, or that is refused
+abbrev pub evaluated_text : List Row → Option (Result Asked (List ℕ)) → List ℕ
+evaluated_text samples None = []
+evaluated_text samples (Some (Err text)) = evaluation_text (codes "400") (error_text (codes "bad_data") text)
+evaluated_text samples (Some (Ok asked)) =
+    evaluation_text (decimal (code_of (direct samples asked))) (answer_text (direct samples asked))
