@@ -6,7 +6,8 @@ use crate::setting::{Part, Setting};
 use pf_base::{OutOfMemory, Sample};
 use pf_matrix::{Matrix, MatrixRow};
 use pf_report::{
-    Word, push_entry, push_error_answer, push_ingested, push_line, push_matrix_answer, push_reply,
+    Answer, Word, push_entry, push_error_answer, push_ingested, push_line, push_query_answer,
+    push_reply,
 };
 use pf_script::{Line, NumberedLine, ScriptError, read_script};
 use pf_store::{Verdict, Verdicts};
@@ -237,15 +238,15 @@ fn matrix_answer(
     let (number, rest) = cut(text);
     let (id, rest) = cut(rest);
     let (cached, evaluated) = cut(rest);
-    let matrix = matrix_of(out, setting);
-    push_matrix_answer(
+    let answer = Answer::Matrix(matrix_of(out, setting));
+    push_query_answer(
         out.alloc(),
         line,
         out.number(number),
         id,
         out.number(cached),
         out.number(evaluated),
-        &matrix,
+        &answer,
     )
 }
 

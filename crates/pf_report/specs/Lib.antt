@@ -1,3 +1,4 @@
+pub mod AnsweredQueries
 pub mod ErrorTokens
 pub mod Replies
 pub mod Words

@@ -6,14 +6,18 @@
 //! report: a part of the text may stand there.
 #![tactic(auto)]
 
+mod answer;
 mod counts;
 mod entries;
 mod error_json;
+mod evaluations;
 mod json_text;
 mod refused_rows;
 mod replies;
 mod word;
 
+pub use answer::{Answer, push_body};
 pub use entries::push_entry;
-pub use replies::{push_error_answer, push_ingested, push_matrix_answer, push_reply};
+pub use evaluations::{push_bad_evaluation, push_evaluation};
+pub use replies::{push_error_answer, push_ingested, push_query_answer, push_reply};
 pub use word::{Word, push_line};

@@ -1,18 +1,19 @@
 //! The replies to the lines of a script.
 
 ghost use Rattle.std.specs.Prelude.{◌≡◌, ◌++◌, codes, decimal, map, OnOk, take, vec_len};
-ghost use Rattle.pf_model.specs.Json.{error_text, matrix_text};
+ghost use Rattle.pf_model.specs.Json.{answer_text, error_text};
+ghost use Rattle.pf_model.specs.Machine.{code_of};
 ghost use Rattle.pf_model.specs.Report.{answered, ingested, reply_line};
+ghost use Rattle.pf_report.specs.AnsweredQueries.{answer_in};
 ghost use Rattle.pf_report.specs.Replies.{answer_line, ingest_line};
 ghost use Rattle.pf_report.specs.Words.{word_text};
 
+use crate::answer::{Answer, push_body};
 use crate::counts::Counts;
 use crate::error_json::push_error;
-use crate::json_text::push_matrix;
 use crate::refused_rows::push_refused_rows;
 use crate::word::{Word, push_line_of};
 use pf_base::OutOfMemory;
-use pf_matrix::Matrix;
 use pf_store::Verdicts;
 use std::alloc::Global;
 
@@ -100,27 +101,43 @@ fn push_answer(
     push_reply(out, number, "answer", id, &words)
 }
 
-/// Appends the reply to an `answer` with code 200, and its body. The numbers are those of the steps that were cached and
-/// evaluated.
-pub fn push_matrix_answer(
+/// Appends the first line of the reply to the `answer` of a query that was evaluated.
+fn push_code(
+    out: &mut Vec<u8>,
+    number: u32,
+    id: &str,
+    code: u16,
+    cached: u32,
+    evaluated: u32,
+) -> Result<(), OutOfMemory>
+    ensures ok { OnOk result (out.new.items ≡ out.old.items ++ answer_line number id.now (decimal code) cached evaluated) }
+    ensures kept { take (vec_len out.old) out.new.items ≡ out.old.items }
+{
+    let code = Word::Number(u64::from(code));
+    push_answer(out, number, id, code, cached, evaluated)
+}
+
+/// Appends the reply to the `answer` of a query that was evaluated, and its body. The numbers are those of the steps that
+/// were cached and evaluated.
+pub fn push_query_answer(
     alloc: Global,
     out: &mut Vec<u8>,
     number: u32,
     id: &str,
     cached: u32,
     evaluated: u32,
-    matrix: &Matrix,
+    answer: &Answer,
 ) -> Result<(), OutOfMemory>
-    ensures ok { OnOk result (out.new.items ≡ out.old.items ++ answered number id.now (decimal 200) cached evaluated (matrix_text matrix.now)) }
+    ensures ok { OnOk result (out.new.items ≡ out.old.items ++ answered number id.now (decimal (code_of (answer_in answer.now))) cached evaluated (answer_text (answer_in answer.now))) }
     ensures kept { take (vec_len out.old) out.new.items ≡ out.old.items }
 {
-    push_answer(out, number, id, Word::Number(200), cached, evaluated)?;
-    push_matrix(alloc, out, &matrix.rows)?;
+    push_code(out, number, id, answer.code(), cached, evaluated)?;
+    push_body(alloc, out, answer)?;
     out.push(b'\n')?;
     Ok(())
 }
 
-/// Appends the reply to an `answer` with another code, and the body of the error. No step was cached or evaluated.
+/// Appends the reply to the `answer` of an ask that was refused, and the body of the error. No step was cached or evaluated.
 pub fn push_error_answer(
     alloc: Global,
     out: &mut Vec<u8>,
