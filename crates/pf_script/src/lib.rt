@@ -1,7 +1,8 @@
 //! Scripts: the lines that a client runs.
 //!
 //! What the layers above use: `read_script` reads a whole script into its numbered lines, exactly where all its lines are of
-//! the forms that are built. An answer names an ask above it, and no other answer does.
+//! the forms that are built. An answer names an ask above it, and no other answer does. `number_of` reads a number as lines
+//! have them.
 #![tactic(auto)]
 
 mod fault;
@@ -14,3 +15,4 @@ mod words;
 pub use fault::ScriptError;
 pub use read::read_script;
 pub use script::{Line, NumberedLine, Script};
+pub use words::number_of;
