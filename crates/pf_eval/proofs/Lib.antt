@@ -1,6 +1,7 @@
 pub mod Calls
 pub mod Elements
 pub mod Euclid
+pub mod Evaluations
 pub mod Extremes
 pub mod Gathering
 pub mod GroupElements

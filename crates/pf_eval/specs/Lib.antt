@@ -1,5 +1,6 @@
 pub mod Built
 pub mod Elementwise
+pub mod Failures
 pub mod GroupValues
 pub mod Newest
 pub mod Results

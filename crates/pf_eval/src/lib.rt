@@ -6,7 +6,11 @@
 #![tactic(auto)]
 
 mod ahead;
+mod built;
+mod eval;
 pub mod plain;
 mod selector;
 
+pub use built::is_evaluated;
+pub use eval::{EvalError, eval_bound};
 pub use selector::selector_matrix;

@@ -1,5 +1,5 @@
 -- A query that no range changes is its own with its range put in.
-use Rattle.std.proofs.Common.{◌≡◌, ℕ, Bool, true, false, ◌&&◌, Option, Some, None, is_some, ap, refl, sym, ◌∙◌, true≢false}
+use Rattle.std.proofs.Common.{◌≡◌, ℕ, true, false, ◌&&◌, Option, Some, None, is_some, ap, refl, sym, ◌∙◌, true≢false}
 use Rattle.std.specs.Cmp.{first_so, second_so}
 use Rattle.pf_base.specs.GridLists.{GridData}
 use Rattle.pf_model.specs.declared.expr.At.{At}

@@ -1,5 +1,5 @@
 -- The queries that the evaluator does: this project's own.
-use Rattle.std.specs.Prelude.{pos, Bool, true, false, ◌&&◌, None, is_none}
+use Rattle.std.specs.Prelude.{pos, Bool, false, ◌&&◌, None, is_none}
 use Rattle.std.specs.Ordering.{int_eq}
 use Rattle.pf_model.specs.Trees.{Tree, select}
 
