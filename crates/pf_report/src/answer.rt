@@ -1,6 +1,6 @@
 //! The bodies of answered queries.
 
-ghost use Rattle.std.specs.Prelude.{◌≡◌, ◌++◌, codes, decimal, OnOk, IfOk, take, vec_len};
+ghost use Rattle.std.specs.Prelude.{◌≡◌, ◌++◌, OnOk, IfOk, take, vec_len};
 ghost use Rattle.pf_model.specs.Direct.{failed};
 ghost use Rattle.pf_model.specs.ErrorTexts.{kind_text};
 ghost use Rattle.pf_model.specs.Json.{answer_text};
