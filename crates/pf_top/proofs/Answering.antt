@@ -6,10 +6,10 @@ use Rattle.pf_base.specs.Grids.{points}
 use Rattle.pf_base.specs.declared.plain.By.{By}
 use Rattle.pf_base.specs.declared.plain.Limits.{Limits}
 use Rattle.pf_base.specs.declared.plain.Row.{Row}
-use Rattle.pf_model.specs.Direct.{Asked, MatrixRow, direct, gathered}
-use Rattle.pf_model.specs.Json.{answer_text, error_text, matrix_text}
+use Rattle.pf_model.specs.Direct.{Answer, Asked, direct}
+use Rattle.pf_model.specs.Json.{answer_text, error_text}
 use Rattle.pf_model.specs.Legal.{Moment}
-use Rattle.pf_model.specs.Log.{store_of}
+use Rattle.pf_model.specs.Log.{AreApart, store_of}
 use Rattle.pf_model.specs.Machine.{AnswersRight, IsCode, Machine, Open, What, full, no_tenant, answer, answer_of, closed, code_of, open_at}
 use Rattle.pf_model.specs.Report.{answered, body_of, body_by, unanswered}
 use Rattle.pf_model.specs.Scripts as script
@@ -35,50 +35,50 @@ many_times : (t step n : ℕ) → length (times_from t step n) ≡ n
 many_times t step zero = refl
 many_times t step (suc n) = ap suc (many_times (t + step) step n)
 
--- the matrix over the pinned snapshot is the query's answer
-pub answer_is : (l : Limits) (m : Machine) (q : Query) (rows : List MatrixRow) (k : IsQuery l.window m q)
-    → ((samples : List Row) → StandsFor q.pin.snap samples → direct samples (asked_in (arc_value q.asked)) ≡ gathered rows)
-    → answer_of l k.opened ≡ gathered rows
-answer_is l m q rows k h =
-    ap (direct (store_of l.window k.opened.log).samples) k.asked ∙ h (store_of l.window k.opened.log).samples k.pinned.samples
+-- what the pinned snapshot gives is the query's answer
+pub answer_is : (l : Limits) (m : Machine) (q : Query) (a : Answer) (k : IsQuery l.window m q)
+    → ((samples : List Row) → StandsFor q.pin.snap samples → AreApart samples → direct samples (asked_in (arc_value q.asked)) ≡ a)
+    → answer_of l k.opened ≡ a
+answer_is l m q a k h =
+    ap (direct (store_of l.window k.opened.log).samples) k.asked ∙ h (store_of l.window k.opened.log).samples k.pinned.samples k.pinned.apart
 
--- code 200, and each step evaluated
-pub answers_right : (l : Limits) (m : Machine) (q : Query) (rows : List MatrixRow) (k : IsQuery l.window m q)
-    → ((samples : List Row) → StandsFor q.pin.snap samples → direct samples (asked_in (arc_value q.asked)) ≡ gathered rows)
-    → (o : Open) → open_at q.place m.queries ≡ Some o → AnswersRight l o 200 0 (arc_value q.asked).grid.len
-answers_right l m q rows k h o g =
+-- its code, and each step evaluated
+pub answers_right : (l : Limits) (m : Machine) (q : Query) (a : Answer) (k : IsQuery l.window m q)
+    → ((samples : List Row) → StandsFor q.pin.snap samples → AreApart samples → direct samples (asked_in (arc_value q.asked)) ≡ a)
+    → (o : Open) → open_at q.place m.queries ≡ Some o → AnswersRight l o (code_of a) 0 (arc_value q.asked).grid.len
+answers_right l m q a k h o g =
     let same : k.opened ≡ o = some_is k.opened o (sym k.is_open ∙ g) in
-    let is = answer_is l m q rows k h in
-    subst (λ (x : Open). AnswersRight l x 200 0 (arc_value q.asked).grid.len) same (record {
+    let is = answer_is l m q a k h in
+    subst (λ (x : Open). AnswersRight l x (code_of a) 0 (arc_value q.asked).grid.len) same (record {
       coded = coded k.opened.cancelled k.uncancelled (ap code_of (sym is));
       stepped = let n = many_times (arc_value q.asked).grid.start (arc_value q.asked).grid.step (arc_value q.asked).grid.len in
           let steps : length (points k.opened.asked.grid) ≡ length (points (arc_value q.asked).grid) = ap (λ (a : Asked). length (points a.grid)) k.asked in
           omega (arith, n, steps);
     }) where
-      coded : (c : Option ℕ) → c ≡ None → 200 ≡ code_of (answer_of l k.opened) → IsCode l k.opened c 200
+      coded : (c : Option ℕ) → c ≡ None → code_of a ≡ code_of (answer_of l k.opened) → IsCode l k.opened c (code_of a)
       coded None e h = h
       coded (Some place) e h = cc
 
 -- an open query is answered
 pub step_answered : (known : Known) (old new : Client) (now : Session) (by : By) (n : ℕ) (id : List ℕ) (line : ℕ) (asking : Option Line) (moment : Option Moment)
-    (q : Query) (rows : List MatrixRow)
+    (q : Query) (a : Answer)
     → new.session ≡ now → Stands old.session
-    → IsEntered old.session by (answer q.place 200 0 (arc_value q.asked).grid.len) now → by.client ≡ 0 → by.line ≡ n
-    → ((samples : List Row) → StandsFor q.pin.snap samples → direct samples (asked_in (arc_value q.asked)) ≡ gathered rows)
-    → new.out.items ≡ old.out.items ++ answered n id (decimal 200) 0 (arc_value q.asked).grid.len (matrix_text rows)
+    → IsEntered old.session by (answer q.place (code_of a) 0 (arc_value q.asked).grid.len) now → by.client ≡ 0 → by.line ≡ n
+    → ((samples : List Row) → StandsFor q.pin.snap samples → AreApart samples → direct samples (asked_in (arc_value q.asked)) ≡ a)
+    → new.out.items ≡ old.out.items ++ answered n id (decimal (code_of a)) 0 (arc_value q.asked).grid.len (answer_text a)
     → SlotRight known.readings old.session.limits.window (machine_of old.session) asking moment (Some (slot.Open q))
     → IsStep known old (record { number = n; line = script.answer id line }) asking moment new
-step_answered known old new now by n id line asking moment q rows same h_stands e client is_line h told right =
+step_answered known old new now by n id line asking moment q a same h_stands e client is_line h told right =
     let l = old.session.limits in
     let m = machine_of old.session in
     let k = right.1 in
-    let is = answer_is l m q rows k h in
-    let body : body_of l (open_at q.place m.queries) ≡ matrix_text rows =
+    let is = answer_is l m q a k h in
+    let body : body_of l (open_at q.place m.queries) ≡ answer_text a =
     ap (body_of l) k.is_open ∙ ap (body_by l k.opened) k.uncancelled ∙ ap answer_text is in
-    step_entered known old new by _ (answer q.place 200 0 (arc_value q.asked).grid.len) asking moment
-    (subst (λ (s : Session). IsEntered old.session by (answer q.place 200 0 (arc_value q.asked).grid.len) s) (sym same) e) client is_line right.0
+    step_entered known old new by _ (answer q.place (code_of a) 0 (arc_value q.asked).grid.len) asking moment
+    (subst (λ (s : Session). IsEntered old.session by (answer q.place (code_of a) 0 (arc_value q.asked).grid.len) s) (sym same) e) client is_line right.0
     (room_kept_for old.session h_stands) refl
-    (told ∙ ap (λ (b : List ℕ). old.out.items ++ answered n id (decimal 200) 0 (arc_value q.asked).grid.len b) (sym body))
+    (told ∙ ap (λ (b : List ℕ). old.out.items ++ answered n id (decimal (code_of a)) 0 (arc_value q.asked).grid.len b) (sym body))
 
 -- and leaves the others open
 pub leaves_answered : (old new : Session) (by : By) (q : Query) (code cached evaluated : ℕ)

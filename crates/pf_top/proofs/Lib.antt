@@ -1,5 +1,7 @@
 pub mod Admitted
 pub mod Answering
+pub mod Batches
+pub mod DirectAnswers
 pub mod Driving
 pub mod Entered
 pub mod FileReads
@@ -11,8 +13,10 @@ pub mod Names
 pub mod Onward
 pub mod OutputLaws
 pub mod OpenQueries
+pub mod Printed
 pub mod TextReads
 pub mod Reports
+pub mod SelectorLaws
 pub mod SlotLaws
 pub mod Steps
 pub mod Texts

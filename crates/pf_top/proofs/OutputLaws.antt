@@ -6,7 +6,7 @@ use Rattle.pf_base.specs.declared.plain.Limits.{Limits}
 use Rattle.pf_io.specs.Outside.{Rose, Holds, Grows, LongerThan}
 use Rattle.pf_model.specs.Lists.{Each}
 use Rattle.pf_model.specs.Cuts.{kept}
-use Rattle.pf_model.specs.Scripts.{Numbered, script_of, script_word, most_bytes}
+use Rattle.pf_model.specs.Scripts.{Evaluation, Numbered, evaluation_words, script_of, script_word, most_bytes}
 use Rattle.pf_model.specs.Weave.{Files}
 use Rattle.pf_script.specs.Lines.{AllFollow, IsRead, lines_of}
 use Rattle.pf_script.specs.declared.script.Script.{Script}
@@ -35,9 +35,9 @@ scripts_are files word name lines p read =
     let P : Option (List ℕ) → Type 0 = λ w. AreScripts files w (lines ∷ []) in
     subst P (sym p) (lines, (refl, read))
 
-unbuilt_is : (files : List ℕ → Option (List ℕ)) (words : List (List ℕ)) (word : Option (List ℕ)) (name : List ℕ)
-    → word ≡ Some name → IsUnbuilt files words (Some name) → IsUnbuilt files words word
-unbuilt_is files words word name p h = subst (IsUnbuilt files words) (sym p) h
+unbuilt_is : (files : List ℕ → Option (List ℕ)) (e : Option Evaluation) (word : Option (List ℕ)) (name : List ℕ)
+    → word ≡ Some name → IsUnbuilt files (Some name) e → IsUnbuilt files word e
+unbuilt_is files e word name p h = subst (λ (w : Option (List ℕ)). IsUnbuilt files w e) (sym p) h
 
 -- the report of the script is that of the words
 reported_by : (limits : Limits) (files : Files) (words : List (List ℕ)) (name : List ℕ) (lines : List Numbered) (full : Bool) (text : List ℕ)
@@ -63,17 +63,17 @@ words_by : (limits : Limits) (files : Files) (words : List (List ℕ)) (name : L
     → IsScriptOutput limits files mid after lines status text
     → IsWordsOutput limits files before after words status text
 words_by limits files words name lines before mid after status text word read h (inl (inl (zero, r))) =
-    inl (zero, reported_by limits files words name lines false text word read r)
+    inl (zero, inl (reported_by limits files words name lines false text word read r))
 words_by limits files words name lines before mid after status text word read h (inl (inr (inl (eight, r)))) =
     inr (inl (eight, reported_by limits files words name lines true text word read r))
 words_by limits files words name lines before mid after status text word read h (inl (inr (inr (nine, (has, whole))))) =
-    inr (inr (inr (nine, record { unbuilt = unbuilt_is files words (script_word words) name word (inr (lines, (read, has))); whole = whole })))
+    inr (inr (inr (inl (nine, record { unbuilt = unbuilt_is files (evaluation_words words) (script_word words) name word (inr (lines, (read, has))); whole = whole }))))
 words_by limits files words name lines before mid after status text word read h (inr (four, (file, (named, (rose, whole))))) =
     inr (inr (inl (
       four,
       record {
         name = file;
-        needed = inr (lines, (scripts_are files (script_word words) name lines word read, named));
+        needed = inr (inl (lines, (scripts_are files (script_word words) name lines word read, named)));
         rose = rose_since before mid after h rose;
         whole = whole;
       },
@@ -126,7 +126,7 @@ pub long_output : (limits : Limits) (files : Files) (words : List (List ℕ)) (n
     → script_word words ≡ Some name → LongerThan (files name) most_bytes → (status ≡ 9) × (text ≡ refused_not_built)
     → IsWordsOutput limits files before after words status text
 long_output limits files words name before after status text word long p =
-    inr (inr (inr (p.0, record { unbuilt = unbuilt_is files words (script_word words) name word (inl (script_too_long (files name) long)); whole = p.1 })))
+    inr (inr (inr (inl (p.0, record { unbuilt = unbuilt_is files (evaluation_words words) (script_word words) name word (inl (script_too_long (files name) long)); whole = p.1 }))))
 
 -- a script that was not read
 pub unread_output : (limits : Limits) (files : Files) (words : List (List ℕ)) (name : List ℕ) (before after status : ℕ) (text : List ℕ)
@@ -146,22 +146,24 @@ grows_none : (told : Option (List ℕ)) → Grows told told []
 grows_none None = tt
 grows_none (Some bytes) = ap Some (sym (append-nil bytes))
 
-ends_otherwise : (status : ℕ) → (status ≡ 0 → ⊥) → (status ≡ 8 → ⊥) → (status ≡ 9 → ⊥) → EndsWell status → ⊥
-ends_otherwise status a b c (inl e) = a e
-ends_otherwise status a b c (inr (inl e)) = b e
-ends_otherwise status a b c (inr (inr e)) = c e
+ends_otherwise : (status : ℕ) → (status ≡ 0 → ⊥) → (status ≡ 3 → ⊥) → (status ≡ 8 → ⊥) → (status ≡ 9 → ⊥) → EndsWell status → ⊥
+ends_otherwise status a b c d (inl e) = a e
+ends_otherwise status a b c d (inr (inl e)) = b e
+ends_otherwise status a b c d (inr (inr (inl e))) = c e
+ends_otherwise status a b c d (inr (inr (inr e))) = d e
 
 -- memory ran out before anything was written
 pub starved_run : (limits : Limits) (o : Outside) (words : List (List ℕ)) → o.new ≡ o.old → Correct limits o words 6
 starved_run limits o words same = record {
   ended = λ e. absurd (omega (arith, e));
+  refused = λ e. absurd (omega (arith, e));
   unread = λ e. absurd (omega (arith, e));
   unwritten = λ e. absurd (omega (arith, e));
   starved = λ _. subst (λ (t : Option (List ℕ)). Grows o.old t []) (sym same) (grows_none o.old);
   filled = λ e. absurd (omega (arith, e));
   unbuilt = λ e. absurd (omega (arith, e));
-  steady = λ e. absurd (ends_otherwise 6 (λ a. omega (arith, a)) (λ a. omega (arith, a)) (λ a. omega (arith, a)) e);
-  known = inr (inr (inr (inl refl)));
+  steady = λ e. absurd (ends_otherwise 6 (λ a. omega (arith, a)) (λ a. omega (arith, a)) (λ a. omega (arith, a)) (λ a. omega (arith, a)) e);
+  known = inr (inr (inr (inr (inl refl))));
 }
 
 -- all was written
@@ -171,6 +173,7 @@ pub written_run : (limits : Limits) (o : Outside) (words : List (List ℕ)) (sta
     → Correct limits o words status
 written_run limits o words status text (inl (is, done)) grows files_steady out_steady = record {
   ended = λ _. (text, (done, grows));
+  refused = λ e. absurd (omega (arith, is, e));
   unread = λ e. absurd (omega (arith, is, e));
   unwritten = λ e. absurd (omega (arith, is, e));
   starved = λ e. absurd (omega (arith, is, e));
@@ -181,43 +184,59 @@ written_run limits o words status text (inl (is, done)) grows files_steady out_s
 }
 written_run limits o words status text (inr (inl (is, done))) grows files_steady out_steady = record {
   ended = λ e. absurd (omega (arith, is, e));
+  refused = λ e. absurd (omega (arith, is, e));
   unread = λ e. absurd (omega (arith, is, e));
   unwritten = λ e. absurd (omega (arith, is, e));
   starved = λ e. absurd (omega (arith, is, e));
   filled = λ _. (text, (done, grows));
   unbuilt = λ e. absurd (omega (arith, is, e));
   steady = λ _. (files_steady (λ e. omega (arith, is, e)), out_steady);
-  known = inr (inr (inr (inr (inl is))));
+  known = inr (inr (inr (inr (inr (inl is)))));
 }
 written_run limits o words status text (inr (inr (inl (is, done)))) grows files_steady out_steady = record {
   ended = λ e. absurd (omega (arith, is, e));
+  refused = λ e. absurd (omega (arith, is, e));
   unread = λ _. (text, (done, grows));
   unwritten = λ e. absurd (omega (arith, is, e));
   starved = λ e. absurd (omega (arith, is, e));
   filled = λ e. absurd (omega (arith, is, e));
   unbuilt = λ e. absurd (omega (arith, is, e));
-  steady = λ e. absurd (ends_otherwise status (λ a. omega (arith, is, a)) (λ a. omega (arith, is, a)) (λ a. omega (arith, is, a)) e);
-  known = inr (inl is);
+  steady = λ e. absurd (ends_otherwise status (λ a. omega (arith, is, a)) (λ a. omega (arith, is, a)) (λ a. omega (arith, is, a)) (λ a. omega (arith, is, a)) e);
+  known = inr (inr (inl is));
 }
-written_run limits o words status text (inr (inr (inr (is, done)))) grows files_steady out_steady = record {
+written_run limits o words status text (inr (inr (inr (inl (is, done))))) grows files_steady out_steady = record {
   ended = λ e. absurd (omega (arith, is, e));
+  refused = λ e. absurd (omega (arith, is, e));
   unread = λ e. absurd (omega (arith, is, e));
   unwritten = λ e. absurd (omega (arith, is, e));
   starved = λ e. absurd (omega (arith, is, e));
   filled = λ e. absurd (omega (arith, is, e));
   unbuilt = λ _. (text, (done, grows));
   steady = λ _. (files_steady (λ e. omega (arith, is, e)), out_steady);
-  known = inr (inr (inr (inr (inr is))));
+  known = inr (inr (inr (inr (inr (inr is)))));
+}
+written_run limits o words status text (inr (inr (inr (inr (is, done))))) grows files_steady out_steady = record {
+  ended = λ e. absurd (omega (arith, is, e));
+  refused = λ _. (text, (done, grows));
+  unread = λ e. absurd (omega (arith, is, e));
+  unwritten = λ e. absurd (omega (arith, is, e));
+  starved = λ e. absurd (omega (arith, is, e));
+  filled = λ e. absurd (omega (arith, is, e));
+  unbuilt = λ e. absurd (omega (arith, is, e));
+  steady = λ _. (files_steady (λ e. omega (arith, is, e)), out_steady);
+  known = inr (inl is);
 }
 
 -- what was to be written is what a run may print
 may_print : (limits : Limits) (o : Outside) (words : List (List ℕ)) (status : ℕ) (text : List ℕ)
     → IsWordsOutput limits o.files o.files_before o.files_after words status text
     → IsOutput limits o words text
-may_print limits o words status text (inl p) = inl (false, p.1)
+may_print limits o words status text (inl (is, inl r)) = inl (false, r)
+may_print limits o words status text (inl (is, inr e)) = inr (inl e)
 may_print limits o words status text (inr (inl p)) = inl (true, p.1)
-may_print limits o words status text (inr (inr (inl p))) = inr (inl p.1)
-may_print limits o words status text (inr (inr (inr p))) = inr (inr p.1)
+may_print limits o words status text (inr (inr (inl p))) = inr (inr (inr (inl p.1)))
+may_print limits o words status text (inr (inr (inr (inl p)))) = inr (inr (inr (inr p.1)))
+may_print limits o words status text (inr (inr (inr (inr p)))) = inr (inr (inl p.1))
 
 -- a front was written
 pub unwritten_run : (limits : Limits) (o : Outside) (words : List (List ℕ)) (status : ℕ) (text given : List ℕ)
@@ -226,6 +245,7 @@ pub unwritten_run : (limits : Limits) (o : Outside) (words : List (List ℕ)) (s
     → Correct limits o words 5
 unwritten_run limits o words status text given output same rose n part = record {
   ended = λ e. absurd (omega (arith, e));
+  refused = λ e. absurd (omega (arith, e));
   unread = λ e. absurd (omega (arith, e));
   unwritten = λ _. (
     rose,
@@ -240,8 +260,8 @@ unwritten_run limits o words status text given output same rose n part = record 
   starved = λ e. absurd (omega (arith, e));
   filled = λ e. absurd (omega (arith, e));
   unbuilt = λ e. absurd (omega (arith, e));
-  steady = λ e. absurd (ends_otherwise 5 (λ a. omega (arith, a)) (λ a. omega (arith, a)) (λ a. omega (arith, a)) e);
-  known = inr (inr (inl refl));
+  steady = λ e. absurd (ends_otherwise 5 (λ a. omega (arith, a)) (λ a. omega (arith, a)) (λ a. omega (arith, a)) (λ a. omega (arith, a)) e);
+  known = inr (inr (inr (inl refl)));
 }
 
 -- bytes that were read are those that are told

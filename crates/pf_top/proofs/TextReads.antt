@@ -1,7 +1,8 @@
 -- Queries and selectors that were read.
 use Rattle.std.proofs.Common.{◌≡◌, ◌≢◌, ℕ, ℤ, zero, suc, ◌+◌, ◌<◌, pos, inl, inr, Bool, true, false, Option, Some, None, Result, Ok, Err, cond, get_or, map, take, List, [], ◌∷◌, ◌++◌, length, refl, sym, ap, ◌∙◌, arith, subst, is_some, true≢false}
 use Rattle.std.specs.BTreeMap.{get_by_text}
-use Rattle.std.specs.Prelude.{◌&&◌, ◌||◌, Box, Vec, option_and_then, option_map}
+use Rattle.std.specs.List.{list_all}
+use Rattle.std.specs.Prelude.{◌&&◌, ◌||◌, not, Box, Vec, option_and_then, option_map}
 use Rattle.std.specs.Option.{is_none, option_map_or, option_or}
 use Rattle.std.specs.Ordering.{int_eq}
 use Rattle.std.proofs.lemmas.Bool.Decides.{Decides-int_eq}
@@ -27,13 +28,15 @@ use Rattle.pf_model.specs.declared.functions.AggOp.{AggOp}
 use Rattle.pf_model.specs.Clauses.{Grouped, Matched}
 use Rattle.pf_model.proofs.TreeOf.{number_tree, text_tree, unary_tree, binary_tree, call_tree, aggregate_tree, select_tree, subquery_tree}
 use Rattle.pf_model.specs.declared.matchers.Matchers.{Matchers}
+use Rattle.pf_model.specs.Direct.{Asked}
 use Rattle.pf_model.specs.ErrorTexts.{QueryFault, of_grammar, of_kinds, refused_pattern, empty_selector, memory_text, query_text}
 use Rattle.pf_model.specs.Lists.{Each}
-use Rattle.pf_model.specs.Queries.{IsBuiltQuery, IsBuiltSelector, Readings, asked_of, asked_with, IsFaultOf, IsNoSelector, IsQuery, IsReading, IsSelector, IsUnbuiltQuery, IsUnbuiltSelector, Obstacle, Reading, empty, has_pattern, is_pattern, is_plain, is_unbuilt, is_unmodified, lawful, no_selector, obstacle_of, pattern, refused, selecting, selecting_by, selector_obstacle}
+use Rattle.pf_model.specs.Queries.{IsBuiltQuery, IsBuiltSelector, Readings, asked_of, asked_with, first_obstacle, is_counted, IsFaultOf, IsNoSelector, IsQuery, IsReading, IsSelector, IsUnbuiltQuery, IsUnbuiltSelector, Obstacle, Reading, empty, has_pattern, is_built_tree, is_pattern, is_plain, is_unbuilt, is_unmodified, lawful, no_selector, obstacle_at, obstacle_of, pattern, refused, selecting, selecting_by, selector, selector_obstacle, with_pattern}
 use Rattle.pf_model.specs.Scripts.{Line, Numbered, ingest, delete, ask, answer}
 use Rattle.pf_model.specs.Selection.{accepts_empty, all_compared, is_compared}
 use Rattle.pf_model.specs.Tokens.{only_if}
-use Rattle.pf_model.specs.Trees.{Tree, number, text, unary, binary, call, aggregate, select, subquery, instant, no_mods, tree_of}
+use Rattle.pf_model.specs.Binding.{matchers_in, selectors_of}
+use Rattle.pf_model.specs.Trees.{Tree, number, text, unary, binary, call, aggregate, select, subquery, instant, no_mods, preorder, tree_of}
 use Rattle.pf_model.specs.Typing.{Fault, asked_fault}
 use Rattle.pf_script.specs.Lines.{numbered_of}
 use Rattle.pf_script.specs.declared.script.NumberedLine.{NumberedLine}
@@ -41,9 +44,14 @@ use Rattle.pf_types.specs.Errors.{IsFaultFor, query_fault, words_of_error}
 use Rattle.pf_types.specs.declared.query.QueryError.{QueryError}
 use Rattle.pf_types.specs.declared.query.QueryError.TheVariants as query_error
 use Rattle.pf_top.specs.Correct.{HasUnbuilt, IsBuiltLine, IsUnbuiltLine}
-use Rattle.pf_top.specs.Queries.{AreReadAs, IsKeptFor, IsLineRead, IsReadAs, IsTextRead, Queries, StayRead, is_query_built, is_selector_built, reading_in, readings_in}
+use Rattle.pf_top.specs.BoundQueries.{gives_matchers}
+use Rattle.pf_top.specs.declared.bound.BoundQuery.{BoundQuery}
+use Rattle.pf_top.specs.Queries.{AreReadAs, IsKeptFor, IsLineRead, IsQueryRead, IsReadAs, IsSelectorRead, IsTextRead, Queries, StayRead, built_query, built_selector, is_query_built, is_selector_built, query_reading, reading_in, readings_in, selects_as}
 use Rattle.pf_top.specs.declared.queries.QueryRead.{QueryRead}
-use Rattle.pf_top.specs.declared.queries.QueryRead.TheVariants.{Selector, Refused, Other, Pattern}
+use Rattle.pf_top.specs.declared.queries.QueryRead.TheVariants as query
+use Rattle.pf_top.specs.declared.queries.SelectorRead.{SelectorRead}
+use Rattle.pf_top.specs.declared.queries.SelectorRead.TheVariants as chosen
+use Rattle.pf_top.specs.declared.queries.TextRead.{TextRead}
 use Rattle.pf_top.proofs.Lists.{each_push, map_push, some_is}
 use Rattle.pf_top.proofs.Machines.{bool_cases}
 
@@ -147,21 +155,56 @@ select_plain e s range mods is h = (ap tree_of is ∙ select_tree s range mods) 
 
 -- ---- what a text is read as
 
-unbuilt_pattern : (t : Tree) (o : Option Obstacle) → o ≡ Some pattern → is_unbuilt o t ≡ true
-unbuilt_pattern t o e = ap (λ (x : Option Obstacle). is_unbuilt x t) e
+-- a query with a pattern is not built
+pub pattern_unbuilt : (words : List ℕ) (t : Tree) → obstacle_of t ≡ Some pattern → IsQuery words t → IsUnbuiltQuery words
+pattern_unbuilt words t some q = (t, (q, ap (λ (x : Option Obstacle). is_unbuilt x t) some))
 
--- a query with a pattern that is no selector
-pub pattern_inside : (words : List ℕ) (t : Tree) → is_plain t ≡ false → obstacle_of t ≡ Some pattern → IsQuery words t → IsReadAs words Other
-pattern_inside words t plain some q =
-    ((t, (q, unbuilt_pattern t (obstacle_of t) some)), inr (t, (q.parses, other_tree t plain)))
+-- a query that the evaluator does not do
+pub other_unbuilt : (words : List ℕ) (t : Tree) → is_built_tree t ≡ false → obstacle_of t ≡ None → IsQuery words t → IsUnbuiltQuery words
+other_unbuilt words t other none q = (t, (q, ap (λ (x : Option Obstacle). is_unbuilt x t) none ∙ ap not other))
+
+-- a query that the evaluator does
+pub built_right : (words : List ℕ) (t : Tree) (q : Arc BoundQuery Global) → arc_value q ≡ t → is_built_tree t ≡ true → obstacle_of t ≡ None → IsQuery words t
+    → IsQueryRead words (query.Built q)
+built_right words t q is built none h =
+    subst (λ (u : Tree). IsReading words (lawful u) × (is_built_tree u ≡ true)) (sym is) ((h, none), built)
+
+-- what trees say as selectors
+pub other_selects : (t : Tree) → is_plain t ≡ false → no_selector ≡ selecting t
+other_selects t h = sym (other_tree t h)
+
+pub pattern_selects : (t : Tree) (ms : List Matcher) → t ≡ instant ms → obstacle_of t ≡ Some pattern → with_pattern ≡ selecting t
+pattern_selects t ms is some =
+    let own : obstacle_of (instant ms) ≡ Some pattern = subst (λ (x : Tree). obstacle_of x ≡ Some pattern) is some in
+    sym (ap selecting is ∙ own_selecting ms ∙ ap (selecting_by ms) own)
+
+pub plain_selects : (t : Tree) (s ms : List Matcher) → t ≡ instant s → ms ≡ s → obstacle_of t ≡ None → selector ms ≡ selecting t
+plain_selects t s ms is same none =
+    let own : obstacle_of (instant s) ≡ None = subst (λ (x : Tree). obstacle_of x ≡ None) is none in
+    ap selector same ∙ sym (ap selecting is ∙ own_selecting s ∙ ap (selecting_by s) own)
+
+selector_read : (words : List ℕ) (t : Tree) (s : SelectorRead) → selects_as s ≡ selecting t → IsQuery words t → IsSelectorRead words s
+selector_read words t (chosen.Built ms) h q = (t, (q.parses, sym h))
+selector_read words t chosen.Refused h q = inr (t, (q.parses, sym h))
+selector_read words t chosen.NotBuilt h q = (t, (q.parses, sym h))
+
+-- both together
+pub lawful_read : (words : List ℕ) (t : Tree) (q : QueryRead) (s : SelectorRead) → ((w : List ℕ) → IsQuery w t → IsQueryRead w q) → selects_as s ≡ selecting t
+    → IsQuery words t → IsReadAs words (record { query = q; selector = s })
+lawful_read words t q s h g is = (h words is, selector_read words t s g is)
+
+pub pattern_read : (words : List ℕ) (t : Tree) (s : SelectorRead) → Some pattern ≡ obstacle_of t → selects_as s ≡ selecting t
+    → IsQuery words t → IsReadAs words (record { query = query.NotBuilt; selector = s })
+pattern_read words t s some g is = (pattern_unbuilt words t (sym some) is, selector_read words t s g is)
 
 -- an empty selector
 pub empty_right : (words : List ℕ) (t : Tree) (n : ℕ) → obstacle_of t ≡ Some (empty n) → IsQuery words t
     → IsFaultOf words (empty_selector n) × IsNoSelector words
 empty_right words t n some q = ((t, (q, some)), inr (t, (q.parses, empty_tree t n some)))
 
-pub empty_read : (words : List ℕ) (t : Tree) (n : ℕ) → Some (empty n) ≡ obstacle_of t → IsQuery words t → IsReadAs words (Refused (query_error.Empty n))
-empty_read words t n some q = (empty_selector n, (refl, empty_right words t n (sym some) q))
+pub empty_read : (words : List ℕ) (t : Tree) (n : ℕ) → Some (empty n) ≡ obstacle_of t → IsQuery words t
+    → IsReadAs words (record { query = query.Refused (query_error.Empty n); selector = chosen.Refused })
+empty_read words t n some q = let r = empty_right words t n (sym some) q in ((empty_selector n, (refl, r.0)), r.1)
 
 -- what is no query is no selector
 pub fault_selects_none : (words : List ℕ) (fault : QueryFault) → IsFaultOf words fault → IsNoSelector words
@@ -170,23 +213,22 @@ fault_selects_none words (of_kinds f) h = inr (h.0, (h.1.0, ill_typed h.0 f h.1.
 fault_selects_none words (refused_pattern n) h = absurd h
 fault_selects_none words (empty_selector n) h = inr (h.0, (h.1.0.parses, empty_tree h.0 n h.1.1))
 
-pub refused_right : (words : List ℕ) (e : QueryError) → is_some (query_fault e) ≡ true → IsFaultFor words (query_fault e) → IsReadAs words (Refused e)
+pub refused_right : (words : List ℕ) (e : QueryError) → is_some (query_fault e) ≡ true → IsFaultFor words (query_fault e)
+    → IsReadAs words (record { query = query.Refused e; selector = chosen.Refused })
 refused_right words e some h = by_fault (query_fault e) refl some h where
-  by_fault : (o : Option QueryFault) → query_fault e ≡ o → is_some o ≡ true → IsFaultFor words o → IsReadAs words (Refused e)
+  by_fault : (o : Option QueryFault) → query_fault e ≡ o → is_some o ≡ true → IsFaultFor words o
+      → IsReadAs words (record { query = query.Refused e; selector = chosen.Refused })
   by_fault None is s f = absurd (true≢false (sym s))
-  by_fault (Some fault) is s f = (fault, (is, (f, fault_selects_none words fault f)))
+  by_fault (Some fault) is s f = ((fault, (is, f)), fault_selects_none words fault f)
 
 -- a selector without patterns in its way has plain matchers
-pub all_meant : (ms : List Matcher) → obstacle_of (instant ms) ≡ None → (all_compared ms ≡ true) × (accepts_empty ms ≡ false)
-all_meant ms h = (plain ms (no_pattern (has_pattern ms) (accepts_empty ms) own), no_empty (has_pattern ms) (accepts_empty ms) own) where
-  own : selector_obstacle 0 ms ≡ None
-  own = sym (own_obstacle ms) ∙ h
-
-  no_pattern : (p e : Bool) → cond p (Some pattern) (only_if e (empty 0)) ≡ None → p ≡ false
+all_meant : (n : ℕ) (ms : List Matcher) → selector_obstacle n ms ≡ None → (all_compared ms ≡ true) × (accepts_empty ms ≡ false)
+all_meant n ms h = (plain ms (no_pattern (has_pattern ms) (accepts_empty ms) h), no_empty (has_pattern ms) (accepts_empty ms) h) where
+  no_pattern : (p e : Bool) → cond p (Some pattern) (only_if e (empty n)) ≡ None → p ≡ false
   no_pattern true e g = cc
   no_pattern false e g = refl
 
-  no_empty : (p e : Bool) → cond p (Some pattern) (only_if e (empty 0)) ≡ None → e ≡ false
+  no_empty : (p e : Bool) → cond p (Some pattern) (only_if e (empty n)) ≡ None → e ≡ false
   no_empty true e g = cc
   no_empty false true g = cc
   no_empty false false g = refl
@@ -203,11 +245,39 @@ all_meant ms h = (plain ms (no_pattern (has_pattern ms) (accepts_empty ms) own),
 
 pub no_bad_pattern : (t : Tree) (ms : List Matcher) → t ≡ instant ms → obstacle_of t ≡ None → all_compared ms ≡ false → ⊥
 no_bad_pattern t ms is none bad =
-    let m = all_meant ms (subst (λ (x : Tree). obstacle_of x ≡ None) is none) in true≢false (sym m.0 ∙ bad)
+    let m = all_meant 0 ms (sym (own_obstacle ms) ∙ subst (λ (x : Tree). obstacle_of x ≡ None) is none) in true≢false (sym m.0 ∙ bad)
 
 pub no_empty_selector : (t : Tree) (ms : List Matcher) → t ≡ instant ms → obstacle_of t ≡ None → accepts_empty ms ≡ true → ⊥
 no_empty_selector t ms is none bad =
-    let m = all_meant ms (subst (λ (x : Tree). obstacle_of x ≡ None) is none) in true≢false (sym bad ∙ m.1)
+    let m = all_meant 0 ms (sym (own_obstacle ms) ∙ subst (λ (x : Tree). obstacle_of x ≡ None) is none) in true≢false (sym bad ∙ m.1)
+
+-- where nothing stands in a query's way its selectors give matchers
+both_none : {X : Type 0} (o p : Option X) → option_or o p ≡ None → (o ≡ None) × (p ≡ None)
+both_none None p h = (refl, h)
+both_none (Some x) p h = cc
+
+given_by : (p e r : Bool) → p ≡ true → e ≡ false → r ≡ true → ((p && not e) && r) ≡ true
+given_by true false r x y h = h
+given_by true true r x y h = absurd (true≢false y)
+given_by false e r x y h = absurd (true≢false (sym x))
+
+given_from : (n : ℕ) (ts : List Tree) → first_obstacle n ts ≡ None → list_all gives_matchers (matchers_in ts) ≡ true
+given_from n [] h = refl
+given_from n (number v ∷ ts) h = given_from n ts h
+given_from n (text b ∷ ts) h = given_from n ts h
+given_from n (unary m e ∷ ts) h = given_from n ts h
+given_from n (binary op m a b ∷ ts) h = given_from n ts h
+given_from n (call f args ∷ ts) h =
+    given_from _ ts (both_none (obstacle_at n (call f args)) (first_obstacle (cond (is_counted (call f args)) (n + 1) n) ts) h).1
+given_from n (aggregate op g args ∷ ts) h = given_from n ts h
+given_from n (select ms range mods ∷ ts) h =
+    let both = both_none (selector_obstacle n ms) (first_obstacle (n + 1) ts) h in
+    let meant = all_meant n ms both.0 in
+    given_by (all_plain ms) (accepts_empty ms) (list_all gives_matchers (matchers_in ts)) meant.0 meant.1 (given_from (n + 1) ts both.1)
+given_from n (subquery e range resolution mods ∷ ts) h = given_from n ts h
+
+pub all_given : (t : Tree) → obstacle_of t ≡ None → list_all gives_matchers (selectors_of t) ≡ false → ⊥
+all_given t none bad = true≢false (sym (given_from 0 (preorder t) none) ∙ bad)
 
 -- ---- readings
 
@@ -219,69 +289,78 @@ reading_right kept right words r h = by_read (get_by_text kept words) refl h whe
       let same : refused f ≡ r = some_is (refused f) r (ap (option_map refused) (sym is) ∙ g) in
       subst (IsReading words) same fault
 
-  of_read : (q : QueryRead) → IsReadAs words q → reading_in q ≡ Some r → IsReading words r
-  of_read (Selector ms) h g = subst (IsReading words) (some_is (lawful (instant (arc_value ms))) r g) h.0
-  of_read (Refused e) h g = of_fault e h.0 h.1.0 g h.1.1.0
-  of_read Other h g = cc
-  of_read Pattern h g = cc
+  of_read : (q : QueryRead) → IsQueryRead words q → query_reading q ≡ Some r → IsReading words r
+  of_read (query.Built t) h g = subst (IsReading words) (some_is (lawful (arc_value t)) r g) h.0
+  of_read (query.Refused e) h g = of_fault e h.0 h.1.0 g h.1.1
+  of_read query.NotBuilt h g = cc
 
-  by_read : (o : Option QueryRead) → get_by_text kept words ≡ o → option_and_then reading_in o ≡ Some r → IsReading words r
+  by_read : (o : Option TextRead) → get_by_text kept words ≡ o → option_and_then reading_in o ≡ Some r → IsReading words r
   by_read None is g = cc
-  by_read (Some q) is g = of_read q (right words q is) g
+  by_read (Some q) is g = of_read q.query (right words q is).0 g
 
 -- ---- lines
 
-query_built : (words : List ℕ) (q : QueryRead) → IsReadAs words q → is_query_built q ≡ true → IsBuiltQuery words
-query_built words (Selector ms) h b = (lawful (instant (arc_value ms)), (h.0, refl))
-query_built words (Refused e) h b = (refused h.0, (h.1.1.0, refl))
-query_built words Other h b = absurd (true≢false (sym b))
-query_built words Pattern h b = absurd (true≢false (sym b))
+query_built : (words : List ℕ) (q : QueryRead) → IsQueryRead words q → built_query q ≡ true → IsBuiltQuery words
+query_built words (query.Built t) h b = (lawful (arc_value t), (h.0, h.1))
+query_built words (query.Refused e) h b = (refused h.0, (h.1.1, refl))
+query_built words query.NotBuilt h b = absurd (true≢false (sym b))
 
-selector_built : (words : List ℕ) (q : QueryRead) → IsReadAs words q → is_selector_built q ≡ true → IsBuiltSelector words
-selector_built words (Selector ms) h b = inl (arc_value ms, h.1)
-selector_built words (Refused e) h b = inr h.1.1.1
-selector_built words Other h b = inr h.1
-selector_built words Pattern h b = absurd (true≢false (sym b))
+selector_built : (words : List ℕ) (s : SelectorRead) → IsSelectorRead words s → built_selector s ≡ true → IsBuiltSelector words
+selector_built words (chosen.Built ms) h b = inl (arc_value ms, h)
+selector_built words chosen.Refused h b = inr h
+selector_built words chosen.NotBuilt h b = absurd (true≢false (sym b))
 
-pub query_unbuilt : (words : List ℕ) (q : QueryRead) → IsReadAs words q → is_query_built q ≡ false → IsUnbuiltQuery words
-query_unbuilt words (Selector ms) h b = absurd (true≢false b)
-query_unbuilt words (Refused e) h b = absurd (true≢false b)
-query_unbuilt words Other h b = h.0
-query_unbuilt words Pattern h b = h.0
+query_unbuilt_by : (words : List ℕ) (q : QueryRead) → IsQueryRead words q → built_query q ≡ false → IsUnbuiltQuery words
+query_unbuilt_by words (query.Built t) h b = absurd (true≢false b)
+query_unbuilt_by words (query.Refused e) h b = absurd (true≢false b)
+query_unbuilt_by words query.NotBuilt h b = h
 
-pub selector_unbuilt : (words : List ℕ) (q : QueryRead) → IsReadAs words q → is_selector_built q ≡ false → IsUnbuiltSelector words
-selector_unbuilt words (Selector ms) h b = absurd (true≢false b)
-selector_unbuilt words (Refused e) h b = absurd (true≢false b)
-selector_unbuilt words Other h b = absurd (true≢false b)
-selector_unbuilt words Pattern h b = h.1
+selector_unbuilt_by : (words : List ℕ) (s : SelectorRead) → IsSelectorRead words s → built_selector s ≡ false → IsUnbuiltSelector words
+selector_unbuilt_by words (chosen.Built ms) h b = absurd (true≢false b)
+selector_unbuilt_by words chosen.Refused h b = absurd (true≢false b)
+selector_unbuilt_by words chosen.NotBuilt h b = h
+
+pub query_unbuilt : (words : List ℕ) (r : TextRead) → IsReadAs words r → is_query_built r ≡ false → IsUnbuiltQuery words
+query_unbuilt words r h b = query_unbuilt_by words r.query h.0 b
+
+pub selector_unbuilt : (words : List ℕ) (r : TextRead) → IsReadAs words r → is_selector_built r ≡ false → IsUnbuiltSelector words
+selector_unbuilt words r h b = selector_unbuilt_by words r.selector h.1 b
 
 -- what a deletion finds
-pub selects_found : (kept : Queries) (words : List ℕ) (m : Arc Matchers Global) (ms : List Matcher) → AreReadAs kept → get_by_text kept words ≡ Some (Selector m)
-    → ms ≡ arc_value m → IsSelector words ms
-selects_found kept words m ms right there is = subst (IsSelector words) (sym is) (right words (Selector m) there).1
+pub selects_found : (kept : Queries) (words : List ℕ) (r : TextRead) (m : Arc Matchers Global) (ms : List Matcher) → AreReadAs kept → get_by_text kept words ≡ Some r
+    → r.selector ≡ chosen.Built m → ms ≡ arc_value m → IsSelector words ms
+selects_found kept words r m ms right there is same =
+    subst (IsSelector words) (sym same) (subst (IsSelectorRead words) is (right words r there).1)
 
-pub selects_refused : (kept : Queries) (words : List ℕ) (e : QueryError) → AreReadAs kept → get_by_text kept words ≡ Some (Refused e) → IsNoSelector words
-selects_refused kept words e right there = (right words (Refused e) there).1.1.1
+pub selects_refused : (kept : Queries) (words : List ℕ) (r : TextRead) → AreReadAs kept → get_by_text kept words ≡ Some r → r.selector ≡ chosen.Refused → IsNoSelector words
+selects_refused kept words r right there is = subst (IsSelectorRead words) is (right words r there).1
 
-pub selects_other : (kept : Queries) (words : List ℕ) → AreReadAs kept → get_by_text kept words ≡ Some Other → IsNoSelector words
-selects_other kept words right there = (right words Other there).1
+-- an ask finds a query
+pub asked_found : (kept : Queries) (words : List ℕ) (r : TextRead) (q : Arc BoundQuery Global) (wanted : Asked) (read : Readings) (start end step : ℕ) (grid : GridData)
+    → get_by_text kept words ≡ Some r → r.query ≡ query.Built q → wanted.tree ≡ arc_value q → wanted.grid ≡ grid → read ≡ readings_in kept → grid_of start end step ≡ Ok grid
+    → asked_of read start end step words ≡ Some (Ok wanted)
+asked_found kept words r q wanted read start end step grid there is same over reads gridded =
+    let reading : read words ≡ Some (lawful wanted.tree) =
+    ap (λ (f : Readings). f words) reads ∙ ap (option_and_then reading_in) there ∙ ap query_reading is ∙ ap (λ (x : Tree). Some (lawful x)) (sym same) in
+    ap (λ (g : Result GridData GridError). asked_with g (read words)) gridded ∙ ap (asked_with (Ok grid)) reading
+    ∙ ap (λ (g : GridData). Some (Ok (record { tree = wanted.tree; grid = g }))) (sym over)
 
--- an ask finds a refused query
-pub asked_refused : (kept : Queries) (words : List ℕ) (e : QueryError) (read : Readings) (start end step : ℕ) (grid : GridData)
-    → AreReadAs kept → get_by_text kept words ≡ Some (Refused e) → read ≡ readings_in kept → grid_of start end step ≡ Ok grid
+-- or a refused one
+pub asked_refused : (kept : Queries) (words : List ℕ) (r : TextRead) (e : QueryError) (read : Readings) (start end step : ℕ) (grid : GridData)
+    → AreReadAs kept → get_by_text kept words ≡ Some r → r.query ≡ query.Refused e → read ≡ readings_in kept → grid_of start end step ≡ Ok grid
     → asked_of read start end step words ≡ Some (Err (words_of_error e))
-asked_refused kept words e read start end step grid right there is gridded =
-    let h = right words (Refused e) there in
+asked_refused kept words r e read start end step grid right there is reads gridded =
+    let h : IsQueryRead words (query.Refused e) = subst (IsQueryRead words) is (right words r there).0 in
     let reading : read words ≡ Some (refused h.0) =
-    ap (λ (f : Readings). f words) is ∙ ap (option_and_then reading_in) there ∙ ap (option_map refused) h.1.0 in
+    ap (λ (f : Readings). f words) reads ∙ ap (option_and_then reading_in) there ∙ ap query_reading is ∙ ap (option_map refused) h.1.0 in
     ap (λ (g : Result GridData GridError). asked_with g (read words)) gridded
     ∙ ap (asked_with (Ok grid)) reading
     ∙ ap (λ (t : List ℕ). Some (Err t)) (sym (ap (λ (o : Option QueryFault). option_map_or query_text o memory_text) h.1.0))
 
 line_built : (kept : Queries) → AreReadAs kept → (l : Line) → IsKeptFor kept l → IsBuiltLine l
 line_built kept right (ingest tenant file time) k = tt
-line_built kept right (delete tenant from to chosen) k = selector_built chosen k.read (right chosen k.read k.there) k.built
-line_built kept right (ask id tenant start end step query) k = query_built query k.read (right query k.read k.there) k.built
+line_built kept right (delete tenant from to words) k = selector_built words k.read.selector (right words k.read k.there).1 k.built
+line_built kept right (ask id tenant start end step words) k = query_built words k.read.query (right words k.read k.there).0 k.built
 line_built kept right (answer id asked) k = tt
 
 pub lines_built : (kept : Queries) → AreReadAs kept → (ls : List Numbered) → Each (λ l. IsKeptFor kept l.line) ls → Each (λ l. IsBuiltLine l.line) ls
@@ -291,7 +370,7 @@ lines_built kept right (l ∷ ls) h = (line_built kept right l.line h.0, lines_b
 -- ---- texts that are read one by one
 
 -- a further text
-pub read_new : (old new : Queries) (words : List ℕ) (q : QueryRead) → AreReadAs old → IsReadAs words q → get_by_text old words ≡ None → get_by_text new words ≡ Some q
+pub read_new : (old new : Queries) (words : List ℕ) (q : TextRead) → AreReadAs old → IsReadAs words q → get_by_text old words ≡ None → get_by_text new words ≡ Some q
     → ((other : List ℕ) → other ≢ words → get_by_text new other ≡ get_by_text old other) → IsTextRead old words new
 read_new old new words q right is absent there others = record {
   right = λ other p g. elim (bool_cases (bytes_eq other words)) [
@@ -315,13 +394,13 @@ read_new old new words q right is absent there others = record {
   apart : (other : List ℕ) → bytes_eq other words ≡ false → other ≢ words
   apart other t same = let u = (bytes_eq-Decides other words).1 same in true≢false (sym u ∙ t)
 
-pub read_before : (kept : Queries) (words : List ℕ) (q : QueryRead) → AreReadAs kept → get_by_text kept words ≡ Some q → IsTextRead kept words kept
+pub read_before : (kept : Queries) (words : List ℕ) (q : TextRead) → AreReadAs kept → get_by_text kept words ≡ Some q → IsTextRead kept words kept
 read_before kept words q right there = record { right = right; read = q; there = there; still = λ other p g. g }
 
 kept_still : (old new : Queries) → StayRead old new → (l : Line) → IsKeptFor old l → IsKeptFor new l
 kept_still old new still (ingest tenant file time) k = tt
-kept_still old new still (delete tenant from to chosen) k = record { read = k.read; there = still chosen k.read k.there; built = k.built }
-kept_still old new still (ask id tenant start end step query) k = record { read = k.read; there = still query k.read k.there; built = k.built }
+kept_still old new still (delete tenant from to words) k = record { read = k.read; there = still words k.read k.there; built = k.built }
+kept_still old new still (ask id tenant start end step words) k = record { read = k.read; there = still words k.read k.there; built = k.built }
 kept_still old new still (answer id asked) k = tt
 
 lines_still : (old new : Queries) → StayRead old new → (ls : List Numbered) → Each (λ l. IsKeptFor old l.line) ls → Each (λ l. IsKeptFor new l.line) ls

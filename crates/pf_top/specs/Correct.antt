@@ -1,15 +1,18 @@
--- What the program promises of a replay: this project's own.
+-- What the program promises of a replay and of an evaluation: this project's own.
 use Rattle.std.specs.Prelude.{◌≡◌, ℕ, ◌⊎◌, Bool, true, false, Option, Some, None, List, [], ◌∷◌, take}
+use Rattle.pf_base.specs.Batches.{BatchData}
+use Rattle.pf_base.specs.Grids.{grid_of}
 use Rattle.pf_base.specs.declared.plain.Limits.{Limits}
 use Rattle.pf_io.specs.Outside.{Rose, Grows}
 use Rattle.pf_model.specs.Legal.{Legal, AreNames}
 use Rattle.pf_model.specs.Lists.{Each}
+use Rattle.pf_model.specs.Log.{batch_samples}
 use Rattle.pf_model.specs.Machine.{Entry}
-use Rattle.pf_model.specs.Queries.{IsBuiltQuery, IsBuiltSelector, IsUnbuiltQuery, IsUnbuiltSelector}
-use Rattle.pf_model.specs.Report.{report}
-use Rattle.pf_model.specs.Scripts.{Line, Numbered, ingest, delete, ask, answer, script_of, script_word}
-use Rattle.pf_model.specs.Weave.{IsUncached, Rest, Stop, Weave}
-use Rattle.pf_top.specs.Refusals.{refused_read, refused_not_built}
+use Rattle.pf_model.specs.Queries.{IsBuiltQuery, IsBuiltSelector, IsReading, IsUnbuiltQuery, IsUnbuiltSelector, Reading, asked_with, is_built}
+use Rattle.pf_model.specs.Report.{evaluated_text, report}
+use Rattle.pf_model.specs.Scripts.{Evaluation, Line, Numbered, ingest, delete, ask, answer, evaluation_words, script_of, script_word}
+use Rattle.pf_model.specs.Weave.{Gives, IsRefusedAs, IsUncached, Refusal, Rest, Stop, Weave}
+use Rattle.pf_top.specs.Refusals.{refused_file, refused_not_built, refused_read}
 
 -- where bytes are told, reading gives this of them
 abbrev pub ReadsAs : {X : Type 0} → (List ℕ → Option X) → Option (List ℕ) → X → Type 0
@@ -74,11 +77,35 @@ pub record Reported (limits : Limits) (files : List ℕ → Option (List ℕ)) (
   pub met : HaveMetFull full rest.stops
   pub whole : text ≡ report limits names journal scripts rest
 
--- a name that is a script, or that a script names
+-- text is what the evaluation of a query prints over the samples of one file
+pub record Evaluated (files : List ℕ → Option (List ℕ)) (words : List (List ℕ)) (text : List ℕ) : Type 0 where
+  pub named : Evaluation
+  pub by_words : evaluation_words words ≡ Some named
+  pub batch : BatchData
+  pub gives : Gives (files named.file) 0 batch
+  pub reading : Reading
+  pub read : IsReading named.query reading
+  pub built : is_built reading ≡ true
+  pub whole : text ≡ evaluated_text (batch_samples batch.rows) (asked_with (grid_of named.start named.end named.step) (Some reading))
+
+-- text says at which line an evaluation's file is refused
+pub record FileRefused (files : List ℕ → Option (List ℕ)) (words : List (List ℕ)) (text : List ℕ) : Type 0 where
+  pub named : Evaluation
+  pub by_words : evaluation_words words ≡ Some named
+  pub refusal : Refusal
+  pub refused : IsRefusedAs (files named.file) 0 refusal
+  pub whole : text ≡ refused_file refusal
+
+-- what a run to its end prints
+abbrev pub Ended : Limits → (List ℕ → Option (List ℕ)) → List (List ℕ) → List ℕ → Type 0
+Ended limits files words text = Reported limits files words false text ⊎ Evaluated files words text
+
+-- a name that is a script, or that a script or an evaluation names
 abbrev pub IsNeeded : (List ℕ → Option (List ℕ)) → List (List ℕ) → List ℕ → Type 0
 IsNeeded files words name =
     (script_word words ≡ Some name)
-    ⊎ ((lines : List Numbered) × (AreScripts files (script_word words) (lines ∷ []) × NamesFile lines name))
+    ⊎ (((lines : List Numbered) × (AreScripts files (script_word words) (lines ∷ []) × NamesFile lines name))
+    ⊎ ((named : Evaluation) × ((evaluation_words words ≡ Some named) × (named.file ≡ name))))
 
 -- text says which file was not read, where the files' count of faults rose
 pub record Unread (files : List ℕ → Option (List ℕ)) (before after : ℕ) (words : List (List ℕ)) (text : List ℕ) : Type 0 where
@@ -87,15 +114,16 @@ pub record Unread (files : List ℕ → Option (List ℕ)) (before after : ℕ) 
   pub rose : Rose before after
   pub whole : text ≡ refused_read name
 
--- the words, the script that they name or a query of this script are of no form that is built
-abbrev pub IsUnbuilt : (List ℕ → Option (List ℕ)) → List (List ℕ) → Option (List ℕ) → Type 0
-IsUnbuilt files words None = Unit {0}
-IsUnbuilt files words (Some name) =
+-- the words, the script that they name, or a query of it or of an evaluation are of no form that is built
+abbrev pub IsUnbuilt : (List ℕ → Option (List ℕ)) → Option (List ℕ) → Option Evaluation → Type 0
+IsUnbuilt files None None = Unit {0}
+IsUnbuilt files None (Some named) = IsUnbuiltQuery named.query
+IsUnbuilt files (Some name) _ =
     ReadsAsNone script_of (files name)
     ⊎ ((lines : List Numbered) × (ReadsAs script_of (files name) lines × HasUnbuilt lines))
 
 pub record Unbuilt (files : List ℕ → Option (List ℕ)) (words : List (List ℕ)) (text : List ℕ) : Type 0 where
-  pub unbuilt : IsUnbuilt files words (script_word words)
+  pub unbuilt : IsUnbuilt files (script_word words) (evaluation_words words)
   pub whole : text ≡ refused_not_built
 
 -- a text of this kind was written whole, or a front of one
@@ -122,20 +150,24 @@ pub record Outside : Type 0 where
 abbrev pub IsOutput : Limits → Outside → List (List ℕ) → List ℕ → Type 0
 IsOutput limits o words text =
     ((full : Bool) × Reported limits o.files words full text)
-    ⊎ (Unread o.files o.files_before o.files_after words text ⊎ Unbuilt o.files words text)
+    ⊎ (Evaluated o.files words text
+    ⊎ (FileRefused o.files words text
+    ⊎ (Unread o.files o.files_before o.files_after words text ⊎ Unbuilt o.files words text)))
 
 -- no count of faults rose
 abbrev pub IsSteady : Outside → Type 0
 IsSteady o = (o.files_after ≡ o.files_before) × (o.out_after ≡ o.out_before)
 
--- the statuses of a report and of a form that is not built
+-- the statuses of a report, of a refused file and of a form that is not built
 abbrev pub EndsWell : ℕ → Type 0
-EndsWell status = (status ≡ 0) ⊎ ((status ≡ 8) ⊎ (status ≡ 9))
+EndsWell status = (status ≡ 0) ⊎ ((status ≡ 3) ⊎ ((status ≡ 8) ⊎ (status ≡ 9)))
 
 -- the claim, status by status
 pub record Correct (limits : Limits) (o : Outside) (words : List (List ℕ)) (status : ℕ) : Type 0 where
-  -- 0: the report was written, and no client met the full journal
-  pub ended : status ≡ 0 → Writes (Reported limits o.files words false) o.old o.new
+  -- 0: the report was written, and no client met the full journal; or what an evaluation prints
+  pub ended : status ≡ 0 → Writes (Ended limits o.files words) o.old o.new
+  -- 3: an evaluation's file was refused
+  pub refused : status ≡ 3 → Writes (FileRefused o.files words) o.old o.new
   -- 4: a file that was needed was not read
   pub unread : status ≡ 4 → Writes (Unread o.files o.files_before o.files_after words) o.old o.new
   -- 5: the output's count of faults rose, behind a front of what was to be written
@@ -146,7 +178,7 @@ pub record Correct (limits : Limits) (o : Outside) (words : List (List ℕ)) (st
   pub filled : status ≡ 8 → Writes (Reported limits o.files words true) o.old o.new
   -- 9: a form that is not built
   pub unbuilt : status ≡ 9 → Writes (Unbuilt o.files words) o.old o.new
-  -- 0, 8 and 9 come after no fault
+  -- 0, 3, 8 and 9 come after no fault
   pub steady : EndsWell status → IsSteady o
   -- there is no other status
-  pub known : (status ≡ 0) ⊎ ((status ≡ 4) ⊎ ((status ≡ 5) ⊎ ((status ≡ 6) ⊎ ((status ≡ 8) ⊎ (status ≡ 9)))))
+  pub known : (status ≡ 0) ⊎ ((status ≡ 3) ⊎ ((status ≡ 4) ⊎ ((status ≡ 5) ⊎ ((status ≡ 6) ⊎ ((status ≡ 8) ⊎ (status ≡ 9))))))

@@ -1,8 +1,10 @@
 pub mod Asks
+pub mod BoundQueries
 pub mod Clients
 pub mod Correct
 pub mod Drives
 pub mod Entries
+pub mod Evaluations
 pub mod Files
 pub mod Going
 pub mod Outputs

@@ -4,7 +4,7 @@ use Rattle.pf_base.specs.declared.plain.Limits.{Limits}
 use Rattle.pf_io.specs.Outside.{Rose}
 use Rattle.pf_model.specs.Scripts.{Numbered}
 use Rattle.pf_model.specs.Weave.{Files}
-use Rattle.pf_top.specs.Correct.{HasUnbuilt, NamesFile, Reported, Unread, Unbuilt}
+use Rattle.pf_top.specs.Correct.{Ended, FileRefused, HasUnbuilt, NamesFile, Reported, Unread, Unbuilt}
 use Rattle.pf_top.specs.Drives.{IsReport}
 use Rattle.pf_top.specs.Refusals.{refused_not_built, refused_read}
 
@@ -16,10 +16,11 @@ default_limits =
 -- a text with its status, by the words
 abbrev pub IsWordsOutput : Limits → (List ℕ → Option (List ℕ)) → ℕ → ℕ → List (List ℕ) → ℕ → List ℕ → Type 0
 IsWordsOutput limits files before after words status text =
-    ((status ≡ 0) × Reported limits files words false text)
+    ((status ≡ 0) × Ended limits files words text)
     ⊎ (((status ≡ 8) × Reported limits files words true text)
     ⊎ (((status ≡ 4) × Unread files before after words text)
-    ⊎ ((status ≡ 9) × Unbuilt files words text)))
+    ⊎ (((status ≡ 9) × Unbuilt files words text)
+    ⊎ ((status ≡ 3) × FileRefused files words text))))
 
 -- a text with its status, once the script and the files are read
 abbrev pub IsRun : Limits → Files → List Numbered → ℕ → List ℕ → Type 0

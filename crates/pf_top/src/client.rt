@@ -29,15 +29,15 @@ ghost use Rattle.pf_model.specs.Legal.{Moment};
 ghost use Rattle.pf_top.specs.Sessions.{IsQuery, Stands, machine_of};
 
 use crate::entry::Asked;
+use crate::evaluate::evaluate;
 use crate::loaded::{Content, Contents, Loaded, content_of};
-use crate::queries::{Queries, QueryRead, query_of};
+use crate::queries::{Queries, QueryRead, SelectorRead, query_of};
 use crate::session::{AskError, ChangeError, Query, Session};
 use crate::slots::{Slot, Slots, code_of, keep, take};
 use pf_base::{Batch, By, Grid, GridError, MAXT, OutOfMemory, Tenant, Text};
-use pf_eval::selector_matrix;
 use pf_expo::{ExpoError, read_exposition};
 use pf_model::Matchers;
-use pf_report::{Word, push_error_answer, push_ingested, push_matrix_answer, push_reply};
+use pf_report::{Word, push_error_answer, push_ingested, push_query_answer, push_reply};
 use pf_script::{Line, NumberedLine};
 use pf_store::Deleted;
 use pf_types::{QueryError, error_text, grid_text};
@@ -98,7 +98,7 @@ fn read_batch(alloc: Global, bytes: &[u8], time: u64) -> Result<FileRead, OutOfM
 
 /// Reads what is kept of a file.
 #[tactic(auto, using(crate::proofs::FileReads::long_told))]
-fn read_content(alloc: Global, content: &Content, time: u64) -> Result<FileRead, OutOfMemory>
+pub fn read_content(alloc: Global, content: &Content, time: u64) -> Result<FileRead, OutOfMemory>
     requires within { time ≤ 4398046511103 }
     requires short { IsShort content.now }
     ensures read { IfOk result (λ r. (told : Option (List ℕ)) → HoldsContent told content.now → IsFileRead told time r) }
@@ -444,19 +444,18 @@ impl Client {
             self.refuse_delete(number, tenant, from, to)?;
             return Ok(Ran::On);
         }
-        match query_of(queries, selector.as_str()) {
-            Some(QueryRead::Selector(matchers)) => {
+        let Some(read) = query_of(queries, selector.as_str()) else {
+            return Ok(Ran::On);
+        };
+        match &read.selector {
+            SelectorRead::Built(matchers) => {
                 self.delete_selected(number, tenant, from, to, Arc::try_clone(matchers)?)
             }
-            Some(QueryRead::Refused(_error)) => {
+            SelectorRead::Refused => {
                 self.refuse_delete(number, tenant, from, to)?;
                 Ok(Ran::On)
             }
-            Some(QueryRead::Other) => {
-                self.refuse_delete(number, tenant, from, to)?;
-                Ok(Ran::On)
-            }
-            _ => Ok(Ran::On),
+            SelectorRead::NotBuilt => Ok(Ran::On),
         }
     }
 
@@ -524,17 +523,20 @@ impl Client {
         requires kept { IsKeptAs is_query_built queries.now query.now }
         ensures runs { IfOk result (λ r. (told : Known) (start end step : ℕ) → told.readings ≡ readings_in queries.now → grid_of start end step ≡ Ok grid → AskRuns (IsAskStep told self.old (record { number = number; line = ask id.now tenant.now start end step query.now })) told self.old (record { number = number; line = ask id.now tenant.now start end step query.now }) r self.new) }
     {
-        match query_of(queries, query.as_str()) {
-            Some(QueryRead::Selector(matchers)) => {
-                let matchers = Arc::try_clone(matchers)?;
-                let asked = Arc::new(self.alloc, Asked { matchers, grid })?;
+        let Some(read) = query_of(queries, query.as_str()) else {
+            return Ok(Ran::On);
+        };
+        match &read.query {
+            QueryRead::Built(query) => {
+                let query = Arc::try_clone(query)?;
+                let asked = Arc::new(self.alloc, Asked { query, grid })?;
                 self.ask_over(number, id, tenant, asked)
             }
-            Some(QueryRead::Refused(error)) => {
+            QueryRead::Refused(error) => {
                 self.refuse_ask(number, id.as_str(), Slot::BadQuery(*error))?;
                 Ok(Ran::On)
             }
-            _ => Ok(Ran::On),
+            QueryRead::NotBuilt => Ok(Ran::On),
         }
     }
 
@@ -573,18 +575,18 @@ impl Client {
         ensures still { OnOk result (StayOpenBut query.now.place (machine_of self.old.session).queries (machine_of self.new.session).queries) }
         ensures counted { OnOk result ((machine_of self.old.session).count ≤ (machine_of self.new.session).count) }
     {
-        let asked = &query.asked;
-        let matrix = selector_matrix(self.alloc, &asked.matchers, &query.pin.snap, &asked.grid)?;
-        let evaluated = asked.grid.len();
-        self.session.answer(by(number), query, 200, 0, evaluated)?;
-        push_matrix_answer(
+        let answer = evaluate(self.alloc, &query.asked, &query.pin.snap)?;
+        let evaluated = query.asked.grid.len();
+        self.session
+            .answer(by(number), query, answer.code(), 0, evaluated)?;
+        push_query_answer(
             self.alloc,
             &mut self.out,
             number,
             id.as_str(),
             0,
             evaluated,
-            &matrix,
+            &answer,
         )?;
         Ok(())
     }

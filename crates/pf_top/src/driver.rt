@@ -1,20 +1,26 @@
 //! The call that does all that the program does.
 
-ghost use Rattle.std.specs.Prelude.{◌≡◌, ◌≢◌, ◌≤◌, ℕ, List, [], IfOk, vec_len};
+ghost use Rattle.std.specs.Prelude.{◌≡◌, ◌≢◌, ◌≤◌, ℕ, List, [], IfOk, None, Option, true, vec_len};
+ghost use Rattle.pf_block.specs.Snaps.{are_timed};
 ghost use Rattle.pf_model.specs.Lists.{Each};
 ghost use Rattle.pf_script.specs.Lines.{AllFollow, IsRead, lines_of};
 ghost use Rattle.pf_model.specs.Weave.{Files};
 ghost use Rattle.pf_top.specs.Correct.{Correct, NamesFile, Outside};
 ghost use Rattle.pf_top.specs.Drives.{AreShort};
-ghost use Rattle.pf_top.specs.Files.{AreHeld, IsKept};
+ghost use Rattle.pf_model.specs.Scripts.{script_word};
+ghost use Rattle.pf_top.specs.Clients.{refusal_in};
+ghost use Rattle.pf_top.specs.Evaluations.{IsBatchOutput, IsFileOutput, IsNamedOutput, evaluation_in};
+ghost use Rattle.pf_top.specs.Files.{AreHeld, HoldsContent, IsKept, IsShort};
 ghost use Rattle.pf_top.specs.Outputs.{IsRun, IsScriptOutput, IsWordsOutput, default_limits};
-ghost use Rattle.pf_top.specs.Refusals.{refused_read, refused_not_built};
+ghost use Rattle.pf_top.specs.Refusals.{refused_file, refused_line, refused_not_built, refused_read};
 
+use crate::client::{FileFault, FileRead, read_content};
 use crate::drive::run_script;
+use crate::evaluation::evaluation_of;
 use crate::loaded::{Content, Contents, LoadError, Loaded, load_all, read_file};
 use crate::queries::{QueriesError, read_queries};
-use crate::words::script_name;
-use pf_base::{Limits, OutOfMemory, Text};
+use crate::words::{Evaluation, evaluation_words, script_name};
+use pf_base::{Batch, Limits, OutOfMemory, Text};
 use pf_io::{Doors, Files, Gate, Hop, ReadError, Sink, put_all};
 use pf_report::{Word, push_line};
 use pf_script::{Script, ScriptError, read_script};
@@ -116,8 +122,98 @@ fn replay_script<F: Files>(
     }
 }
 
-/// Reads the script that the words name, and replays it.
-fn replay<F: Files>(
+/// `refused: file line N`, with its status. The line is 0 where the file has too many rows or bytes.
+fn refused(alloc: Global, fault: FileFault) -> Result<Output, OutOfMemory>
+    ensures { IfOk result (λ o. (o.status ≡ 3) × (o.text.items ≡ refused_file (refusal_in fault))) }
+{
+    let mut text = Vec::new(alloc);
+    push_line(
+        &mut text,
+        &[
+            Word::Text("refused:"),
+            Word::Text("file"),
+            Word::Text("line"),
+            Word::Number(refused_line(fault)),
+        ],
+    )?;
+    Ok(Output { status: 3, text })
+}
+
+fn refused_line(fault: FileFault) -> u64
+    ensures { result ≡ refused_line (refusal_in fault) }
+{
+    match fault {
+        FileFault::BadLine(line) | FileFault::TimeTooLarge(line) => line as u64,
+        FileFault::TooMany(_) | FileFault::TooLong => 0,
+    }
+}
+
+/// Evaluates a query over the samples of a batch.
+fn evaluate_batch(
+    alloc: Global,
+    batch: &Batch,
+    named: &Evaluation<'_>,
+) -> Result<Output, OutOfMemory>
+    requires { are_timed batch.now.rows ≡ true }
+    ensures { IfOk result (λ o. IsBatchOutput batch.now (evaluation_in named.now) o.status o.text.items) }
+{
+    match evaluation_of(alloc, batch, named)? {
+        Some(text) => Ok(Output { status: 0, text }),
+        None => unbuilt(alloc),
+    }
+}
+
+/// Evaluates a query over what a file holds.
+fn evaluate_content(
+    alloc: Global,
+    content: &Content,
+    named: &Evaluation<'_>,
+) -> Result<Output, OutOfMemory>
+    requires { IsShort content.now }
+    ensures { IfOk result (λ o. (told : Option (List ℕ)) → HoldsContent told content.now → IsFileOutput told (evaluation_in named.now) o.status o.text.items) }
+{
+    match read_content(alloc, content, 0)? {
+        FileRead::Batch(batch) => evaluate_batch(alloc, &batch, named),
+        FileRead::Refused(fault) => refused(alloc, fault),
+    }
+}
+
+/// Reads the file of an evaluation, and evaluates its query over it.
+fn evaluate_file<F: Files>(
+    alloc: Global,
+    files: &mut F,
+    named: &Evaluation<'_>,
+) -> Result<Output, OutOfMemory>
+    ensures output { IfOk result (λ o. IsNamedOutput (F.told files.old (evaluation_in named.now).file) (F.faults files.old) (F.faults files.new) (evaluation_in named.now) o.status o.text.items) }
+    ensures steady { IfOk result (λ o. o.status ≢ 4 → F.faults files.new ≡ F.faults files.old) }
+    ensures counted { F.faults files.old ≤ F.faults files.new }
+{
+    match read_file(alloc, files, named.file) {
+        Ok(content) => evaluate_content(alloc, &content, named),
+        Err(ReadError::Failed) => unread(alloc, named.file),
+        Err(_) => Err(OutOfMemory),
+    }
+}
+
+/// Evaluates what the words name, where they name no script.
+fn evaluate_words<F: Files>(
+    alloc: Global,
+    words: &[Text],
+    files: &mut F,
+) -> Result<Output, OutOfMemory>
+    requires { script_word words.now ≡ None }
+    ensures output { IfOk result (λ o. (limits : Limits) → IsWordsOutput limits (F.told files.old) (F.faults files.old) (F.faults files.new) words.now o.status o.text.items) }
+    ensures steady { IfOk result (λ o. o.status ≢ 4 → F.faults files.new ≡ F.faults files.old) }
+    ensures counted { F.faults files.old ≤ F.faults files.new }
+{
+    match evaluation_words(words) {
+        Some(named) => evaluate_file(alloc, files, &named),
+        None => unbuilt(alloc),
+    }
+}
+
+/// Reads the script that the words name and replays it, or evaluates what they name.
+fn run_words<F: Files>(
     alloc: Global,
     limits: Limits,
     words: &[Text],
@@ -130,7 +226,7 @@ fn replay<F: Files>(
     ensures counted { F.faults files.old ≤ F.faults files.new }
 {
     let Some(name) = script_name(words) else {
-        return unbuilt(alloc);
+        return evaluate_words(alloc, words, files);
     };
     let bytes = match read_file(alloc, files, name) {
         Ok(Content::Bytes(bytes)) => bytes,
@@ -158,7 +254,7 @@ pub fn run_within<F: Files, O: Sink>(
     ensures { let outside : Outside = record { files = F.told files.old; files_before = F.faults files.old; files_after = F.faults files.new; out_before = O.faults out.old; out_after = O.faults out.new; old = O.told out.old; new = O.told out.new } in
         Correct limits outside words.now result }
 {
-    let Ok(output) = replay(alloc, limits, words, files) else {
+    let Ok(output) = run_words(alloc, limits, words, files) else {
         return 6;
     };
     match put_all(out, output.text.as_slice()) {
@@ -169,11 +265,13 @@ pub fn run_within<F: Files, O: Sink>(
 
 /// Does all that the program does: takes its words, reads the files, writes what it prints and answers its status.
 ///
-/// Built are the words `replay SCRIPT`, and scripts of `ingest`, `delete`, `ask`, `answer`, empty and comment lines. Any text
-/// that is not empty is read as a query or a selector: one that is refused is answered so, and of those that are lawful,
-/// instant selectors of `=` and `!=` without `@` and offset are built. The hops, the gate and the doors are of no use to
-/// these. The statuses are 0 for a report, 4 for a file that was not read, 5 for output that was not taken, 6 for want of
-/// memory, 8 for a report of a client that met the full journal, and 9 for all that is not built.
+/// Built are the words `replay SCRIPT`, and scripts of `ingest`, `delete`, `ask`, `answer`, empty and comment lines; and the
+/// words `eval FILE QUERY START END STEP`, which print the code and the body of a query over one file. Any text is read as a
+/// query or a selector: one that is refused is answered so, and of those that are lawful the queries that the evaluator does
+/// are built, and the selectors without patterns. The hops, the gate and the doors are of no use to these. The statuses are
+/// 0 for a report or an evaluation, 3 for an evaluation's file that is refused, 4 for a file that was not read, 5 for output
+/// that was not taken, 6 for want of memory, 8 for a report of a client that met the full journal, and 9 for all that is not
+/// built.
 pub fn run<R, F: Files, O: Sink, H: Hop + Send + Drop, G: Gate + Sync, D: Doors>(
     rt: &R,
     alloc: Global,

@@ -1,14 +1,15 @@
 //! The entries of the journal.
 
+use crate::bound::BoundQuery;
 use pf_base::{Batch, By, Grid, Tenant};
 use pf_model::Matchers;
 use pf_store::{Deleted, Verdicts};
 use std::sync::Arc;
 
-/// What a query asks for: a selector's samples over a grid.
+/// What is asked: a query over a grid.
 #[derive(Drop)]
 pub struct Asked {
-    pub matchers: Arc<Matchers>,
+    pub query: Arc<BoundQuery>,
     pub grid: Grid,
 }
 

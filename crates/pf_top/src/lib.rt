@@ -6,14 +6,18 @@
 //! does the same within any limits.
 #![tactic(auto)]
 
+mod bound;
 mod client;
 mod drive;
 mod driver;
 mod entry;
+mod evaluate;
+mod evaluation;
 mod journal;
 mod loaded;
 mod queries;
 mod session;
+mod settled;
 mod slots;
 mod stop;
 mod tenants;

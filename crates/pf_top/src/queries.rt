@@ -1,17 +1,18 @@
 //! The queries and the selectors of a script.
 
-ghost use Rattle.std.specs.Prelude.{◌≡◌, ◌≢◌, ◌≤◌, ℕ, Err, IfOk, List, MatchOption, None, OnOk, Some, [], false, is_some};
-ghost use Rattle.std.specs.Arc.{arc_value};
+ghost use Rattle.std.specs.Prelude.{◌≡◌, ◌≢◌, ◌≤◌, ℕ, Err, IfOk, List, MatchOption, None, OnOk, Some, [], false, is_some, true};
 ghost use Rattle.std.specs.BTreeMap.{get_by_text};
 ghost use Rattle.pf_model.specs.Lists.{Each};
-ghost use Rattle.pf_model.specs.Queries.{IsQuery, IsUnbuiltQuery, IsUnbuiltSelector, is_plain, is_unmodified, obstacle_of, pattern};
+ghost use Rattle.pf_model.specs.Queries.{IsQuery, IsUnbuiltQuery, IsUnbuiltSelector, is_plain, is_unmodified, obstacle_of, pattern, selecting};
 ghost use Rattle.pf_model.specs.Trees.{instant, size, tree_of};
 ghost use Rattle.pf_script.specs.Lines.{lines_of, numbered_of};
 ghost use Rattle.pf_top.specs.Correct.{HasUnbuilt, IsUnbuiltLine};
-ghost use Rattle.pf_top.specs.Queries.{AreReadAs, IsKeptFor, IsLineRead, IsReadAs, IsReadIn, IsTextRead, is_query_built, is_selector_built};
+ghost use Rattle.pf_top.specs.Queries.{AreReadAs, IsKeptFor, IsLineRead, IsQueryRead, IsReadAs, IsReadIn, IsTextRead, is_query_built, is_selector_built, selects_as};
 ghost use Rattle.pf_top.specs.declared.queries.QueriesError.{QueriesError};
 ghost use Rattle.pf_types.specs.Errors.{query_fault};
 
+use crate::bound::{BindError, BoundQuery, bind};
+use crate::settled::is_built;
 use pf_base::{OutOfMemory, Text};
 use pf_model::{Expr, MatchError, Matchers, Mods, Selector};
 use pf_parse::ParseError;
@@ -21,21 +22,33 @@ use std::alloc::Global;
 use std::collections::BTreeMap;
 use std::sync::Arc;
 
-/// What a text is read as.
+/// What a text is read as where a query stands.
 #[derive(Drop)]
 pub enum QueryRead {
-    /// An instant selector of `=` and `!=`, without `@` and offset.
-    Selector(Arc<Matchers>),
-    /// No query, and no selector either.
+    Built(Arc<BoundQuery>),
     Refused(QueryError),
-    /// A query that is not built, and no selector.
-    Other,
-    /// An instant selector with patterns, which is not built as a query nor as a selector.
-    Pattern,
+    /// A lawful query that is not built.
+    NotBuilt,
+}
+
+/// What a text is read as where a deletion's selector stands.
+#[derive(Drop)]
+pub enum SelectorRead {
+    Built(Arc<Matchers>),
+    Refused,
+    /// An instant selector with patterns.
+    NotBuilt,
+}
+
+/// What a text is read as.
+#[derive(Drop)]
+pub struct TextRead {
+    pub query: QueryRead,
+    pub selector: SelectorRead,
 }
 
 /// What texts are read as, by text.
-pub type Queries = BTreeMap<String, QueryRead>;
+pub type Queries = BTreeMap<String, TextRead>;
 
 /// A query or a selector is not built, or memory ran out.
 #[derive(Clone, Copy)]
@@ -98,54 +111,86 @@ fn plain_selector(expr: &Expr) -> Option<&Selector>
     }
 }
 
-/// What a lawful query is read as.
-fn read_lawful(alloc: Global, expr: &Expr) -> Result<QueryRead, OutOfMemory>
+/// What a query without an obstacle is read as, as a deletion's selector.
+#[tactic(auto, using(crate::proofs::TextReads::other_selects, crate::proofs::TextReads::plain_selects))]
+fn read_matchers(alloc: Global, expr: &Expr) -> Result<SelectorRead, OutOfMemory>
     requires { obstacle_of (tree_of expr.now) ≡ None }
-    ensures { IfOk result (λ q. (text : List ℕ) → IsQuery text (tree_of expr.now) → IsReadAs text q) }
+    ensures { IfOk result (λ s. selects_as s ≡ selecting (tree_of expr.now)) }
 {
     let Some(selector) = plain_selector(expr) else {
-        return Ok(QueryRead::Other);
+        return Ok(SelectorRead::Refused);
     };
     match Matchers::build(selector) {
-        Ok(matchers) => Ok(QueryRead::Selector(Arc::new(alloc, matchers)?)),
+        Ok(matchers) => Ok(SelectorRead::Built(Arc::new(alloc, matchers)?)),
         Err(MatchError::OutOfMemory) => Err(OutOfMemory),
-        Err(MatchError::BadPattern) => Ok(QueryRead::Other),
-        Err(MatchError::EmptySelector) => Ok(QueryRead::Other),
+        Err(MatchError::BadPattern) => Ok(SelectorRead::NotBuilt),
+        Err(MatchError::EmptySelector) => Ok(SelectorRead::Refused),
     }
 }
 
-/// What a query with a pattern is read as.
-fn read_pattern(expr: &Expr) -> QueryRead
+/// What a query with a pattern is read as, as a deletion's selector.
+#[tactic(auto, using(crate::proofs::TextReads::other_selects, crate::proofs::TextReads::pattern_selects))]
+fn read_pattern(expr: &Expr) -> SelectorRead
     requires { obstacle_of (tree_of expr.now) ≡ Some pattern }
-    ensures { (text : List ℕ) → IsQuery text (tree_of expr.now) → IsReadAs text result }
+    ensures { selects_as result ≡ selecting (tree_of expr.now) }
 {
     match plain_selector(expr) {
-        Some(_) => QueryRead::Pattern,
-        None => QueryRead::Other,
+        Some(_) => SelectorRead::NotBuilt,
+        None => SelectorRead::Refused,
+    }
+}
+
+/// What a query without an obstacle is read as.
+#[tactic(auto, using(crate::proofs::TextReads::built_right, crate::proofs::TextReads::other_unbuilt))]
+fn read_lawful(alloc: Global, expr: Expr) -> Result<QueryRead, OutOfMemory>
+    requires { obstacle_of (tree_of expr) ≡ None }
+    ensures { IfOk result (λ q. (text : List ℕ) → IsQuery text (tree_of expr) → IsQueryRead text q) }
+{
+    if !is_built(&expr) {
+        return Ok(QueryRead::NotBuilt);
+    }
+    match bind(alloc, expr) {
+        Ok(query) => Ok(QueryRead::Built(Arc::new(alloc, query)?)),
+        Err(BindError::OutOfMemory) => Err(OutOfMemory),
+        Err(BindError::NoMatchers) => Ok(QueryRead::NotBuilt),
     }
 }
 
 /// What a query whose kinds are lawful is read as.
-fn read_tree(alloc: Global, expr: &Expr) -> Result<QueryRead, OutOfMemory>
-    requires { size (tree_of expr.now) ≤ 65536 }
-    ensures { IfOk result (λ q. (text : List ℕ) → IsQuery text (tree_of expr.now) → IsReadAs text q) }
+#[tactic(auto, using(crate::proofs::TextReads::lawful_read, crate::proofs::TextReads::pattern_read))]
+fn read_tree(alloc: Global, expr: Expr) -> Result<TextRead, OutOfMemory>
+    requires { size (tree_of expr) ≤ 65536 }
+    ensures { IfOk result (λ r. (text : List ℕ) → IsQuery text (tree_of expr) → IsReadAs text r) }
 {
-    match first_obstacle(expr) {
-        Some(Obstacle::Empty { which }) => Ok(QueryRead::Refused(QueryError::Empty { which })),
-        Some(Obstacle::Pattern) => Ok(read_pattern(expr)),
-        None => read_lawful(alloc, expr),
+    match first_obstacle(&expr) {
+        Some(Obstacle::Empty { which }) => Ok(TextRead {
+            query: QueryRead::Refused(QueryError::Empty { which }),
+            selector: SelectorRead::Refused,
+        }),
+        Some(Obstacle::Pattern) => Ok(TextRead {
+            query: QueryRead::NotBuilt,
+            selector: read_pattern(&expr),
+        }),
+        None => {
+            let selector = read_matchers(alloc, &expr)?;
+            let query = read_lawful(alloc, expr)?;
+            Ok(TextRead { query, selector })
+        }
     }
 }
 
 /// Reads a text as a query and as a selector.
-fn read_text(alloc: Global, text: &str) -> Result<QueryRead, OutOfMemory>
+pub fn read_text(alloc: Global, text: &str) -> Result<TextRead, OutOfMemory>
     ensures { IfOk result (IsReadAs text.now) }
 {
     match read_query(alloc, text) {
-        Ok(expr) => read_tree(alloc, &expr),
+        Ok(expr) => read_tree(alloc, expr),
         Err(error) => {
             if is_fault(&error) {
-                Ok(QueryRead::Refused(error))
+                Ok(TextRead {
+                    query: QueryRead::Refused(error),
+                    selector: SelectorRead::Refused,
+                })
             } else {
                 Err(OutOfMemory)
             }
@@ -154,7 +199,7 @@ fn read_text(alloc: Global, text: &str) -> Result<QueryRead, OutOfMemory>
 }
 
 /// What is kept of a text.
-pub fn query_of<'a>(queries: &'a Queries, text: &str) -> Option<&'a QueryRead>
+pub fn query_of<'a>(queries: &'a Queries, text: &str) -> Option<&'a TextRead>
     ensures { MatchOption result (get_by_text queries.now text.now ≡ None) (λ q. get_by_text queries.now text.now ≡ Some q.now) }
 {
     queries.get(text)
@@ -165,7 +210,7 @@ fn insert(
     alloc: Global,
     queries: &mut Queries,
     text: &str,
-    read: QueryRead,
+    read: TextRead,
 ) -> Result<(), OutOfMemory>
     ensures added { OnOk result (get_by_text queries.new text.now ≡ Some read) }
     ensures others { OnOk result ((other : List ℕ) → other ≢ text.now → get_by_text queries.new other ≡ get_by_text queries.old other) }
@@ -187,14 +232,14 @@ fn read_one(alloc: Global, queries: &mut Queries, text: &Text) -> Result<(), Out
     Ok(())
 }
 
-impl QueryRead {
+impl TextRead {
     /// Whether it is built as a query.
     fn is_query_built(&self) -> bool
         ensures { result ≡ is_query_built self.now }
     {
-        match self {
-            QueryRead::Selector(_) | QueryRead::Refused(_) => true,
-            QueryRead::Other | QueryRead::Pattern => false,
+        match self.query {
+            QueryRead::Built(_) | QueryRead::Refused(_) => true,
+            QueryRead::NotBuilt => false,
         }
     }
 
@@ -202,9 +247,9 @@ impl QueryRead {
     fn is_selector_built(&self) -> bool
         ensures { result ≡ is_selector_built self.now }
     {
-        match self {
-            QueryRead::Selector(_) | QueryRead::Refused(_) | QueryRead::Other => true,
-            QueryRead::Pattern => false,
+        match self.selector {
+            SelectorRead::Built(_) | SelectorRead::Refused => true,
+            SelectorRead::NotBuilt => false,
         }
     }
 }

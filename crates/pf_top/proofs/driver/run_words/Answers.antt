@@ -1,17 +1,17 @@
--- What a replay gives is what comes by the words.
+-- What is given is what comes by the words.
 use Rattle.std.proofs.Common.{rules}
 use Rattle.pf_script.specs.Lines.{lines_of}
 use Rattle.pf_top.proofs.Steps.{if_ok_map}
 use Rattle.pf_top.proofs.OutputLaws.{words_output, unread_output, long_output, reads_as, bytes_told}
-use Rattle.pf_top.proofs.driver.replay.Goals as goal
+use Rattle.pf_top.proofs.driver.run_words.Goals as goal
 
 pub returns-in-Ok-TooLong-clause-output : goal.returns-in-Ok-TooLong-clause-output
 returns-in-Ok-TooLong-clause-output g c =
     let f = g.F.Files in
-    if_ok_map _ _ c.unbuilt-in-Ok-TooLong.result
+    if_ok_map _ _ c.unbuilt.result
     (λ o told. long_output c.args.limits (f.told c.args.files.now) c.args.words.now c.in-Some.name.now (f.faults c.args.files.now)
     (f.faults c.read_file.new.files) o.status o.text.items c.in-Some.ensures (search rules) told)
-    c.unbuilt-in-Ok-TooLong.ensures
+    c.unbuilt.ensures
 
 pub returns-in-Ok-clause-output : goal.returns-in-Ok-clause-output
 returns-in-Ok-clause-output g c =
@@ -31,3 +31,6 @@ returns-in-Err-Failed-clause-output g c =
     (λ o told. unread_output c.args.limits (f.told c.args.files.now) c.args.words.now c.in-Some.name.now (f.faults c.args.files.now)
     (f.faults c.read_file.new.files) o.status o.text.items c.in-Some.ensures (search rules) told)
     c.unread.ensures
+
+pub returns-in_default-clause-output : goal.returns-in_default-clause-output
+returns-in_default-clause-output g c = if_ok_map _ _ c.evaluate_words.result (λ o p. p c.args.limits) c.evaluate_words.ensures.output

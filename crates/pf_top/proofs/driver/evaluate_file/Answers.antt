@@ -1,0 +1,18 @@
+use Rattle.std.proofs.Common.{rules, inl, inr}
+use Rattle.pf_top.proofs.Steps.{if_ok_map}
+use Rattle.pf_top.proofs.Texts.{short_by}
+use Rattle.pf_top.specs.Evaluations.{evaluation_in}
+use Rattle.pf_top.proofs.driver.evaluate_file.Goals as goal
+
+pub evaluate_content-requires : goal.evaluate_content-requires
+evaluate_content-requires g c = short_by (g.F.Files.told c.args.files.now (evaluation_in c.args.named.now).file) c.in-Ok.content (search rules)
+
+pub returns-in-Ok-clause-output : goal.returns-in-Ok-clause-output
+returns-in-Ok-clause-output g c =
+    if_ok_map _ _ c.evaluate_content.result
+    (λ o printed. inl (printed (g.F.Files.told c.args.files.now (evaluation_in c.args.named.now).file) (search rules)))
+    c.evaluate_content.ensures
+
+pub returns-in-Err-Failed-clause-output : goal.returns-in-Err-Failed-clause-output
+returns-in-Err-Failed-clause-output g c =
+    if_ok_map _ _ c.unread.result (λ o p. inr (p.0, (search rules, p.1))) c.unread.ensures

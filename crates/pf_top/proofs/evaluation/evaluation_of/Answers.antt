@@ -1,0 +1,9 @@
+use Rattle.std.proofs.Common.{rules}
+use Rattle.pf_top.proofs.Steps.{if_ok_map}
+use Rattle.pf_top.proofs.evaluation.evaluation_of.Goals as goal
+
+pub returns-in-Ok : goal.returns-in-Ok
+returns-in-Ok c =
+    if_ok_map _ _ c.text_over.result
+    (λ t h. h c.args.named.now.query.now c.args.named.now.start c.args.named.now.end c.args.named.now.step c.in_ok-read.ensures.0 (search rules))
+    c.text_over.ensures

@@ -1,0 +1,14 @@
+use Rattle.std.proofs.Common.{subst}
+use Rattle.pf_top.specs.Queries.{IsQueryRead}
+use Rattle.pf_top.proofs.Printed.{query_printed, refusal_printed}
+use Rattle.pf_top.proofs.evaluation.text_over.Goals as goal
+
+pub returns-in_ok-text-in-Built : goal.returns-in_ok-text-in-Built
+returns-in_ok-text-in-Built c query start end step h gridded =
+    query_printed c.args.batch.now query start end step c.args.grid c.in-Built.query _ c.in_ok-text-in-Built.ensures
+    (subst (IsQueryRead query) c.in-Built.is h) gridded
+
+pub returns-in_ok-text-in-Refused : goal.returns-in_ok-text-in-Refused
+returns-in_ok-text-in-Refused c query start end step h gridded =
+    refusal_printed c.args.batch.now query start end step c.args.grid c.in-Refused.error _ c.in_ok-text-in-Refused.ensures
+    (subst (IsQueryRead query) c.in-Refused.is h) gridded
