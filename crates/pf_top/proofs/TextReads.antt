@@ -273,7 +273,7 @@ given_from n (aggregate op g args ∷ ts) h = given_from n ts h
 given_from n (select ms range mods ∷ ts) h =
     let both = both_none (selector_obstacle n ms) (first_obstacle (n + 1) ts) h in
     let meant = all_meant n ms both.0 in
-    given_by (all_plain ms) (accepts_empty ms) (list_all gives_matchers (matchers_in ts)) meant.0 meant.1 (given_from (n + 1) ts both.1)
+    given_by (all_compared ms) (accepts_empty ms) (list_all gives_matchers (matchers_in ts)) meant.0 meant.1 (given_from (n + 1) ts both.1)
 given_from n (subquery e range resolution mods ∷ ts) h = given_from n ts h
 
 pub all_given : (t : Tree) → obstacle_of t ≡ None → list_all gives_matchers (selectors_of t) ≡ false → ⊥
