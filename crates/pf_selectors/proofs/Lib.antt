@@ -5,6 +5,6 @@ mod ReadCells
 mod RunValues
 mod SeriesOrder
 mod SetRows
-mod StepTimes
+pub mod StepTimes
 mod TimedCells
 mod WindowCells
