@@ -3,7 +3,7 @@
 use crate::output::Output;
 use crate::setting::Setting;
 use crate::{
-    base, columns, evaluation, functions, language, outside, patterns, ranges, reports, runs,
+    base, columns, evaluation, functions, language, outside, patterns, ranges, reports, runs, selectors,
     stores,
 };
 
@@ -17,6 +17,7 @@ pub enum Form {
     Ranges(ranges::Form),
     Functions(functions::Form),
     Columns(columns::Form),
+    Selectors(selectors::Form),
     Evaluation(evaluation::Form),
     Reports(reports::Form),
     Outside(outside::Form),
@@ -47,6 +48,9 @@ impl Form {
         if let Some(form) = columns::Form::named(name) {
             return Some(Form::Columns(form));
         }
+        if let Some(form) = selectors::Form::named(name) {
+            return Some(Form::Selectors(form));
+        }
         if let Some(form) = evaluation::Form::named(name) {
             return Some(Form::Evaluation(form));
         }
@@ -70,6 +74,7 @@ pub fn answer(out: &mut Output, rt: HostRuntime, form: Form, setting: &Setting, 
         Form::Ranges(form) => form.answer(out, given),
         Form::Functions(form) => form.answer(out, setting, given),
         Form::Columns(form) => form.answer(out, given),
+        Form::Selectors(form) => form.answer(out, setting, given),
         Form::Evaluation(form) => form.answer(out, setting, given),
         Form::Reports(form) => form.answer(out, setting, given),
         Form::Outside(form) => form.answer(out, rt, setting, given),

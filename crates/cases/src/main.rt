@@ -17,6 +17,7 @@ mod patterns;
 mod ranges;
 mod reports;
 mod runs;
+mod selectors;
 mod setting;
 mod stores;
 

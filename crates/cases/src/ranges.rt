@@ -39,7 +39,7 @@ impl Form {
 }
 
 /// The function of a name.
-fn function_of(name: &str) -> Option<RangeFn> {
+pub fn function_of(name: &str) -> Option<RangeFn> {
     let function = match name {
         "increase" => RangeFn::Increase,
         "rate" => RangeFn::Rate,
