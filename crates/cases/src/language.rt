@@ -3,6 +3,7 @@
 ghost use Rattle.pf_lex.specs.Seen.{IsTokenOf};
 
 use crate::output::Output;
+use crate::resolution::resolving;
 use pf_lex::{LexError, Token, TokenSort, string_value, token_text, tokens};
 use pf_model::{Expr, Kind};
 use pf_parse::{ParseError, parse};
@@ -29,6 +30,8 @@ pub enum Form {
     Obstacle,
     /// `pattern`: `SELECTOR => true` where it has a pattern, and `false` else.
     Pattern,
+    /// `resolving`: `resolve START END QUERY => CANONICAL`, the query with its range put in, and `shardable QUERY => true`.
+    Resolving,
     /// `error`: `ERROR => TEXT`.
     Error,
 }
@@ -44,6 +47,7 @@ impl Form {
             "query" => Form::Query,
             "obstacle" => Form::Obstacle,
             "pattern" => Form::Pattern,
+            "resolving" => Form::Resolving,
             "error" => Form::Error,
             _ => return None,
         };
@@ -61,6 +65,7 @@ impl Form {
             Form::Query => query(out, text),
             Form::Obstacle => obstacle(out, text),
             Form::Pattern => pattern(out, text),
+            Form::Resolving => resolving(out, text),
             Form::Error => error(out, text),
         }
     }

@@ -16,6 +16,7 @@ mod outside;
 mod patterns;
 mod ranges;
 mod reports;
+mod resolution;
 mod runs;
 mod selectors;
 mod setting;

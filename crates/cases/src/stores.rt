@@ -3,6 +3,7 @@
 pub mod files;
 pub mod logs;
 pub mod matchers;
+pub mod selection;
 pub mod snapshots;
 
 use crate::output::Output;
@@ -22,6 +23,9 @@ pub enum Form {
     Page,
     /// `snapshot`: calls of the snapshot that has the samples of the part `page`.
     Snapshot,
+    /// `selection`: `SELECTOR => IDS`, the series that a selector accepts in the snapshot that has the samples of the part
+    /// `page`, or those of several selectors with `;` between them.
+    Selection,
     /// `window`: `TIME:MICROS TIME:MICROS => SAMPLES`, what a window over two samples walks.
     Window,
     /// `log`: what the calls of a log answered, which the parts `window`, `append`, `delete` and `pin` make in their order.
@@ -37,6 +41,7 @@ impl Form {
             "exposition" => Form::Exposition,
             "page" => Form::Page,
             "snapshot" => Form::Snapshot,
+            "selection" => Form::Selection,
             "window" => Form::Window,
             "log" => Form::Log,
             _ => return None,
@@ -61,6 +66,7 @@ impl Form {
             Form::Accepts => matchers::accepts(out, setting, given),
             Form::Page => files::page(out, setting, given),
             Form::Snapshot => snapshots::snapshot(out, setting, given),
+            Form::Selection => selection::selection(out, setting, given),
             Form::Window => snapshots::window(out, given),
             Form::Log => logs::log(out, setting, given),
             Form::Line | Form::Exposition => {}

@@ -13,7 +13,7 @@ use pf_store::{Pin, TenantLog};
 use std::sync::Arc;
 
 /// A pin of a log that has the page's samples.
-fn pin_of(out: &mut Output, setting: &Setting) -> Option<Pin> {
+pub fn pin_of(out: &mut Output, setting: &Setting) -> Option<Pin> {
     let batch = batch_of(out, setting, setting.text("page"))?;
     let mut log = out.or_lose(TenantLog::open(out.alloc(), MAXT))?;
     append(out, &mut log, &batch);

@@ -1,0 +1,41 @@
+//! Rows of selections.
+
+use crate::output::Output;
+use crate::setting::Setting;
+use crate::stores::matchers::matchers_of;
+use crate::stores::snapshots::pin_of;
+use pf_block::Snap;
+use pf_index::{select, select_all};
+
+fn select_one(out: &mut Output, snap: &Snap, selector: &str) {
+    if let Some(matchers) = &matchers_of(out, selector) {
+        let ids = select(out.alloc(), snap, matchers);
+        if let Some(ids) = out.or_lose(ids) {
+            out.show(format_args!("{ids:?}"));
+        }
+    }
+}
+
+fn select_each(out: &mut Output, snap: &Snap, selectors: &str) {
+    let mut all = Vec::new(out.alloc());
+    for selector in selectors.split(';') {
+        if let Some(matchers) = matchers_of(out, selector) {
+            out.push(&mut all, matchers);
+        }
+    }
+    let lists = select_all(out.alloc(), snap, &all);
+    if let Some(lists) = out.or_lose(lists) {
+        out.show(format_args!("{lists:?}"));
+    }
+}
+
+/// The ids of the series that a selector accepts, or of several with `;` between them.
+pub fn selection(out: &mut Output, setting: &Setting, given: &str) {
+    if let Some(pin) = &pin_of(out, setting) {
+        if given.contains(';') {
+            select_each(out, &pin.snap, given);
+        } else {
+            select_one(out, &pin.snap, given);
+        }
+    }
+}
