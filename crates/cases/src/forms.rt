@@ -3,8 +3,8 @@
 use crate::output::Output;
 use crate::setting::Setting;
 use crate::{
-    base, columns, evaluation, functions, language, outside, patterns, ranges, reports, runs, selectors,
-    stores,
+    base, columns, evaluation, functions, language, outside, patterns, ranges, reports, runs,
+    selectors, stores,
 };
 
 /// A form of rows, by what it is about.
