@@ -104,7 +104,7 @@ fn run_of(out: &mut Output, list: &str) -> Option<Run> {
     Some(Run { steps, count })
 }
 
-/// Appends the elements of a vector.
+/// Appends the elements of a vector, with blanks between them.
 pub fn push_cell(out: &mut Output, cell: &Cell) {
     let mut is_first = true;
     for element in &cell.elements {

@@ -3,8 +3,8 @@
 use crate::output::Output;
 use crate::setting::Setting;
 use crate::{
-    base, columns, evaluation, functions, language, outside, patterns, ranges, reports, runs,
-    selectors, stores,
+    base, columns, evaluation, functions, joins, language, outside, patterns, ranges, reports,
+    runs, selectors, stores,
 };
 
 /// A form of rows, by what it is about.
@@ -18,6 +18,7 @@ pub enum Form {
     Functions(functions::Form),
     Columns(columns::Form),
     Selectors(selectors::Form),
+    Joins(joins::Form),
     Evaluation(evaluation::Form),
     Reports(reports::Form),
     Outside(outside::Form),
@@ -51,6 +52,9 @@ impl Form {
         if let Some(form) = selectors::Form::named(name) {
             return Some(Form::Selectors(form));
         }
+        if let Some(form) = joins::Form::named(name) {
+            return Some(Form::Joins(form));
+        }
         if let Some(form) = evaluation::Form::named(name) {
             return Some(Form::Evaluation(form));
         }
@@ -75,6 +79,7 @@ pub fn answer(out: &mut Output, rt: HostRuntime, form: Form, setting: &Setting, 
         Form::Functions(form) => form.answer(out, setting, given),
         Form::Columns(form) => form.answer(out, given),
         Form::Selectors(form) => form.answer(out, setting, given),
+        Form::Joins(form) => form.answer(out, given),
         Form::Evaluation(form) => form.answer(out, setting, given),
         Form::Reports(form) => form.answer(out, setting, given),
         Form::Outside(form) => form.answer(out, rt, setting, given),

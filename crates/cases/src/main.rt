@@ -10,6 +10,7 @@ mod evaluation;
 mod file;
 mod forms;
 mod functions;
+mod joins;
 mod language;
 mod output;
 mod outside;
