@@ -4,8 +4,8 @@ use Rattle.pf_top.proofs.queries.read_matchers.Goals as goal
 
 pub returns-in-Err-BadPattern : goal.returns-in-Err-BadPattern
 returns-in-Err-BadPattern c =
-    absurd (no_bad_pattern _ _ c.in-Some.ensures c.requires (c.build.ensures.refused.1 (search rules)))
+    absurd (no_bad_pattern _ _ c.in-Some.ensures c.requires (c.build.ensures.refused (search rules)))
 
 pub returns-in-Err-EmptySelector : goal.returns-in-Err-EmptySelector
 returns-in-Err-EmptySelector c =
-    absurd (no_empty_selector _ _ c.in-Some.ensures c.requires (c.build.ensures.empty.1 (search rules)).1)
+    absurd (no_empty_selector _ _ c.in-Some.ensures c.requires (c.build.ensures.empty (search rules)).1)
