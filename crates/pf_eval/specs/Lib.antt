@@ -1,8 +1,10 @@
+pub mod Bound
 pub mod Built
 pub mod Elementwise
-pub mod Failures
 pub mod GroupValues
 pub mod Newest
+pub mod Nodes
 pub mod Results
 pub mod Seen
 pub mod SeriesRows
+pub mod Zipped

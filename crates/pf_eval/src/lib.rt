@@ -5,12 +5,18 @@
 //! of evaluation says it: it is slow, and it is what faster evaluators are compared with.
 #![tactic(auto)]
 
+mod aggregation;
 mod ahead;
+mod bound;
 mod built;
-mod eval;
+mod change;
+mod node;
+mod operation;
+mod pairing;
 pub mod plain;
+mod reading;
 mod selector;
 
+pub use bound::{EvalError, eval_bound};
 pub use built::is_evaluated;
-pub use eval::{EvalError, eval_bound};
 pub use selector::selector_matrix;

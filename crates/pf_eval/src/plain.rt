@@ -16,9 +16,9 @@ ghost use Rattle.pf_eval.specs.Elementwise.{elementwise_call, is_elementwise_cal
 ghost use Rattle.pf_eval.specs.Seen.{first_kind, seen};
 
 mod aggregate;
-mod cells;
+pub(crate) mod cells;
 mod elementwise;
-mod join;
+pub(crate) mod join;
 mod operate;
 mod select;
 
@@ -135,7 +135,7 @@ fn operation(
     Ok(Outcome::Vector(cell))
 }
 
-fn are_label_names(names: &[Text]) -> bool
+pub(crate) fn are_label_names(names: &[Text]) -> bool
     ensures { result ≡ list_all is_label_name names.now }
 {
     names.iter().all(|name| is_label_name(name.as_str()))

@@ -75,13 +75,13 @@ pattern_is_not_built : is_unbuilt (obstacle_of (instant (one match.Like []))) (i
 unfolding one
 pattern_is_not_built = refl
 
--- `up{job="a"} offset 1s`, and `up{job="a"} offset 0s`
-offset_is_not_built : is_unbuilt (obstacle_of (tree.select up_job None (record { at = None; offset = pos 1000 }))) (tree.select up_job None (record { at = None; offset = pos 1000 })) ≡ true
+-- `up{job="a"}[1m]`, and `up{job="a"} offset 1s`
+range_is_not_built : is_unbuilt (obstacle_of (tree.select up_job (Some 60000) no_mods)) (tree.select up_job (Some 60000) no_mods) ≡ true
 unfolding up_job equal
-offset_is_not_built = refl
+range_is_not_built = refl
 
-no_offset_is_built : is_built (lawful (tree.select up_job None (record { at = None; offset = pos 0 }))) ≡ true
-no_offset_is_built = refl
+offset_is_built : is_built (lawful (tree.select up_job None (record { at = None; offset = pos 1000 }))) ≡ true
+offset_is_built = refl
 
 instant_selector_is_one : selecting (instant up_job) ≡ selector up_job
 unfolding up_job equal

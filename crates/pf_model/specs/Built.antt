@@ -1,9 +1,48 @@
--- The queries that the evaluator does: this project's own.
-use Rattle.std.specs.Prelude.{pos, Bool, false, ◌&&◌, None, is_none}
-use Rattle.std.specs.Ordering.{int_eq}
-use Rattle.pf_model.specs.Trees.{Tree, select}
+-- The queries that are evaluated node by node over a run of steps: this project's own.
+use Rattle.std.specs.Prelude.{ℕ, nat_le, unsigned_abs, Bool, true, false, ◌&&◌, Option, Some, None, is_none}
+use Rattle.std.specs.List.{list_all}
+use Rattle.pf_base.specs.LabelSets.{is_label_name}
+use Rattle.pf_model.specs.declared.expr.At.{At}
+use Rattle.pf_model.specs.declared.expr.At.TheVariants as at
+use Rattle.pf_model.specs.declared.expr.Mods.{Mods}
+use Rattle.pf_model.specs.declared.functions.AggOp.{AggOp}
+use Rattle.pf_model.specs.declared.functions.AggOp.TheVariants.{Topk, Bottomk, Quantile}
+use Rattle.pf_model.specs.Trees as tree
+use Rattle.pf_model.specs.Trees.{Tree, Trees}
 
--- instant selectors without modifiers
-abbrev pub is_evaluated : Tree → Bool
-is_evaluated (select ms None mods) = is_none mods.at && int_eq mods.offset (pos 0)
-is_evaluated _ = false
+-- a distance, or a time, of at most the greatest time that a query has, in milliseconds
+abbrev pub is_distance : ℕ → Bool
+is_distance millis = nat_le millis 4398046511103
+
+abbrev pub is_time : Option At → Bool
+is_time (Some (at.Time millis)) = is_distance millis
+is_time _ = true
+
+abbrev pub are_near : Mods → Bool
+are_near mods = is_time mods.at && is_distance (unsigned_abs mods.offset)
+
+-- an aggregation with one value for each group and no parameter
+abbrev pub has_one_value : AggOp → Bool
+has_one_value Topk = false
+has_one_value Bottomk = false
+has_one_value Quantile = false
+has_one_value op = true
+
+abbrev pub is_one : Trees → Bool
+is_one (tree.more arg tree.none) = true
+is_one args = false
+
+abbrev mutual
+  pub is_evaluated : Tree → Bool
+  is_evaluated (tree.number v) = true
+  is_evaluated (tree.text bytes) = false
+  is_evaluated (tree.unary minus arg) = is_evaluated arg
+  is_evaluated (tree.binary op m left right) = list_all is_label_name m.include && (is_evaluated left && is_evaluated right)
+  is_evaluated (tree.call f args) = false
+  is_evaluated (tree.aggregate op g args) = has_one_value op && (is_one args && are_evaluated args)
+  is_evaluated (tree.select ms range mods) = is_none range && are_near mods
+  is_evaluated (tree.subquery arg range resolution mods) = false
+
+  pub are_evaluated : Trees → Bool
+  are_evaluated tree.none = true
+  are_evaluated (tree.more arg args) = is_evaluated arg && are_evaluated args

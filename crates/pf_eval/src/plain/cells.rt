@@ -11,21 +11,21 @@ use std::alloc::Global;
 use std::cmp::Ordering;
 
 #[tactic(auto, using(crate::proofs::Rows::ties_are_same))]
-pub(super) fn is_same(labels: &Labels, other: &Labels) -> bool
+pub(crate) fn is_same(labels: &Labels, other: &Labels) -> bool
     ensures { result ≡ same_labels labels.now other.now }
 {
     labels == other
 }
 
 /// Whether a label set is one of some.
-pub(super) fn stands_in(labels: &Labels, sets: &[Labels]) -> bool
+pub(crate) fn stands_in(labels: &Labels, sets: &[Labels]) -> bool
     ensures { result ≡ list_any (same_labels labels.now) sets.now }
 {
     sets.iter().any(|other| labels == other)
 }
 
 /// Whether two of some label sets are equal.
-pub(super) fn has_equal(sets: &[Labels]) -> bool
+pub(crate) fn has_equal(sets: &[Labels]) -> bool
     ensures { result ≡ has_equal sets.now }
 {
     for i in 0..sets.len() {
@@ -37,7 +37,7 @@ pub(super) fn has_equal(sets: &[Labels]) -> bool
 }
 
 /// The label sets of elements, in order.
-pub(super) fn labels_of(alloc: Global, elements: &[Element]) -> Result<Vec<Labels>, OutOfMemory>
+pub(crate) fn labels_of(alloc: Global, elements: &[Element]) -> Result<Vec<Labels>, OutOfMemory>
     ensures { IfOk result (λ v. v.items ≡ labels_of elements.now) }
 {
     let mut found = Vec::new(alloc);
@@ -74,7 +74,7 @@ fn put(sets: &mut Vec<Labels>, labels: Labels) -> Result<(), OutOfMemory>
 }
 
 /// Label sets, each once, in label order.
-pub(super) fn distinct(alloc: Global, sets: &[Labels]) -> Result<Vec<Labels>, OutOfMemory>
+pub(crate) fn distinct(alloc: Global, sets: &[Labels]) -> Result<Vec<Labels>, OutOfMemory>
     ensures { IfOk result (λ v. v.items ≡ distinct sets.now) }
 {
     let mut found = Vec::new(alloc);
@@ -92,7 +92,7 @@ fn in_label_order(mut elements: Vec<Element>) -> Result<Cell, OutOfMemory>
 }
 
 /// What a node gives: its elements in label order, where no two have equal labels.
-pub(super) fn cell_of(alloc: Global, elements: Vec<Element>) -> Result<StepCell, OutOfMemory>
+pub(crate) fn cell_of(alloc: Global, elements: Vec<Element>) -> Result<StepCell, OutOfMemory>
     ensures { IfOk result (λ c. c ≡ cell_of elements.items) }
 {
     if has_equal(&labels_of(alloc, &elements)?) {

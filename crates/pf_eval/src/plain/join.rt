@@ -18,13 +18,13 @@ use std::alloc::Global;
 
 /// What a pair gives: its labels, and its value where it has one.
 #[derive(Drop)]
-pub(super) struct Joined {
+pub(crate) struct Joined {
     labels: Labels,
     value: Option<Value>,
 }
 
 /// What has to be equal for two elements to match.
-fn matching_key(matching: &Matching, labels: &Labels) -> Result<Labels, OutOfMemory>
+pub(crate) fn matching_key(matching: &Matching, labels: &Labels) -> Result<Labels, OutOfMemory>
     ensures { IfOk result (λ l. l ≡ matching_key matching.now labels.now) }
 {
     if matching.on {
@@ -145,7 +145,11 @@ fn taking(names: &[Text], one_side: &Labels, many: &Labels) -> Result<Labels, Ou
 }
 
 /// The labels of a pair, before the metric name is dropped.
-fn pair_labels(matching: &Matching, left: &Labels, right: &Labels) -> Result<Labels, OutOfMemory>
+pub(crate) fn pair_labels(
+    matching: &Matching,
+    left: &Labels,
+    right: &Labels,
+) -> Result<Labels, OutOfMemory>
     requires { list_all is_label_name matching.now.include ≡ true }
     ensures { IfOk result (λ l. l ≡ labels_of_pair matching.now left.now right.now) }
 {
@@ -316,7 +320,7 @@ fn joined_pairs(
 
 /// The value of an operator at two vectors.
 #[tactic(auto, using(crate::proofs::Results::results_are_pairs))]
-pub(super) fn join(
+pub(crate) fn join(
     alloc: Global,
     op: BinaryOp,
     matching: &Matching,

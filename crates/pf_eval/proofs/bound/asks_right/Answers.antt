@@ -1,0 +1,11 @@
+use Rattle.pf_eval.proofs.BoundNodes.{behind_operands, right_begins, right_evaluated}
+use Rattle.pf_eval.proofs.bound.asks_right.Goals as goal
+
+pub returns-clause-evaluated : goal.returns-clause-evaluated
+returns-clause-evaluated c = right_evaluated _ _ _ _ _ c.requires.tree c.requires.evaluated
+
+pub returns-clause-bound : goal.returns-clause-bound
+returns-clause-bound c = right_begins _ _ _ _ _ _ _ _ c.requires.tree c.requires.rest c.requires.bound
+
+pub returns-clause-behind : goal.returns-clause-behind
+returns-clause-behind c = λ last l. behind_operands _ _ _ _ _ _ _ _ last c.requires.tree c.requires.rest l

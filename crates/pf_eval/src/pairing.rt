@@ -1,0 +1,448 @@
+//! Operators between two vectors over a run of steps: columns are matched once, and values step by step.
+
+ghost use Rattle.std.specs.Prelude.{◌≡◌, ◌∷◌, ◌++◌, ◌<◌, ℕ, [], true, false, cond, length, map, IfOk, OnOk};
+ghost use Rattle.std.specs.List.{list_all};
+ghost use Rattle.pf_base.specs.LabelSets.{is_label_name};
+ghost use Rattle.pf_model.specs.Cells.{cell_of};
+ghost use Rattle.pf_model.specs.Matching.{is_grouping};
+ghost use Rattle.pf_model.specs.Merging.{below};
+ghost use Rattle.pf_model.specs.Outcomes.{of_cell, operation};
+ghost use Rattle.pf_columns.specs.Columns.{cell_at, columns_labels, value_in};
+ghost use Rattle.pf_columns.specs.Steps.{bad_in, step_at, unless_bad};
+ghost use Rattle.pf_eval.specs.Zipped.{are_single, are_there, between, both, column_keys, is_set_sign, is_wanted, kept_if, kind_of, met, met_among, one_columns, pair_by, partners_by, set_columns, zipped};
+
+use crate::node::{first_bads, value_of};
+use crate::plain::cells::{has_equal, is_same};
+use crate::plain::join::{join, matching_key, pair_labels};
+use pf_base::{Labels, OutOfMemory, Value};
+use pf_columns::{Column, StepCells, normalised};
+use pf_math::{operated, result_labels};
+use pf_model::{BinaryOp, ErrorKind, Matching, Side, Sign, StepCell};
+use std::alloc::Global;
+
+/// What has to be equal for elements to match, once a column.
+fn keys_of(
+    alloc: Global,
+    matching: &Matching,
+    columns: &[Column],
+) -> Result<Vec<Labels>, OutOfMemory>
+    ensures { IfOk result (λ v. v.items ≡ column_keys matching.now columns.now) }
+{
+    let mut found = Vec::new(alloc);
+    for column in columns {
+        found.push(matching_key(matching, &column.labels)?)?;
+    }
+    Ok(found)
+}
+
+fn push_if<'a>(
+    found: &mut Vec<&'a Column>,
+    wanted: bool,
+    column: &'a Column,
+) -> Result<(), OutOfMemory>
+    ensures { OnOk result (map (λ c. c.now) found.new.items ≡ map (λ c. c.now) found.old.items ++ cond wanted (column.now ∷ []) []) }
+{
+    if wanted {
+        found.push(column)?;
+    }
+    Ok(())
+}
+
+/// The columns whose keys, in their order, are a key.
+fn partners<'a>(
+    alloc: Global,
+    key: &Labels,
+    keys: &[Labels],
+    columns: &'a [Column],
+) -> Result<Vec<&'a Column>, OutOfMemory>
+    requires { length keys.now ≡ length columns.now }
+    ensures { IfOk result (λ v. map (λ c. c.now) v.items ≡ partners_by key.now keys.now columns.now) }
+{
+    let mut found = Vec::new(alloc);
+    for i in 0..columns.len() {
+        push_if(&mut found, is_same(key, &keys[i]), &columns[i])?;
+    }
+    Ok(found)
+}
+
+fn both(op: BinaryOp, a: Option<Value>, b: Option<Value>) -> Option<Value>
+    ensures { result ≡ both (between op) a b }
+{
+    match (a, b) {
+        (Some(a), Some(b)) => operated(op, a, a, b),
+        _ => None,
+    }
+}
+
+fn pair_values(
+    alloc: Global,
+    op: BinaryOp,
+    lefts: &[Option<Value>],
+    rights: &[Option<Value>],
+    len: u32,
+) -> Result<Vec<Option<Value>>, OutOfMemory>
+    ensures { IfOk result (λ v. v.items ≡ below (λ k. both (between op) (value_in lefts.now k) (value_in rights.now k)) len) }
+{
+    let mut found = Vec::new(alloc);
+    for i in 0..len {
+        found.push(both(op, value_of(lefts, i), value_of(rights, i)))?;
+    }
+    Ok(found)
+}
+
+/// The column of a pair of columns that match.
+fn pair_column(
+    alloc: Global,
+    op: BinaryOp,
+    matching: &Matching,
+    left: &Column,
+    right: &Column,
+    len: u32,
+) -> Result<Column, OutOfMemory>
+    requires { list_all is_label_name matching.now.include ≡ true }
+    ensures { IfOk result (λ c. c ≡ pair_by (between op) op matching.now len left.now right.now) }
+{
+    let labels = pair_labels(matching, &left.labels, &right.labels)?;
+    Ok(Column {
+        labels: result_labels(op, &labels)?,
+        values: pair_values(alloc, op, &left.values, &right.values, len)?,
+    })
+}
+
+/// Pushes the columns of a left column with some right ones.
+fn push_pairs(
+    found: &mut Vec<Column>,
+    alloc: Global,
+    op: BinaryOp,
+    matching: &Matching,
+    left: &Column,
+    rights: &[&Column],
+    len: u32,
+) -> Result<(), OutOfMemory>
+    requires { list_all is_label_name matching.now.include ≡ true }
+    ensures { OnOk result (found.new.items ≡ found.old.items ++ map (pair_by (between op) op matching.now len left.now) (map (λ c. c.now) rights.now)) }
+{
+    for &right in rights {
+        found.push(pair_column(alloc, op, matching, left, right, len)?)?;
+    }
+    Ok(())
+}
+
+/// The columns of all pairs of columns that match.
+fn zipped(
+    alloc: Global,
+    op: BinaryOp,
+    matching: &Matching,
+    lefts: &[Column],
+    rights: &[Column],
+    len: u32,
+) -> Result<Vec<Column>, OutOfMemory>
+    requires { list_all is_label_name matching.now.include ≡ true }
+    ensures { IfOk result (λ v. v.items ≡ zipped op matching.now len lefts.now rights.now) }
+{
+    let keys = keys_of(alloc, matching, rights)?;
+    let mut found = Vec::new(alloc);
+    for left in lefts {
+        let key = matching_key(matching, &left.labels)?;
+        let others = partners(alloc, &key, &keys, rights)?;
+        push_pairs(&mut found, alloc, op, matching, left, &others, len)?;
+    }
+    Ok(found)
+}
+
+/// Whether some column has a value at a step.
+fn are_there(columns: &[&Column], step: u32) -> bool
+    ensures { result ≡ are_there (map (λ c. c.now) columns.now) step }
+{
+    for &column in columns {
+        if value_of(&column.values, step).is_some() {
+            return true;
+        }
+    }
+    false
+}
+
+fn kept_if(kept: bool, value: Option<Value>) -> Option<Value>
+    ensures { result ≡ kept_if kept value }
+{
+    if kept { value } else { None }
+}
+
+fn is_wanted(wanted: bool, there: bool) -> bool
+    ensures { result ≡ is_wanted wanted there }
+{
+    if wanted { there } else { !there }
+}
+
+/// The values at the steps at which a column has a match, or else has none.
+fn met_values(
+    alloc: Global,
+    wanted: bool,
+    values: &[Option<Value>],
+    others: &[&Column],
+    len: u32,
+) -> Result<Vec<Option<Value>>, OutOfMemory>
+    ensures { IfOk result (λ v. v.items ≡ below (λ k. kept_if (is_wanted wanted (are_there (map (λ c. c.now) others.now) k)) (value_in values.now k)) len) }
+{
+    let mut found = Vec::new(alloc);
+    for i in 0..len {
+        let kept = is_wanted(wanted, are_there(others, i));
+        found.push(kept_if(kept, value_of(values, i)))?;
+    }
+    Ok(found)
+}
+
+/// A column with its values where some column of its matches has one, or else where none has.
+fn met_column(
+    alloc: Global,
+    wanted: bool,
+    column: &Column,
+    matches: &[&Column],
+    len: u32,
+) -> Result<Column, OutOfMemory>
+    ensures { IfOk result (λ c. c ≡ met_among wanted len (map (λ d. d.now) matches.now) column.now) }
+{
+    Ok(Column {
+        labels: column.labels.clone()?,
+        values: met_values(alloc, wanted, &column.values, matches, len)?,
+    })
+}
+
+/// The columns with their values where they have a match among others, or else where they have none.
+fn met(
+    alloc: Global,
+    wanted: bool,
+    matching: &Matching,
+    others: &[Column],
+    columns: &[Column],
+    len: u32,
+) -> Result<Vec<Column>, OutOfMemory>
+    ensures { IfOk result (λ v. v.items ≡ met wanted matching.now len others.now columns.now) }
+{
+    let keys = keys_of(alloc, matching, others)?;
+    let mut found = Vec::new(alloc);
+    for column in columns {
+        let key = matching_key(matching, &column.labels)?;
+        let matches = partners(alloc, &key, &keys, others)?;
+        found.push(met_column(alloc, wanted, column, &matches, len)?)?;
+    }
+    Ok(found)
+}
+
+/// Some columns, and others behind them.
+fn with_more(columns: Vec<Column>, more: Vec<Column>) -> Result<Vec<Column>, OutOfMemory>
+    ensures { IfOk result (λ v. v.items ≡ columns.items ++ more.items) }
+{
+    let mut found = columns;
+    for column in more {
+        found.push(column)?;
+    }
+    Ok(found)
+}
+
+/// The columns of `and`, `or` and `unless`.
+fn set_columns(
+    alloc: Global,
+    sign: Sign,
+    matching: &Matching,
+    lefts: Vec<Column>,
+    rights: &[Column],
+    len: u32,
+) -> Result<Vec<Column>, OutOfMemory>
+    ensures { IfOk result (λ v. v.items ≡ set_columns sign matching.now len lefts.items rights.now) }
+{
+    match sign {
+        Sign::And => met(alloc, true, matching, rights, &lefts, len),
+        Sign::Unless => met(alloc, false, matching, rights, &lefts, len),
+        Sign::Or => {
+            let more = met(alloc, false, matching, &lefts, rights, len)?;
+            with_more(lefts, more)
+        }
+        _ => Ok(Vec::new(alloc)),
+    }
+}
+
+fn is_grouping(side: Side) -> bool
+    ensures { result ≡ is_grouping side }
+{
+    match side {
+        Side::One => false,
+        Side::Left | Side::Right => true,
+    }
+}
+
+fn one_columns<'a>(side: Side, lefts: &'a [Column], rights: &'a [Column]) -> &'a [Column]
+    ensures { result.now ≡ one_columns side lefts.now rights.now }
+{
+    match side {
+        Side::One | Side::Left => rights,
+        Side::Right => lefts,
+    }
+}
+
+fn labels_of(alloc: Global, columns: &[Column]) -> Result<Vec<Labels>, OutOfMemory>
+    ensures { IfOk result (λ v. v.items ≡ columns_labels columns.now) }
+{
+    let mut found = Vec::new(alloc);
+    for column in columns {
+        found.push(column.labels.clone()?)?;
+    }
+    Ok(found)
+}
+
+/// Whether the columns' labels alone show that no step has an error of matching.
+fn are_single(
+    alloc: Global,
+    matching: &Matching,
+    lefts: &[Column],
+    rights: &[Column],
+    pairs: &[Column],
+) -> Result<bool, OutOfMemory>
+    ensures { IfOk result (λ b. b ≡ are_single matching.now lefts.now rights.now pairs.now) }
+{
+    let keys = keys_of(alloc, matching, one_columns(matching.side, lefts, rights))?;
+    if has_equal(&keys) {
+        return Ok(false);
+    }
+    let others = if is_grouping(matching.side) {
+        labels_of(alloc, pairs)?
+    } else {
+        keys_of(alloc, matching, lefts)?
+    };
+    Ok(!has_equal(&others))
+}
+
+/// The error of an operator at a step.
+fn join_kind(
+    alloc: Global,
+    op: BinaryOp,
+    matching: &Matching,
+    left: StepCell,
+    right: StepCell,
+) -> Result<Option<ErrorKind>, OutOfMemory>
+    requires { list_all is_label_name matching.now.include ≡ true }
+    ensures { IfOk result (λ o. o ≡ kind_of (operation op matching.now (of_cell left) (of_cell right))) }
+{
+    match (left, right) {
+        (StepCell::Bad(kind), _) => Ok(Some(kind)),
+        (StepCell::Good(_), StepCell::Bad(kind)) => Ok(Some(kind)),
+        (StepCell::Good(left), StepCell::Good(right)) => {
+            match join(alloc, op, matching, &left.elements, &right.elements)? {
+                StepCell::Bad(kind) => Ok(Some(kind)),
+                StepCell::Good(_) => Ok(None),
+            }
+        }
+    }
+}
+
+/// The errors of an operator, from each step's elements.
+fn join_kinds(
+    alloc: Global,
+    op: BinaryOp,
+    matching: &Matching,
+    left: &StepCells,
+    right: &StepCells,
+    len: u32,
+) -> Result<Vec<Option<ErrorKind>>, OutOfMemory>
+    requires { list_all is_label_name matching.now.include ≡ true }
+    ensures { IfOk result (λ v. v.items ≡ below (λ k. kind_of (operation op matching.now (of_cell (step_at left.now k)) (of_cell (step_at right.now k)))) len) }
+{
+    let mut found = Vec::new(alloc);
+    for i in 0..len {
+        let kind = join_kind(
+            alloc,
+            op,
+            matching,
+            left.step(alloc, i)?,
+            right.step(alloc, i)?,
+        )?;
+        found.push(kind)?;
+    }
+    Ok(found)
+}
+
+/// The errors of arithmetic or a comparison, whose columns are these.
+fn pair_bads(
+    alloc: Global,
+    op: BinaryOp,
+    matching: &Matching,
+    left: StepCells,
+    right: StepCells,
+    pairs: &[Column],
+    len: u32,
+) -> Result<Vec<Option<ErrorKind>>, OutOfMemory>
+    requires named { list_all is_label_name matching.now.include ≡ true }
+    requires paired { is_set_sign op.sign ≡ false }
+    requires pairs { pairs.now ≡ zipped op matching.now len left.columns right.columns }
+    ensures { IfOk result (λ v. (k : ℕ) → k < len → of_cell (unless_bad (bad_in v.items k) (cell_of (cell_at pairs.now k))) ≡ operation op matching.now (of_cell (step_at left k)) (of_cell (step_at right k))) }
+{
+    if are_single(alloc, matching, &left.columns, &right.columns, pairs)? {
+        let found = first_bads(alloc, left.bads, right.bads, len)?;
+        return Ok(found);
+    }
+    let found = join_kinds(alloc, op, matching, &left, &right, len)?;
+    Ok(found)
+}
+
+fn is_set_sign(sign: Sign) -> bool
+    ensures { result ≡ is_set_sign sign }
+{
+    matches!(sign, Sign::And | Sign::Or | Sign::Unless)
+}
+
+/// `and`, `or` or `unless` between two vectors.
+fn set_operation(
+    alloc: Global,
+    op: BinaryOp,
+    matching: &Matching,
+    left: StepCells,
+    right: StepCells,
+    len: u32,
+) -> Result<StepCells, OutOfMemory>
+    requires { is_set_sign op.sign ≡ true }
+    ensures { IfOk result (λ s. (k : ℕ) → k < len → of_cell (step_at s k) ≡ operation op matching.now (of_cell (step_at left k)) (of_cell (step_at right k))) }
+{
+    let bads = first_bads(alloc, left.bads, right.bads, len)?;
+    let columns = set_columns(alloc, op.sign, matching, left.columns, &right.columns, len)?;
+    let found = normalised(alloc, columns, bads, len)?;
+    Ok(found)
+}
+
+/// Arithmetic or a comparison between two vectors.
+fn pair_operation(
+    alloc: Global,
+    op: BinaryOp,
+    matching: &Matching,
+    left: StepCells,
+    right: StepCells,
+    len: u32,
+) -> Result<StepCells, OutOfMemory>
+    requires named { list_all is_label_name matching.now.include ≡ true }
+    requires paired { is_set_sign op.sign ≡ false }
+    ensures { IfOk result (λ s. (k : ℕ) → k < len → of_cell (step_at s k) ≡ operation op matching.now (of_cell (step_at left k)) (of_cell (step_at right k))) }
+{
+    let pairs = zipped(alloc, op, matching, &left.columns, &right.columns, len)?;
+    let bads = pair_bads(alloc, op, matching, left, right, &pairs, len)?;
+    let found = normalised(alloc, pairs, bads, len)?;
+    Ok(found)
+}
+
+/// An operator between two vectors. Of two errors of a step the left one comes.
+pub(crate) fn joined(
+    alloc: Global,
+    op: BinaryOp,
+    matching: &Matching,
+    left: StepCells,
+    right: StepCells,
+    len: u32,
+) -> Result<StepCells, OutOfMemory>
+    requires { list_all is_label_name matching.now.include ≡ true }
+    ensures { IfOk result (λ s. (k : ℕ) → k < len → of_cell (step_at s k) ≡ operation op matching.now (of_cell (step_at left k)) (of_cell (step_at right k))) }
+{
+    if is_set_sign(op.sign) {
+        let found = set_operation(alloc, op, matching, left, right, len)?;
+        return Ok(found);
+    }
+    let found = pair_operation(alloc, op, matching, left, right, len)?;
+    Ok(found)
+}
