@@ -4,6 +4,7 @@ use Rattle.std.proofs.Common.{◌≡◌, ◌<◌, ℕ, ℤ, Bool, true, false, c
 use Rattle.std.specs.List.{filter, list_any}
 use Rattle.std.proofs.lemmas.List.{map-append}
 use Rattle.pf_base.specs.LabelSets.{Pairs}
+use Rattle.pf_base.specs.Sorting.{isort}
 use Rattle.pf_model.specs.declared.cell.Element.{Element}
 use Rattle.pf_model.specs.declared.cell.ErrorKind.{ErrorKind}
 use Rattle.pf_model.specs.declared.cell.ErrorKind.TheVariants.{DoubleOnOneSide, ManyToMany, GroupingNotUnique}
@@ -24,8 +25,10 @@ use Rattle.pf_columns.specs.Columns.{ColumnData, cell_at, columns_labels, value_
 use Rattle.pf_columns.specs.Steps.{unless_bad}
 use Rattle.pf_columns.proofs.Below.{in_below}
 use Rattle.pf_eval.specs.Nodes.{first_of}
-use Rattle.pf_eval.specs.Results.{labels_of_pair}
-use Rattle.pf_eval.specs.Zipped.{are_single, are_there, between, both, column_keys, is_set_sign, is_there, is_wanted, kept_if, kind_of, met, one_columns, pair_by, partners, partners_by, set_columns, zipped, zipped_by, zipped_with}
+use Rattle.pf_join.specs.KeyPlaces.{place_cmp, placed, places_with, those_at}
+use Rattle.pf_join.specs.Results.{labels_of_pair}
+use Rattle.pf_join.proofs.OfOneKey.{those_found}
+use Rattle.pf_eval.specs.Zipped.{are_single, are_there, between, both, column_keys, is_set_sign, is_there, is_wanted, kept_if, kind_of, met, one_columns, pair_by, partners, set_columns, zipped, zipped_by, zipped_with}
 
 abbrev with_side : Side → Matched → Matched
 with_side s m = record { on = m.on; labels = m.labels; side = s; include = m.include }
@@ -42,10 +45,9 @@ joined_append : {X Y : Type 0} (f : X → List Y) (xs ys : List X) → joined f 
 joined_append f [] ys = refl
 joined_append f (x ∷ xs) ys = ap (λ zs. f x ++ zs) (joined_append f xs ys) ∙ sym (append_assoc (f x) (joined f xs) (joined f ys))
 
--- the partners of a key, from the keys of all columns
-pub partners_are : (m : Matched) (key : Pairs) (cs : List ColumnData) → partners_by key (column_keys m cs) cs ≡ partners m key cs
-partners_are m key [] = refl
-partners_are m key (c ∷ cs) = ap (λ zs. cond (same_labels key (matching_key m c.labels)) (c ∷ zs) zs) (partners_are m key cs)
+-- the partners of a key, found by the places of the keys of all columns
+pub partners_found : (m : Matched) (key : Pairs) (cs : List ColumnData) → those_at cs (places_with key (isort place_cmp (placed 0 (column_keys m cs)))) ≡ partners m key cs
+partners_found m key cs = those_found (λ c. matching_key m c.labels) key cs
 
 module _ (f : ℤ → ℤ → Option ℤ) (op : BinaryOp) (m : Matched) (n k : ℕ) (h : k < n) where
   abbrev pub result : Pair → List Element

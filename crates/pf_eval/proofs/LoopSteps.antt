@@ -1,11 +1,10 @@
 -- Loops that make one list of another, a step on.
-use Rattle.std.proofs.Common.{◌≡◌, ◌<◌, ℕ, ◌+◌, Bool, true, false, cond, List, [], ◌∷◌, ◌++◌, map, drop, length, get_or, sym, ap, ◌∙◌, subst, append_assoc}
+use Rattle.std.proofs.Common.{◌≡◌, ◌<◌, ℕ, zero, suc, ◌+◌, true, false, ◌≤◌, nat_lt, slice_index_or, arith, List, [], ◌∷◌, ◌++◌, map, drop, length, get_or, refl, sym, ap, ◌∙◌, append_assoc}
+use Rattle.std.specs.List.{slice_get}
+use Rattle.std.proofs.lemmas.Bool.Decides.{nat_tests}
 use Rattle.std.proofs.lemmas.List.{drop_more}
-use Rattle.pf_base.specs.LabelSets.{Pairs}
+use Rattle.pf_join.specs.KeyPlaces.{one_of}
 use Rattle.pf_model.specs.Lists.{joined}
-use Rattle.pf_model.specs.Selection.{same_labels}
-use Rattle.pf_columns.specs.Columns.{ColumnData}
-use Rattle.pf_eval.specs.Zipped.{partners_by}
 
 next : {X : Type 0} (xs : List X) (i : ℕ) (x : X) → i < length xs → x ≡ get_or xs i x → drop i xs ≡ x ∷ drop (i + 1) xs
 next xs i x lt e = drop_more xs i x lt ∙ ap (λ y. y ∷ drop (i + 1) xs) (sym e)
@@ -22,15 +21,25 @@ map_more f xs i x found after lt e a h =
     ap (λ ys. ys ++ map f (drop (i + 1) xs)) a ∙ append_assoc found (f x ∷ []) (map f (drop (i + 1) xs))
     ∙ ap (λ ys. found ++ map f ys) (sym (next xs i x lt e)) ∙ h
 
-picked : {X : Type 0} (b : Bool) (x : X) (found rest : List X) → (found ++ cond b (x ∷ []) []) ++ rest ≡ found ++ cond b (x ∷ rest) rest
-picked true x found rest = append_assoc found (x ∷ []) rest
-picked false x found rest = append_assoc found [] rest
+-- ---- what stands at a place
 
-pub partner_more : (key : Pairs) (ks : List Pairs) (cs : List ColumnData) (i : ℕ) (k : Pairs) (c : ColumnData) (found after : List ColumnData)
-    → length ks ≡ length cs → i < length cs → k ≡ get_or ks i k → c ≡ get_or cs i c → after ≡ found ++ cond (same_labels key k) (c ∷ []) []
-    → found ++ partners_by key (drop i ks) (drop i cs) ≡ partners_by key ks cs
-    → after ++ partners_by key (drop (i + 1) ks) (drop (i + 1) cs) ≡ partners_by key ks cs
-partner_more key ks cs i k c found after many lt ek ec a h =
-    let rest = partners_by key (drop (i + 1) ks) (drop (i + 1) cs) in
-    ap (λ ys. ys ++ rest) a ∙ picked (same_labels key k) c found rest
-    ∙ (λ j. found ++ partners_by key (sym (next ks i k (subst (λ n. i < n) (sym many) lt) ek) j) (sym (next cs i c lt ec) j)) ∙ h
+one_by : {X : Type 0} (xs : List X) (i : ℕ) (x : X) → i < length xs → x ≡ slice_index_or xs i x → x ∷ [] ≡ one_of (slice_get xs i)
+one_by [] i x h e = absurd (omega (arith, h))
+one_by (y ∷ ys) zero x h e = ap (λ z. z ∷ []) e
+one_by (y ∷ ys) (suc i) x h e = one_by ys i x (omega (arith, h)) e
+
+none_by : {X : Type 0} (xs : List X) (i : ℕ) → length xs ≤ i → [] ≡ one_of (slice_get xs i)
+none_by [] zero h = refl
+none_by [] (suc i) h = refl
+none_by (y ∷ ys) zero h = absurd (omega (arith, h))
+none_by (y ∷ ys) (suc i) h = none_by ys i (omega (arith, h))
+
+pub one_there : {X : Type 0} (xs : List X) (i : ℕ) (x : X) → true ≡ nat_lt i (length xs) → x ≡ slice_index_or xs i x → x ∷ [] ≡ one_of (slice_get xs i)
+one_there xs i x h e = let within : i < length xs = grind (arith, nat_tests, h) in one_by xs i x within e
+
+pub none_there : {X : Type 0} (xs : List X) (i : ℕ) → false ≡ nat_lt i (length xs) → [] ≡ one_of (slice_get xs i)
+none_there xs i h = let behind : length xs ≤ i = grind (arith, nat_tests, h) in none_by xs i behind
+
+pub with_none : {X : Type 0} (xs none : List X) → [] ≡ none → xs ≡ xs ++ none
+with_none [] none e = e
+with_none (x ∷ xs) none e = ap (λ ys. x ∷ ys) (with_none xs none e)

@@ -11,7 +11,7 @@ use Rattle.pf_model.specs.Built.{are_near, is_distance, is_time}
 use Rattle.pf_model.specs.Evaluation.{fixed_time, read_time}
 use Rattle.pf_range.specs.Windows.{IsTime}
 use Rattle.pf_selectors.specs.declared.times.Times.{Times}
-use Rattle.pf_selectors.specs.Times.{AreTimes, time_at}
+use Rattle.pf_selectors.specs.Times.{AreStarts, AreTimes, time_at}
 use Rattle.pf_eval.specs.Bound.{IsMoment, IsRun}
 use Rattle.pf_eval.proofs.BoundLists.{two_true}
 
@@ -79,3 +79,9 @@ pub all_within : (m : Mods) (read times : Times) → are_near m ≡ true → IsR
 all_within m read times n r e h = λ k l.
     let below : k < times.len = subst (λ len. k < len) e l in
     subst IsTime (sym (h k below)) (read_within m (time_at times k) n (r.all k below))
+
+pub starts_within : (m : Mods) (read times : Times) (range : ℕ) → are_near m ≡ true → IsRun times → is_distance range ≡ true → read.len ≡ times.len
+    → ((k : ℕ) → k < times.len → time_at read k ≡ read_time m (time_at times k)) → AreStarts range read
+starts_within m read times range n r d e h = λ k l.
+    let below : k < times.len = subst (λ len. k < len) e l in
+    subst (λ t. IsTime (t -ℤ pos range)) (sym (h k below)) (start_within m (time_at times k) range n (r.all k below) (near_by range d))

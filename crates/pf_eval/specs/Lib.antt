@@ -1,10 +1,3 @@
 pub mod Bound
-pub mod Built
-pub mod Elementwise
-pub mod GroupValues
-pub mod Newest
 pub mod Nodes
-pub mod Results
-pub mod Seen
-pub mod SeriesRows
 pub mod Zipped

@@ -16,7 +16,7 @@ use Rattle.pf_model.specs.Merging.{below}
 use Rattle.pf_model.specs.Outcomes.{Outcome, bad}
 use Rattle.pf_model.specs.Selection.{same_labels}
 use Rattle.pf_columns.specs.Columns.{ColumnData, columns_labels, value_in}
-use Rattle.pf_eval.specs.Results.{labels_of_pair}
+use Rattle.pf_join.specs.Results.{labels_of_pair}
 
 abbrev pub column_keys : Matched → List ColumnData → List Pairs
 column_keys m cs = map (λ c. matching_key m c.labels) cs
@@ -24,11 +24,6 @@ column_keys m cs = map (λ c. matching_key m c.labels) cs
 -- the columns that match a key
 abbrev pub partners : Matched → Pairs → List ColumnData → List ColumnData
 partners m key cs = filter (λ c. same_labels key (matching_key m c.labels)) cs
-
-abbrev pub partners_by : Pairs → List Pairs → List ColumnData → List ColumnData
-partners_by key [] cs = []
-partners_by key (k ∷ ks) [] = []
-partners_by key (k ∷ ks) (c ∷ cs) = cond (same_labels key k) (c ∷ partners_by key ks cs) (partners_by key ks cs)
 
 -- a function of two values, where both are there
 abbrev pub both : (ℤ → ℤ → Option ℤ) → Option ℤ → Option ℤ → Option ℤ

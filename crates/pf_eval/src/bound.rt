@@ -5,12 +5,12 @@ ghost use Rattle.pf_base.specs.declared.plain.Row.{Row};
 ghost use Rattle.pf_base.specs.Grids.{points};
 ghost use Rattle.pf_model.specs.declared.cell.ErrorKind.{ErrorKind};
 ghost use Rattle.pf_model.specs.Binding.{bound_series};
-ghost use Rattle.pf_model.specs.Built.{are_evaluated, is_evaluated};
+ghost use Rattle.pf_model.specs.Built.{are_evaluated, is_called, is_evaluated};
 ghost use Rattle.pf_model.specs.Direct.{answered, evaluated, failed, gathered};
 ghost use Rattle.pf_model.specs.Evaluation.{eval};
 ghost use Rattle.pf_model.specs.Log.{AreApart};
 ghost use Rattle.pf_model.specs.Outcomes.{step_cell};
-ghost use Rattle.pf_model.specs.Trees.{binary, tree_of, trees_of};
+ghost use Rattle.pf_model.specs.Trees.{binary, call, more, none, tree_of, trees_of};
 ghost use Rattle.pf_store.specs.Standing.{StandsFor};
 ghost use Rattle.pf_columns.specs.Steps.{step_at};
 ghost use Rattle.pf_selectors.specs.Times.{time_at};
@@ -21,12 +21,12 @@ use crate::aggregation::aggregation;
 use crate::change::signed;
 use crate::node::{Node, number};
 use crate::operation::operation;
-use crate::reading::selection;
+use crate::reading::{over_selector, selection};
 use pf_base::{Grid, Labels, OutOfMemory};
 use pf_block::Snap;
 use pf_columns::{Column, StepCells};
 use pf_matrix::Matrix;
-use pf_model::{BinaryOp, ErrorKind, Expr, Matching};
+use pf_model::{BinaryOp, ErrorKind, Expr, Function, Matching};
 use pf_selectors::Times;
 use std::alloc::Global;
 
@@ -125,6 +125,65 @@ fn asks_right(
         → last ≡ behind (series_in (tree_of query.now) snap.now.labels) (map (λ v. v.items) series.now) }
 {}
 
+/// What a function of a selector is.
+fn over_argument<'a>(
+    alloc: Global,
+    function: Function,
+    arg: &Expr,
+    snap: &Snap,
+    series: &'a [Vec<u32>],
+    times: &Times,
+) -> Result<Found<'a>, OutOfMemory>
+    requires evaluated { is_called function (more (tree_of arg.now) none) ≡ true }
+    requires bound { Begins (series_in (tree_of arg.now) snap.now.labels) (map (λ v. v.items) series.now) }
+    requires run { IsRun times.now }
+    ensures rest { IfOk result (λ f. map (λ v. v.items) f.rest.now ≡ behind (series_in (tree_of arg.now) snap.now.labels) (map (λ v. v.items) series.now)) }
+    ensures node { IfOk result (λ f. (samples : List Row) → StandsFor snap.now samples → AreApart samples → (k : ℕ) → k < times.now.len
+        → node_at f.node k ≡ meant samples (call function (more (tree_of arg.now) none)) (time_at times.now k)) }
+{
+    match arg {
+        Expr::Select {
+            selector,
+            range,
+            mods,
+        } => {
+            let list = take_first(series);
+            let node = over_selector(
+                alloc, function, selector, *range, snap, list.ids, *mods, times,
+            )?;
+            Ok(Found {
+                node,
+                rest: list.rest,
+            })
+        }
+        _ => unreachable!(),
+    }
+}
+
+/// What a call is.
+#[tactic(auto, using(crate::proofs::OneArgument::called_one, crate::proofs::OneArgument::one_tree))]
+fn called<'a>(
+    alloc: Global,
+    function: Function,
+    args: &[Expr],
+    snap: &Snap,
+    series: &'a [Vec<u32>],
+    times: &Times,
+) -> Result<Found<'a>, OutOfMemory>
+    requires evaluated { is_called function (trees_of (map tree_of args.now)) ≡ true }
+    requires bound { Begins (all_series_in (trees_of (map tree_of args.now)) snap.now.labels) (map (λ v. v.items) series.now) }
+    requires run { IsRun times.now }
+    ensures rest { IfOk result (λ f. map (λ v. v.items) f.rest.now ≡ behind (all_series_in (trees_of (map tree_of args.now)) snap.now.labels) (map (λ v. v.items) series.now)) }
+    ensures node { IfOk result (λ f. (samples : List Row) → StandsFor snap.now samples → AreApart samples → (k : ℕ) → k < times.now.len
+        → node_at f.node k ≡ meant samples (call function (trees_of (map tree_of args.now))) (time_at times.now k)) }
+{
+    if args.len() != 1 {
+        unreachable!()
+    }
+    let found = over_argument(alloc, function, &args[0], snap, series, times)?;
+    Ok(found)
+}
+
 /// What the arguments of a node are over a run.
 #[cycle(nodes)]
 fn nodes_of<'a>(
@@ -206,6 +265,10 @@ fn node_of<'a>(
                 node,
                 rest: found.rest,
             })
+        }
+        Expr::Call { function, args } => {
+            let found = called(alloc, *function, args, snap, series, times)?;
+            Ok(found)
         }
         Expr::Select {
             selector: _,

@@ -1,12 +1,14 @@
 //! The queries that are evaluated.
 
 ghost use Rattle.std.specs.Prelude.{◌≡◌, map};
-ghost use Rattle.pf_model.specs.Built.{are_evaluated, are_near, has_one_value, is_evaluated, is_one, is_time};
-ghost use Rattle.pf_model.specs.Trees.{tree_of, trees_of};
+ghost use Rattle.std.specs.List.{list_all};
+ghost use Rattle.pf_base.specs.LabelSets.{is_label_name};
+ghost use Rattle.pf_model.specs.Built.{are_evaluated, are_near, has_one_value, is_called, is_evaluated, is_of_selector, is_one, is_time};
+ghost use Rattle.pf_model.specs.Trees.{more, none, tree_of, trees_of};
 
-use crate::plain::are_label_names;
-use pf_base::MAXT;
-use pf_model::{AggOp, At, Expr, Mods};
+use pf_base::{MAXT, Text, is_label_name};
+use pf_math::has_label_names;
+use pf_model::{AggOp, At, Expr, Function, InstantFn, Mods, Selector};
 
 fn is_time(at: Option<At>) -> bool
     ensures { result ≡ is_time at }
@@ -23,6 +25,12 @@ fn are_near(mods: Mods) -> bool
     is_time(mods.at) && mods.offset.unsigned_abs() <= MAXT
 }
 
+fn are_label_names(names: &[Text]) -> bool
+    ensures { result ≡ list_all is_label_name names.now }
+{
+    names.iter().all(|name| is_label_name(name.as_str()))
+}
+
 fn has_one_value(op: AggOp) -> bool
     ensures { result ≡ has_one_value op }
 {
@@ -37,6 +45,43 @@ fn is_one(args: &[Expr]) -> bool
     ensures { result ≡ is_one (trees_of (map tree_of args.now)) }
 {
     args.len() == 1
+}
+
+fn is_of_selector(function: Function, selector: &Selector, range: Option<u64>, mods: Mods) -> bool
+    ensures { result ≡ is_of_selector function selector.now range mods }
+{
+    match (function, range) {
+        (Function::Range(_), Some(range)) => {
+            has_label_names(selector) && range <= MAXT && are_near(mods)
+        }
+        (Function::Instant(InstantFn::Timestamp), None) => are_near(mods),
+        _ => false,
+    }
+}
+
+fn is_called_with(function: Function, arg: &Expr) -> bool
+    ensures { result ≡ is_called function (more (tree_of arg.now) none) }
+{
+    match arg {
+        Expr::Number { .. } => false,
+        Expr::Text { .. } => false,
+        Expr::Unary { .. } => false,
+        Expr::Binary { .. } => false,
+        Expr::Call { .. } => false,
+        Expr::Aggregate { .. } => false,
+        Expr::Select {
+            selector,
+            range,
+            mods,
+        } => is_of_selector(function, selector, *range, *mods),
+        Expr::Subquery { .. } => false,
+    }
+}
+
+fn is_called(function: Function, args: &[Expr]) -> bool
+    ensures { result ≡ is_called function (trees_of (map tree_of args.now)) }
+{
+    args.len() == 1 && is_called_with(function, &args[0])
 }
 
 #[cycle(built)]
@@ -66,7 +111,7 @@ pub fn is_evaluated(expr: &Expr) -> bool
             right,
             ..
         } => are_label_names(&matching.include) && is_evaluated(left) && is_evaluated(right),
-        Expr::Call { .. } => false,
+        Expr::Call { function, args } => is_called(*function, args),
         Expr::Aggregate { op, args, .. } => {
             has_one_value(*op) && is_one(args) && are_evaluated(args)
         }

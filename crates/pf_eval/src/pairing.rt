@@ -1,21 +1,22 @@
 //! Operators between two vectors over a run of steps: columns are matched once, and values step by step.
 
-ghost use Rattle.std.specs.Prelude.{◌≡◌, ◌∷◌, ◌++◌, ◌<◌, ℕ, [], true, false, cond, length, map, IfOk, OnOk};
-ghost use Rattle.std.specs.List.{list_all};
+ghost use Rattle.std.specs.Prelude.{◌≡◌, ◌∷◌, ◌++◌, ◌<◌, ℕ, [], true, false, map, IfOk, OnOk};
+ghost use Rattle.std.specs.List.{list_all, slice_get};
 ghost use Rattle.pf_base.specs.LabelSets.{is_label_name};
+ghost use Rattle.pf_base.specs.Sorting.{isort};
 ghost use Rattle.pf_model.specs.Cells.{cell_of};
-ghost use Rattle.pf_model.specs.Matching.{is_grouping};
+ghost use Rattle.pf_model.specs.Matching.{is_grouping, matching_key};
 ghost use Rattle.pf_model.specs.Merging.{below};
 ghost use Rattle.pf_model.specs.Outcomes.{of_cell, operation};
 ghost use Rattle.pf_columns.specs.Columns.{cell_at, columns_labels, value_in};
 ghost use Rattle.pf_columns.specs.Steps.{bad_in, step_at, unless_bad};
-ghost use Rattle.pf_eval.specs.Zipped.{are_single, are_there, between, both, column_keys, is_set_sign, is_wanted, kept_if, kind_of, met, met_among, one_columns, pair_by, partners_by, set_columns, zipped};
+ghost use Rattle.pf_join.specs.KeyPlaces.{one_of, place_cmp, placed, those_at};
+ghost use Rattle.pf_eval.specs.Zipped.{are_single, are_there, between, both, column_keys, is_set_sign, is_wanted, kept_if, kind_of, met, met_among, one_columns, pair_by, partners, set_columns, zipped};
 
 use crate::node::{first_bads, value_of};
-use crate::plain::cells::{has_equal, is_same};
-use crate::plain::join::{join, matching_key, pair_labels};
 use pf_base::{Labels, OutOfMemory, Value};
 use pf_columns::{Column, StepCells, normalised};
+use pf_join::{KeyPlace, KeyPlaces, has_equal, join, matching_key, pair_labels};
 use pf_math::{operated, result_labels};
 use pf_model::{BinaryOp, ErrorKind, Matching, Side, Sign, StepCell};
 use std::alloc::Global;
@@ -35,33 +36,62 @@ fn keys_of(
     Ok(found)
 }
 
-fn push_if<'a>(
+/// Pushes the column at a place.
+fn push_at<'a>(
     found: &mut Vec<&'a Column>,
-    wanted: bool,
-    column: &'a Column,
+    columns: &'a [Column],
+    place: usize,
 ) -> Result<(), OutOfMemory>
-    ensures { OnOk result (map (λ c. c.now) found.new.items ≡ map (λ c. c.now) found.old.items ++ cond wanted (column.now ∷ []) []) }
+    ensures { OnOk result (map (λ c. c.now) found.new.items ≡ map (λ c. c.now) found.old.items ++ one_of (slice_get columns.now place)) }
 {
-    if wanted {
+    if let Some(column) = columns.get(place) {
         found.push(column)?;
     }
     Ok(())
 }
 
-/// The columns whose keys, in their order, are a key.
-fn partners<'a>(
+/// The columns at some places.
+fn columns_at<'a>(
     alloc: Global,
-    key: &Labels,
-    keys: &[Labels],
+    places: &[KeyPlace],
     columns: &'a [Column],
 ) -> Result<Vec<&'a Column>, OutOfMemory>
-    requires { length keys.now ≡ length columns.now }
-    ensures { IfOk result (λ v. map (λ c. c.now) v.items ≡ partners_by key.now keys.now columns.now) }
+    ensures { IfOk result (λ v. map (λ c. c.now) v.items ≡ those_at columns.now places.now) }
 {
     let mut found = Vec::new(alloc);
-    for i in 0..columns.len() {
-        push_if(&mut found, is_same(key, &keys[i]), &columns[i])?;
+    for place in places {
+        push_at(&mut found, columns, place.place)?;
     }
+    Ok(found)
+}
+
+/// The places of columns by their keys.
+fn places_of(
+    alloc: Global,
+    matching: &Matching,
+    columns: &[Column],
+) -> Result<KeyPlaces, OutOfMemory>
+    ensures { IfOk result (λ x. x ≡ isort place_cmp (placed 0 (column_keys matching.now columns.now))) }
+{
+    let keys = keys_of(alloc, matching, columns)?;
+    let found = KeyPlaces::of(alloc, keys)?;
+    Ok(found)
+}
+
+/// The columns that match a label set, whose places by their keys are these.
+#[tactic(auto, using(crate::proofs::JoinedCells::partners_found))]
+fn partners<'a>(
+    alloc: Global,
+    matching: &Matching,
+    labels: &Labels,
+    places: &KeyPlaces,
+    columns: &'a [Column],
+) -> Result<Vec<&'a Column>, OutOfMemory>
+    requires { places.now ≡ isort place_cmp (placed 0 (column_keys matching.now columns.now)) }
+    ensures { IfOk result (λ v. map (λ c. c.now) v.items ≡ partners matching.now (matching_key matching.now labels.now) columns.now) }
+{
+    let key = matching_key(matching, labels)?;
+    let found = columns_at(alloc, places.with_key(&key), columns)?;
     Ok(found)
 }
 
@@ -140,11 +170,10 @@ fn zipped(
     requires { list_all is_label_name matching.now.include ≡ true }
     ensures { IfOk result (λ v. v.items ≡ zipped op matching.now len lefts.now rights.now) }
 {
-    let keys = keys_of(alloc, matching, rights)?;
+    let places = places_of(alloc, matching, rights)?;
     let mut found = Vec::new(alloc);
     for left in lefts {
-        let key = matching_key(matching, &left.labels)?;
-        let others = partners(alloc, &key, &keys, rights)?;
+        let others = partners(alloc, matching, &left.labels, &places, rights)?;
         push_pairs(&mut found, alloc, op, matching, left, &others, len)?;
     }
     Ok(found)
@@ -219,11 +248,10 @@ fn met(
 ) -> Result<Vec<Column>, OutOfMemory>
     ensures { IfOk result (λ v. v.items ≡ met wanted matching.now len others.now columns.now) }
 {
-    let keys = keys_of(alloc, matching, others)?;
+    let places = places_of(alloc, matching, others)?;
     let mut found = Vec::new(alloc);
     for column in columns {
-        let key = matching_key(matching, &column.labels)?;
-        let matches = partners(alloc, &key, &keys, others)?;
+        let matches = partners(alloc, matching, &column.labels, &places, others)?;
         found.push(met_column(alloc, wanted, column, &matches, len)?)?;
     }
     Ok(found)
@@ -301,7 +329,7 @@ fn are_single(
     ensures { IfOk result (λ b. b ≡ are_single matching.now lefts.now rights.now pairs.now) }
 {
     let keys = keys_of(alloc, matching, one_columns(matching.side, lefts, rights))?;
-    if has_equal(&keys) {
+    if has_equal(keys)? {
         return Ok(false);
     }
     let others = if is_grouping(matching.side) {
@@ -309,7 +337,7 @@ fn are_single(
     } else {
         keys_of(alloc, matching, lefts)?
     };
-    Ok(!has_equal(&others))
+    Ok(!has_equal(others)?)
 }
 
 /// The error of an operator at a step.
@@ -327,7 +355,7 @@ fn join_kind(
         (StepCell::Bad(kind), _) => Ok(Some(kind)),
         (StepCell::Good(_), StepCell::Bad(kind)) => Ok(Some(kind)),
         (StepCell::Good(left), StepCell::Good(right)) => {
-            match join(alloc, op, matching, &left.elements, &right.elements)? {
+            match join(alloc, op, matching, &left, &right)? {
                 StepCell::Bad(kind) => Ok(Some(kind)),
                 StepCell::Good(_) => Ok(None),
             }

@@ -1,23 +1,29 @@
 //! What selectors read over a run of steps.
 
-ghost use Rattle.std.specs.Prelude.{◌≡◌, ◌<◌, ◌≤◌, ◌-ℤ◌, ℕ, ℤ, pos, true, List, Some, length, IfOk, MatchOption};
-ghost use Rattle.std.specs.List.{All};
+ghost use Rattle.std.specs.Prelude.{◌≡◌, ◌<◌, ◌≤◌, ◌∷◌, ◌-ℤ◌, ℕ, ℤ, pos, true, List, [], Some, length, map, IfOk, MatchOption};
+ghost use Rattle.std.specs.List.{All, list_all};
 ghost use Rattle.pf_base.specs.declared.plain.Row.{Row};
+ghost use Rattle.pf_base.specs.LabelSets.{is_label_name};
 ghost use Rattle.pf_model.specs.declared.expr.Matcher.{Matcher};
 ghost use Rattle.pf_model.specs.Binding.{accepted_ids};
-ghost use Rattle.pf_model.specs.Built.{are_near};
-ghost use Rattle.pf_model.specs.Evaluation.{fixed_time, read_time, selected};
-ghost use Rattle.pf_model.specs.Outcomes.{elements};
+ghost use Rattle.pf_model.specs.Built.{are_near, is_distance, is_of_selector, name_labels};
+ghost use Rattle.pf_model.specs.Cells.{cell_of};
+ghost use Rattle.pf_model.specs.Evaluation.{fixed_time, read_time, selected, selection, timed};
+ghost use Rattle.pf_model.specs.InstantFunctions.{absent_labels, each_value};
+ghost use Rattle.pf_model.specs.Log.{AreApart};
+ghost use Rattle.pf_model.specs.Outcomes.{elements, of_cell, range_call};
+ghost use Rattle.pf_model.specs.Trees.{call, more, none, select};
 ghost use Rattle.pf_store.specs.Standing.{StandsFor};
-ghost use Rattle.pf_selectors.specs.Times.{AreTimes, time_at};
+ghost use Rattle.pf_selectors.specs.Times.{AreStarts, AreTimes, time_at};
 ghost use Rattle.pf_eval.specs.Bound.{IsMoment, IsRun};
-ghost use Rattle.pf_eval.specs.Nodes.{node_at};
+ghost use Rattle.pf_eval.specs.Nodes.{meant, node_at};
 
 use crate::node::Node;
 use pf_base::OutOfMemory;
 use pf_block::Snap;
-use pf_model::{At, Mods};
-use pf_selectors::{Times, selected};
+use pf_math::absent_labels;
+use pf_model::{At, Function, InstantFn, Mods, RangeFn, Selector};
+use pf_selectors::{Times, ranged, sample_times, selected};
 use std::alloc::Global;
 
 /// The time that `@` fixes, if it fixes one.
@@ -94,4 +100,110 @@ pub(crate) fn selection(
     let read = read_times(mods, times);
     let found = selected(alloc, snap, ids, &read)?;
     Ok(Node::Vector(found))
+}
+
+/// What a function of a range selector gives, at the times that the selector reads at.
+fn over_windows(
+    alloc: Global,
+    f: RangeFn,
+    selector: &Selector,
+    range: u64,
+    snap: &Snap,
+    ids: &[u32],
+    read: &Times,
+) -> Result<Node, OutOfMemory>
+    requires inside { All (λ id. id < length snap.now.labels) ids.now }
+    requires names { list_all (λ m. is_label_name m.label) selector.now ≡ true }
+    requires times { AreTimes read.now }
+    requires starts { AreStarts range read.now }
+    ensures { IfOk result (λ n. (samples : List Row) → StandsFor snap.now samples → AreApart samples → ids.now ≡ accepted_ids selector.now snap.now.labels → (k : ℕ) → k < read.now.len
+        → node_at n k ≡ range_call f (absent_labels selector.now) (selection samples selector.now (Some range) (time_at read.now k) ∷ [])) }
+{
+    let absent = absent_labels(alloc, selector)?;
+    let found = ranged(alloc, f, &absent, range, snap, ids, read)?;
+    Ok(Node::Vector(found))
+}
+
+/// The times of the samples that an instant selector reads, at the times that it reads at.
+fn times_read(alloc: Global, snap: &Snap, ids: &[u32], read: &Times) -> Result<Node, OutOfMemory>
+    requires inside { All (λ id. id < length snap.now.labels) ids.now }
+    requires times { AreTimes read.now }
+    ensures { IfOk result (λ n. (samples : List Row) (ms : List Matcher) → StandsFor snap.now samples → ids.now ≡ accepted_ids ms snap.now.labels → (k : ℕ) → k < read.now.len
+        → node_at n k ≡ of_cell (cell_of (each_value Some (selected (map timed samples) ms (time_at read.now k))))) }
+{
+    let found = sample_times(alloc, snap, ids, read)?;
+    Ok(Node::Vector(found))
+}
+
+/// A function of a range selector.
+fn over_range(
+    alloc: Global,
+    f: RangeFn,
+    selector: &Selector,
+    range: u64,
+    snap: &Snap,
+    ids: &[u32],
+    mods: Mods,
+    times: &Times,
+) -> Result<Node, OutOfMemory>
+    requires inside { All (λ id. id < length snap.now.labels) ids.now }
+    requires names { name_labels selector.now ≡ true }
+    requires range { is_distance range ≡ true }
+    requires near { are_near mods ≡ true }
+    requires run { IsRun times.now }
+    ensures { IfOk result (λ n. (samples : List Row) → StandsFor snap.now samples → AreApart samples → ids.now ≡ accepted_ids selector.now snap.now.labels → (k : ℕ) → k < times.now.len
+        → node_at n k ≡ range_call f (absent_labels selector.now) (selection samples selector.now (Some range) (read_time mods (time_at times.now k)) ∷ [])) }
+{
+    let read = read_times(mods, times);
+    let found = over_windows(alloc, f, selector, range, snap, ids, &read)?;
+    Ok(found)
+}
+
+/// `timestamp` of an instant selector.
+fn timestamps(
+    alloc: Global,
+    snap: &Snap,
+    ids: &[u32],
+    mods: Mods,
+    times: &Times,
+) -> Result<Node, OutOfMemory>
+    requires inside { All (λ id. id < length snap.now.labels) ids.now }
+    requires near { are_near mods ≡ true }
+    requires run { IsRun times.now }
+    ensures { IfOk result (λ n. (samples : List Row) (ms : List Matcher) → StandsFor snap.now samples → ids.now ≡ accepted_ids ms snap.now.labels → (k : ℕ) → k < times.now.len
+        → node_at n k ≡ of_cell (cell_of (each_value Some (selected (map timed samples) ms (read_time mods (time_at times.now k)))))) }
+{
+    let read = read_times(mods, times);
+    let found = times_read(alloc, snap, ids, &read)?;
+    Ok(found)
+}
+
+/// A function of a selector.
+pub(crate) fn over_selector(
+    alloc: Global,
+    function: Function,
+    selector: &Selector,
+    range: Option<u64>,
+    snap: &Snap,
+    ids: &[u32],
+    mods: Mods,
+    times: &Times,
+) -> Result<Node, OutOfMemory>
+    requires inside { All (λ id. id < length snap.now.labels) ids.now }
+    requires evaluated { is_of_selector function selector.now range mods ≡ true }
+    requires run { IsRun times.now }
+    ensures { IfOk result (λ n. (samples : List Row) → StandsFor snap.now samples → AreApart samples → ids.now ≡ accepted_ids selector.now snap.now.labels → (k : ℕ) → k < times.now.len
+        → node_at n k ≡ meant samples (call function (more (select selector.now range mods) none)) (time_at times.now k)) }
+{
+    match (function, range) {
+        (Function::Range(f), Some(range)) => {
+            let found = over_range(alloc, f, selector, range, snap, ids, mods, times)?;
+            Ok(found)
+        }
+        (Function::Instant(InstantFn::Timestamp), None) => {
+            let found = timestamps(alloc, snap, ids, mods, times)?;
+            Ok(found)
+        }
+        _ => unreachable!(),
+    }
 }

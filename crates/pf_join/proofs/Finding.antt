@@ -12,9 +12,10 @@ use Rattle.std.proofs.Math.Seq.{take-length}
 use Rattle.pf_base.specs.LabelSets.{Pairs}
 use Rattle.pf_base.specs.LabelOrder.{labels_cmp, labels_exact, labels_total}
 use Rattle.pf_base.proofs.Sorting.{Ascends, ascends_sorted}
+use Rattle.pf_model.specs.Selection.{same_labels}
 use Rattle.pf_join.specs.declared.keys.Keyed.{Keyed}
-use Rattle.pf_join.specs.KeyedElements.{has_key, keyed_cmp, with_key}
-use Rattle.pf_join.proofs.KeyOrder.{keyed_total}
+use Rattle.pf_join.specs.KeyedElements.{has_key, with_key}
+use Rattle.pf_join.proofs.Repeats.{by_key, by_key_total}
 
 -- ---- the two sides of a place
 
@@ -87,12 +88,13 @@ below_by x y k Less e g h = ap is_lt (labels_total.trans x y k e h)
 below_by x y k Equal e g h = ap is_lt (ap (λ l. labels_cmp l k) (labels_exact x y e) ∙ h)
 below_by x y k Greater e g h = cc
 
-pub below_down : (k : Pairs) (x y : Keyed) → is_gt (keyed_cmp x y) ≡ false → is_lt (labels_cmp y.key k) ≡ true → is_lt (labels_cmp x.key k) ≡ true
-below_down k x y g h = below_by x.key y.key k (keyed_cmp x y) refl g (less_is (labels_cmp y.key k) h)
+module _ {X : Type 0} (key : X → Pairs) where
+  below_down : (k : Pairs) (x y : X) → is_gt (by_key key x y) ≡ false → is_lt (labels_cmp (key y) k) ≡ true → is_lt (labels_cmp (key x) k) ≡ true
+  below_down k x y g h = below_by (key x) (key y) k (by_key key x y) refl g (less_is (labels_cmp (key y) k) h)
 
-pub below_parted : (k : Pairs) (xs : List Keyed) → IsSorted keyed_cmp xs → IsPartitionedBy (λ x. is_lt (labels_cmp x.key k)) xs
-below_parted k xs s =
-    is_parted keyed_cmp (λ x. is_lt (labels_cmp x.key k)) (λ x y g h. below_down k x y g h) xs (ascends_sorted keyed_cmp keyed_total xs s)
+  pub below_parted : (k : Pairs) (xs : List X) → IsSorted (by_key key) xs → IsPartitionedBy (λ x. is_lt (labels_cmp (key x) k)) xs
+  below_parted k xs s =
+      is_parted (by_key key) (λ x. is_lt (labels_cmp (key x) k)) (λ x y g h. below_down k x y g h) xs (ascends_sorted (by_key key) (by_key_total key) xs s)
 
 -- x is at most y, and y is at most k
 upto_by : (x y k : Pairs) (o r : Ordering) → labels_cmp x y ≡ o → is_gt o ≡ false → labels_cmp y k ≡ r → not (is_gt r) ≡ true → not (is_gt (labels_cmp x k)) ≡ true
@@ -102,10 +104,11 @@ upto_by x y k Less Greater e g f h = cc
 upto_by x y k Equal r e g f h = ap (λ l. not (is_gt (labels_cmp l k))) (labels_exact x y e) ∙ ap (λ o. not (is_gt o)) f ∙ h
 upto_by x y k Greater r e g f h = cc
 
-pub upto_parted : (k : Pairs) (xs : List Keyed) → IsSorted keyed_cmp xs → IsPartitionedBy (λ x. not (is_gt (labels_cmp x.key k))) xs
-upto_parted k xs s =
-    is_parted keyed_cmp (λ x. not (is_gt (labels_cmp x.key k)))
-    (λ x y g h. upto_by x.key y.key k (keyed_cmp x y) (labels_cmp y.key k) refl g refl h) xs (ascends_sorted keyed_cmp keyed_total xs s)
+module _ {X : Type 0} (key : X → Pairs) where
+  pub upto_parted : (k : Pairs) (xs : List X) → IsSorted (by_key key) xs → IsPartitionedBy (λ x. not (is_gt (labels_cmp (key x) k))) xs
+  upto_parted k xs s =
+      is_parted (by_key key) (λ x. not (is_gt (labels_cmp (key x) k)))
+      (λ x y g h. upto_by (key x) (key y) k (by_key key x y) (labels_cmp (key y) k) refl g refl h) xs (ascends_sorted (by_key key) (by_key_total key) xs s)
 
 -- ---- those from a key on, and of these those up to it, are those of the key
 
@@ -122,12 +125,12 @@ level_is Less = refl
 level_is Equal = refl
 level_is Greater = refl
 
-pub found_is : (k : Pairs) (xs : List Keyed)
-    → filter (λ x. not (is_gt (labels_cmp x.key k))) (filter (λ x. not (is_lt (labels_cmp x.key k))) xs) ≡ with_key k xs
-found_is k xs =
-    two_tests (λ x. not (is_lt (labels_cmp x.key k))) (λ x. not (is_gt (labels_cmp x.key k))) xs
-    ∙ filter_agree (λ x. not (is_lt (labels_cmp x.key k)) && not (is_gt (labels_cmp x.key k))) (λ x. is_eq (labels_cmp k x.key))
-    (λ x. level_is (labels_cmp x.key k) ∙ sym (ap is_eq (labels_total.antisymm k x.key))) xs
+pub found_is : {X : Type 0} (key : X → Pairs) (k : Pairs) (xs : List X)
+    → filter (λ x. not (is_gt (labels_cmp (key x) k))) (filter (λ x. not (is_lt (labels_cmp (key x) k))) xs) ≡ filter (λ x. same_labels k (key x)) xs
+found_is key k xs =
+    two_tests (λ x. not (is_lt (labels_cmp (key x) k))) (λ x. not (is_gt (labels_cmp (key x) k))) xs
+    ∙ filter_agree (λ x. not (is_lt (labels_cmp (key x) k)) && not (is_gt (labels_cmp (key x) k))) (λ x. is_eq (labels_cmp k (key x)))
+    (λ x. level_is (labels_cmp (key x) k) ∙ sym (ap is_eq (labels_total.antisymm k (key x)))) xs
 
 some_length : (n : ℕ) → not (nat_eq (suc n) 0) ≡ true
 some_length n = grind (arith, nat_tests)

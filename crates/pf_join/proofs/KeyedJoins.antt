@@ -1,14 +1,9 @@
 -- What is found by keys in order is what the comparison of all keys finds.
-use Rattle.std.proofs.Common.{◌≡◌, Bool, true, false, cond, not, ◌&&◌, ◌||◌, List, [], ◌∷◌, ◌++◌, map, refl, sym, ap, ◌∙◌}
-use Rattle.std.specs.Cmp.{Equal-is}
+use Rattle.std.proofs.Common.{◌≡◌, Bool, true, false, cond, not, ◌&&◌, ◌||◌, List, [], ◌∷◌, ◌++◌, map, refl, ap, ◌∙◌}
 use Rattle.std.specs.List.{filter, list_any}
-use Rattle.std.specs.Ordering.{is_eq, is_gt}
-use Rattle.std.specs.declared.cmp.Ordering.{Ordering}
-use Rattle.std.specs.declared.cmp.Ordering.TheVariants.{Less, Equal, Greater}
 use Rattle.std.proofs.lemmas.List.Elements.{filter_agree}
 use Rattle.pf_base.specs.LabelSets.{Pairs}
-use Rattle.pf_base.specs.LabelOrder.{labels_cmp, labels_total}
-use Rattle.pf_base.specs.Sorting.{ins, isort}
+use Rattle.pf_base.specs.Sorting.{isort}
 use Rattle.pf_model.specs.declared.cell.Element.{Element}
 use Rattle.pf_model.specs.declared.cell.StepCell.TheVariants.{Bad}
 use Rattle.pf_model.specs.declared.cell.ErrorKind.TheVariants.{DoubleOnOneSide, ManyToMany}
@@ -24,43 +19,8 @@ use Rattle.pf_join.specs.declared.keys.Keyed.{Keyed}
 use Rattle.pf_join.specs.KeyedElements.{has_double, has_key, joined_keyed, key_of, keyed, keyed_cmp, keyed_of, keyed_results, shared_keys, those_with, those_without, with_key}
 use Rattle.pf_join.specs.Results.{cell_of_results, result_of, results_of}
 use Rattle.pf_join.proofs.Repeats.{any_isort, equal_isort}
+use Rattle.pf_join.proofs.OfOneKey.{with_isort}
 use Rattle.pf_join.proofs.Results.{results_are_pairs}
-
--- ---- those of a key stand in their order in the sorted list
-
-not_above : (o : Ordering) → is_eq o ≡ true → is_gt o ≡ false
-not_above Less h = refl
-not_above Equal h = refl
-not_above Greater h = cc
-
--- two of one key tie
-tie : (k : Pairs) (x y : Keyed) → same_labels k x.key ≡ true → same_labels k y.key ≡ true → is_gt (keyed_cmp x y) ≡ false
-tie k x y a b =
-    not_above (keyed_cmp x y) (sym (ap is_eq (labels_total.congr k x.key y.key ((Equal-is (labels_cmp k x.key)).0 a))) ∙ b)
-
-swapped : (x y : Keyed) (s : List Keyed) (a b : Bool) → (a ≡ true → b ≡ true → ⊥)
-    → cond b (y ∷ cond a (x ∷ s) s) (cond a (x ∷ s) s) ≡ cond a (x ∷ cond b (y ∷ s) s) (cond b (y ∷ s) s)
-swapped x y s true true n = absurd (n refl refl)
-swapped x y s true false n = refl
-swapped x y s false true n = refl
-swapped x y s false false n = refl
-
-not_both : (k : Pairs) (x y : Keyed) → is_gt (keyed_cmp x y) ≡ true → same_labels k x.key ≡ true → same_labels k y.key ≡ true → ⊥
-not_both k x y g a b = let both : true ≡ false = sym g ∙ tie k x y a b in cc
-
-with_ins_by : (k : Pairs) (x y : Keyed) (ys : List Keyed) (b : Bool) → is_gt (keyed_cmp x y) ≡ b → with_key k (ins keyed_cmp x ys) ≡ with_key k (x ∷ ys)
-    → with_key k (cond b (y ∷ ins keyed_cmp x ys) (x ∷ y ∷ ys)) ≡ with_key k (x ∷ y ∷ ys)
-with_ins_by k x y ys true g e =
-    ap (λ l. cond (same_labels k y.key) (y ∷ l) l) e ∙ swapped x y (with_key k ys) (same_labels k x.key) (same_labels k y.key) (not_both k x y g)
-with_ins_by k x y ys false g e = refl
-
-with_ins : (k : Pairs) (x : Keyed) (ys : List Keyed) → with_key k (ins keyed_cmp x ys) ≡ with_key k (x ∷ ys)
-with_ins k x [] = refl
-with_ins k x (y ∷ ys) = with_ins_by k x y ys (is_gt (keyed_cmp x y)) refl (with_ins k x ys)
-
-pub with_isort : (k : Pairs) (xs : List Keyed) → with_key k (isort keyed_cmp xs) ≡ with_key k xs
-with_isort k [] = refl
-with_isort k (x ∷ xs) = with_ins k x (isort keyed_cmp xs) ∙ ap (λ l. cond (same_labels k x.key) (x ∷ l) l) (with_isort k xs)
 
 -- ---- some element has a key
 
@@ -124,7 +84,7 @@ results_are : (op : BinaryOp) (m : Matched) (ls rs : List Element)
 results_are op m [] rs = refl
 results_are op m (l ∷ ls) rs =
     let k = matching_key m l.labels in
-    ap (λ xs. map (λ r. result_of op m l r.element) xs ++ joined (keyed_results op m (isort keyed_cmp (keyed m rs))) (keyed m ls)) (with_isort k (keyed m rs))
+    ap (λ xs. map (λ r. result_of op m l r.element) xs ++ joined (keyed_results op m (isort keyed_cmp (keyed m rs))) (keyed m ls)) (with_isort key_of k (keyed m rs))
     ∙ ap (λ js. js ++ joined (keyed_results op m (isort keyed_cmp (keyed m rs))) (keyed m ls)) (of_key op m l k rs)
     ∙ ap (λ js. results_of op m rs l ++ js) (results_are op m ls rs)
 

@@ -3,6 +3,7 @@ pub mod Finding
 pub mod Joining
 pub mod KeyOrder
 pub mod KeyedJoins
+pub mod OfOneKey
 pub mod WithoutName
 pub mod Repeats
 pub mod Results

@@ -1,3 +1,4 @@
+pub mod KeyPlaces
 pub mod KeyedElements
 pub mod Neighbours
 pub mod Results

@@ -78,7 +78,7 @@ fn in_order(mut sets: Vec<Labels>) -> Result<Vec<Labels>, OutOfMemory>
 
 /// Whether two of some label sets are equal.
 #[tactic(auto, using(crate::proofs::Repeats::sets_repeat))]
-pub(crate) fn has_equal(sets: Vec<Labels>) -> Result<bool, OutOfMemory>
+pub fn has_equal(sets: Vec<Labels>) -> Result<bool, OutOfMemory>
     ensures { IfOk result (λ b. b ≡ has_equal sets.items) }
 {
     let sorted = in_order(sets)?;

@@ -41,13 +41,13 @@ impl Model for KeyIndex {
     ghost invariant = { λ x. IsSorted keyed_cmp x.entries.items };
 }
 
-fn is_below(labels: &Labels, other: &Labels) -> bool
+pub(crate) fn is_below(labels: &Labels, other: &Labels) -> bool
     ensures { result ≡ is_lt (labels_cmp labels.now other.now) }
 {
     matches!(labels.cmp(other), Ordering::Less)
 }
 
-fn is_above(labels: &Labels, other: &Labels) -> bool
+pub(crate) fn is_above(labels: &Labels, other: &Labels) -> bool
     ensures { result ≡ is_gt (labels_cmp labels.now other.now) }
 {
     matches!(labels.cmp(other), Ordering::Greater)

@@ -33,8 +33,9 @@ fn others_left(labels: &Labels, names: &[Text]) -> Result<Labels, OutOfMemory>
     labels.without_name()?.leave_out(names)
 }
 
-/// What has to be equal for two elements to match.
-fn matching_key(matching: &Matching, labels: &Labels) -> Result<Labels, OutOfMemory>
+/// What has to be equal for two elements to match: the labels of `on`, or all but those of `ignoring` and the metric name.
+/// Prometheus, Operators: Vector matching.
+pub fn matching_key(matching: &Matching, labels: &Labels) -> Result<Labels, OutOfMemory>
     ensures { IfOk result (λ l. l ≡ matching_key matching.now labels.now) }
 {
     if matching.on {
@@ -226,8 +227,13 @@ fn taking(names: &[Text], one_side: &Labels, many: &Labels) -> Result<Labels, Ou
     Ok(found)
 }
 
-/// The labels of a pair, before the metric name is dropped.
-fn pair_labels(matching: &Matching, left: &Labels, right: &Labels) -> Result<Labels, OutOfMemory>
+/// The labels of a pair, before the metric name is dropped: those of the match, or with `group_left` and `group_right` those of
+/// the many side with the taken ones of the other. Prometheus, Operators: Vector matching.
+pub fn pair_labels(
+    matching: &Matching,
+    left: &Labels,
+    right: &Labels,
+) -> Result<Labels, OutOfMemory>
     requires { list_all is_label_name matching.now.include ≡ true }
     ensures { IfOk result (λ l. l ≡ labels_of_pair matching.now left.now right.now) }
 {

@@ -1,7 +1,6 @@
 use Rattle.std.proofs.Common.{◌≡◌, ◌++◌, ◌∷◌, [], map, ap, ◌∙◌}
 use Rattle.pf_model.specs.Matching.{matching_key}
-use Rattle.pf_eval.specs.Zipped.{met_among, met_column, partners, partners_by}
-use Rattle.pf_eval.proofs.JoinedCells.{partners_are}
+use Rattle.pf_eval.specs.Zipped.{met_among, met_column, partners}
 use Rattle.pf_eval.proofs.LoopSteps.{map_more}
 use Rattle.pf_eval.proofs.pairing.met.Goals as goal
 
@@ -10,11 +9,9 @@ loop-column-preserved c =
     let m = c.args.matching.now in
     let os = c.args.others.now in
     let column = c.column-item.result in
-    let key : c.in_ok-key.key ≡ matching_key m column.labels = c.in_ok-key.ensures ∙ ap (λ d. matching_key m d.labels) c.column.view_is in
-    let matches : map (λ d. d.now) c.deref-in-loop-column.result.now ≡ partners m (matching_key m column.labels) os =
-    ap (map (λ d. d.now)) c.deref-in-loop-column.ensures.value ∙ c.in_ok-matches.ensures
-    ∙ (λ i. partners_by (key i) ((c.deref.ensures.value ∙ c.in_ok-keys.ensures) i) os)
-    ∙ partners_are m (matching_key m column.labels) os in
+    let matches : map (λ d. d.now) c.deref.result.now ≡ partners m (matching_key m column.labels) os =
+    ap (map (λ d. d.now)) c.deref.ensures.value ∙ c.in_ok-matches.ensures
+    ∙ ap (λ d. partners m (matching_key m d.labels) os) c.column.view_is in
     map_more (met_column c.args.wanted m c.args.len os) c.args.columns.now c.loop-column.column-index column c.loop-column.found.items c.push.new.self.items
     c.loop-column-test.true c.column-item.is
     (c.in_ok-push.ensures.items ∙ ap (λ d. c.loop-column.found.items ++ (d ∷ [])) (c.in_ok-met_column.ensures ∙ ap (λ ds. met_among c.args.wanted c.args.len ds column) matches))

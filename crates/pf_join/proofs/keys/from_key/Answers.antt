@@ -3,7 +3,7 @@ use Rattle.std.specs.List.Sorted.{IsSorted}
 use Rattle.std.specs.Ordering.{is_lt}
 use Rattle.std.proofs.lemmas.List.Sorted.{IsPartitionPoint-from_clause}
 use Rattle.pf_base.specs.LabelOrder.{labels_cmp}
-use Rattle.pf_join.specs.KeyedElements.{keyed_cmp}
+use Rattle.pf_join.specs.KeyedElements.{key_of, keyed_cmp}
 use Rattle.pf_join.specs.declared.keys.Keyed.{Keyed}
 use Rattle.pf_join.proofs.Finding.{back_is, below_parted, rest_of, sorted_drop}
 use Rattle.pf_join.proofs.keys.from_key.Goals as goal
@@ -11,7 +11,7 @@ use Rattle.pf_join.proofs.keys.from_key.Goals as goal
 pub returns-clause-items : goal.returns-clause-items
 returns-clause-items c =
     let p : Keyed → Bool = λ x. is_lt (labels_cmp x.key c.args.key.now) in
-    let point = IsPartitionPoint-from_clause p _ _ c.partition_point-count.ensures.partitioned (below_parted c.args.key.now c.args.entries.now c.requires) (λ a r q k. search (rules, of_calls)) in
+    let point = IsPartitionPoint-from_clause p _ _ c.partition_point-count.ensures.partitioned (below_parted key_of c.args.key.now c.args.entries.now c.requires) (λ a r q k. search (rules, of_calls)) in
     rest_of c.partition_point-count.result c.args.entries.now
     ∙ back_is p c.args.entries.now c.partition_point-count.result c.partition_point-count.ensures.bound point.0 point.1
 

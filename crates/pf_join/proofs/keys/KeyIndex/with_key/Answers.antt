@@ -2,6 +2,7 @@ use Rattle.std.proofs.Common.{◌≡◌, rules, not, ap, ◌∙◌}
 use Rattle.std.specs.List.{filter}
 use Rattle.std.specs.Ordering.{is_gt, is_lt}
 use Rattle.pf_base.specs.LabelOrder.{labels_cmp}
+use Rattle.pf_join.specs.KeyedElements.{key_of}
 use Rattle.pf_join.proofs.Finding.{found_is}
 use Rattle.pf_join.proofs.keys.KeyIndex.with_key.Goals as goal
 
@@ -12,4 +13,4 @@ returns c =
     c.upto_key.ensures
     ∙ ap (filter (λ x. not (is_gt (labels_cmp x.key k))))
     (c.from_key-behind.ensures.items ∙ ap (filter (λ x. not (is_lt (labels_cmp x.key k)))) all)
-    ∙ found_is k c.args.self.now
+    ∙ found_is key_of k c.args.self.now

@@ -1,6 +1,0 @@
-use Rattle.std.proofs.Common.{◌≡◌, ◌∷◌, drop}
-use Rattle.pf_model.specs.Micros.{greatest}
-use Rattle.pf_eval.proofs.plain.aggregate.greatest.Given as goal
-
-abbrev pub invariant-loop-value : goal.invariant-loop-value
-invariant-loop-value l = greatest (l.found ∷ drop l.value-index l.rest) ≡ greatest l.values

@@ -1,6 +1,0 @@
-use Rattle.std.proofs.Common.{◌≡◌, ◌++◌, drop}
-use Rattle.pf_eval.specs.Results.{elements_of}
-use Rattle.pf_eval.proofs.plain.join.elements_of.Given as goal
-
-abbrev pub invariant-loop-joined : goal.invariant-loop-joined
-invariant-loop-joined l = l.found.items ++ elements_of (drop l.joined-index l.results) ≡ elements_of l.results

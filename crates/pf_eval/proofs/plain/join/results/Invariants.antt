@@ -1,9 +1,0 @@
-use Rattle.std.proofs.Common.{◌≡◌, ◌++◌, drop}
-use Rattle.pf_model.specs.Lists.{joined}
-use Rattle.pf_eval.specs.Results.{results_of}
-use Rattle.pf_eval.proofs.plain.join.results.Given as goal
-
-abbrev pub invariant-loop-left : goal.invariant-loop-left
-invariant-loop-left l =
-    l.found.items ++ joined (results_of l.op l.matching l.rights) (drop l.left-index l.lefts)
-    ≡ joined (results_of l.op l.matching l.rights) l.lefts
