@@ -13,3 +13,4 @@ pub mod GroupedCells
 pub mod GroupColumns
 pub mod Sums
 pub mod Bounds
+pub mod Ways

@@ -1,12 +1,10 @@
 //! Aggregations with one value for each group. The groups are found once for all steps, and each value is read once.
 
 ghost use Rattle.std.specs.Prelude.{◌≡◌, ◌++◌, ◌∷◌, ◌<◌, ℕ, Option, ℤ, [], true, map, length, slice_index_or, slice_set, IfOk, MatchOption, OnOk};
-ghost use Rattle.std.specs.Int.{int_max, int_min};
 ghost use Rattle.std.specs.List.{All};
 ghost use Rattle.pf_model.specs.Aggregation.{aggregate, group_key};
 ghost use Rattle.pf_model.specs.Cells.{values_of};
 ghost use Rattle.pf_model.specs.Merging.{below};
-ghost use Rattle.pf_model.specs.Micros.{greatest, least, mean, total};
 ghost use Rattle.pf_model.specs.declared.cell.StepCell.TheVariants.{Good};
 ghost use Rattle.pf_columns.specs.Columns.{cell_at, columns_labels};
 ghost use Rattle.pf_columns.specs.Groups.{bucket_columns, found_of, group_column, group_value, has_parameter, id_columns, keys_by, operator, those_of};
@@ -15,6 +13,7 @@ ghost use Rattle.pf_columns.specs.Steps.{bad_in, step_at, unless_bad};
 use crate::column::{Column, value_of};
 use crate::groups::GroupIds;
 use crate::steps::StepCells;
+use crate::values::{greatest, least, mean, total};
 use pf_base::{Labels, OutOfMemory, Value};
 use pf_model::{AggOp, Grouping};
 use std::alloc::Global;
@@ -47,69 +46,9 @@ impl GroupOp {
     }
 }
 
-/// The exact sum, in micros.
-fn total(values: &[Value]) -> i128
-    ensures { result ≡ total values.now }
-{
-    let mut sum = 0;
-    for value in values {
-        sum += value.micros() as i128;
-    }
-    sum
-}
-
-/// The exact sum by the number, cut toward zero.
-fn mean(values: &[Value]) -> Value
-    ensures { result ≡ mean values.now }
-{
-    if values.is_empty() {
-        return Value::new(0);
-    }
-    Value::new(total(values) / values.len() as i128)
-}
-
-fn less(a: Value, b: Value) -> Value
-    ensures { result ≡ int_min a b }
-{
-    if a.micros() <= b.micros() { a } else { b }
-}
-
-fn greater(a: Value, b: Value) -> Value
-    ensures { result ≡ int_max a b }
-{
-    if a.micros() <= b.micros() { b } else { a }
-}
-
-/// The least value, or 0 of none.
-fn least(values: &[Value]) -> Value
-    ensures { result ≡ least values.now }
-{
-    let Some((first, rest)) = values.split_first() else {
-        return Value::new(0);
-    };
-    let mut found = *first;
-    for value in rest {
-        found = less(found, *value);
-    }
-    found
-}
-
-/// The greatest value, or 0 of none.
-fn greatest(values: &[Value]) -> Value
-    ensures { result ≡ greatest values.now }
-{
-    let Some((first, rest)) = values.split_first() else {
-        return Value::new(0);
-    };
-    let mut found = *first;
-    for value in rest {
-        found = greater(found, *value);
-    }
-    found
-}
-
+/// The value of a group.
 #[tactic(auto, using(crate::proofs::Bounds::one_is))]
-fn group_value(op: GroupOp, values: &[Value]) -> Value
+pub fn group_value(op: GroupOp, values: &[Value]) -> Value
     ensures { result ≡ group_value op values.now }
 {
     match op {

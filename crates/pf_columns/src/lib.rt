@@ -32,9 +32,11 @@ mod column;
 mod gather;
 mod groups;
 mod steps;
+mod values;
 
-pub use aggregate::{GroupOp, aggregated};
+pub use aggregate::{GroupOp, aggregated, group_value};
 pub use cells::Cells;
 pub use column::Column;
 pub use groups::GroupIds;
 pub use steps::{BadStep, StepCells, normalised};
+pub use values::quantile;

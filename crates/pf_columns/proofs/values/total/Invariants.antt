@@ -1,7 +1,7 @@
 use Rattle.std.proofs.Common.{◌≡◌, ◌≤◌, ◌*◌, ◌+ℤ◌, drop}
 use Rattle.std.specs.Prelude.{unsigned_abs}
 use Rattle.pf_model.specs.Micros.{total}
-use Rattle.pf_columns.proofs.aggregate.total.Given as goal
+use Rattle.pf_columns.proofs.values.total.Given as goal
 
 -- what is summed is not more than a greatest value for each
 abbrev pub invariant-loop-value : goal.invariant-loop-value

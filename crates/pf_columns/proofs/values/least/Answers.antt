@@ -3,7 +3,7 @@ use Rattle.std.proofs.lemmas.List.{drop_more}
 use Rattle.pf_model.specs.Micros.{least}
 use Rattle.pf_columns.proofs.Bounds.{least_next, least_of_none}
 use Rattle.pf_columns.proofs.Bounds.{nothing_is}
-use Rattle.pf_columns.proofs.aggregate.least.Goals as goal
+use Rattle.pf_columns.proofs.values.least.Goals as goal
 
 -- one value more
 pub loop-value-preserved : goal.loop-value-preserved

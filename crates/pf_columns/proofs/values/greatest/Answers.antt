@@ -3,7 +3,7 @@ use Rattle.std.proofs.lemmas.List.{drop_more}
 use Rattle.pf_model.specs.Micros.{greatest}
 use Rattle.pf_columns.proofs.Bounds.{greatest_next, greatest_of_none}
 use Rattle.pf_columns.proofs.Bounds.{nothing_is}
-use Rattle.pf_columns.proofs.aggregate.greatest.Goals as goal
+use Rattle.pf_columns.proofs.values.greatest.Goals as goal
 
 -- one value more
 pub loop-value-preserved : goal.loop-value-preserved

@@ -1,6 +1,6 @@
 use Rattle.std.proofs.Common.{◌<◌, arith}
 use Rattle.pf_columns.proofs.Sums.{sum_fits, sum_next, sum_small}
-use Rattle.pf_columns.proofs.aggregate.total.Goals as goal
+use Rattle.pf_columns.proofs.values.total.Goals as goal
 
 pub overflow_add-sum : goal.overflow_add-sum
 overflow_add-sum c =

@@ -1,0 +1,3 @@
+pub mod GroupElements
+pub mod Planned
+pub mod RankOrder
