@@ -38,3 +38,7 @@ abbrev mutual
 -- the times that a tree of this height reads at a time stay small
 abbrev pub HasRoom : Tree → ℤ → Type 0
 HasRoom query t = unsigned_abs t + 17592186044416 * height query ≤ 2251799813685248
+
+-- the times that it reads are asked: at most 64 levels, and small
+abbrev pub is_readable : Tree → Bool
+is_readable query = nat_le (height query) 64 && is_small query
