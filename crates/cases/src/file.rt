@@ -6,10 +6,10 @@
 //! `gives WORDS` is a row whose given text is the case's title; it wants its words, a line feed and its text. Empty lines
 //! and lines that begin with `#` are passed over.
 
-use crate::escapes::{push_shown, push_unescaped};
 use crate::forms::{Form, answer};
-use crate::output::{Output, Trouble};
-use crate::setting::Setting;
+use cases_rows::escapes::{push_shown, push_unescaped};
+use cases_rows::output::{Output, Trouble};
+use cases_rows::setting::Setting;
 use std::alloc::Global;
 
 /// A row that waits for the lines of what it wants.

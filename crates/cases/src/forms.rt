@@ -1,17 +1,19 @@
 //! The forms of rows: for each kind of call, what is given and what is found, as texts.
 
-use crate::output::Output;
-use crate::setting::Setting;
-use crate::{
-    base, columns, evaluation, functions, joins, language, outside, patterns, ranges, reports,
-    runs, selectors, stores,
-};
+use crate::{evaluation, runs};
+use cases_functions::{aggregations, columns, functions, joins};
+use cases_language::{grids, language, patterns};
+use cases_rows::output::Output;
+use cases_rows::setting::Setting;
+use cases_rows::{base, outside};
+use cases_stores::{ranges, selectors};
 
 /// A form of rows, by what it is about.
 #[derive(Clone, Copy)]
 pub enum Form {
     Base(base::Form),
-    Stores(stores::Form),
+    Stores(cases_stores::Form),
+    Grids(grids::Form),
     Language(language::Form),
     Patterns(patterns::Form),
     Ranges(ranges::Form),
@@ -19,8 +21,9 @@ pub enum Form {
     Columns(columns::Form),
     Selectors(selectors::Form),
     Joins(joins::Form),
+    Aggregations(aggregations::Form),
     Evaluation(evaluation::Form),
-    Reports(reports::Form),
+    Reports(cases_reports::Form),
     Outside(outside::Form),
     Runs(runs::Form),
 }
@@ -31,8 +34,11 @@ impl Form {
         if let Some(form) = base::Form::named(name) {
             return Some(Form::Base(form));
         }
-        if let Some(form) = stores::Form::named(name) {
+        if let Some(form) = cases_stores::Form::named(name) {
             return Some(Form::Stores(form));
+        }
+        if let Some(form) = grids::Form::named(name) {
+            return Some(Form::Grids(form));
         }
         if let Some(form) = language::Form::named(name) {
             return Some(Form::Language(form));
@@ -55,10 +61,13 @@ impl Form {
         if let Some(form) = joins::Form::named(name) {
             return Some(Form::Joins(form));
         }
+        if let Some(form) = aggregations::Form::named(name) {
+            return Some(Form::Aggregations(form));
+        }
         if let Some(form) = evaluation::Form::named(name) {
             return Some(Form::Evaluation(form));
         }
-        if let Some(form) = reports::Form::named(name) {
+        if let Some(form) = cases_reports::Form::named(name) {
             return Some(Form::Reports(form));
         }
         if let Some(form) = outside::Form::named(name) {
@@ -73,6 +82,7 @@ pub fn answer(out: &mut Output, rt: HostRuntime, form: Form, setting: &Setting, 
     match form {
         Form::Base(form) => form.answer(out, given),
         Form::Stores(form) => form.answer(out, setting, given),
+        Form::Grids(form) => form.answer(out, given),
         Form::Language(form) => form.answer(out, given),
         Form::Patterns(form) => form.answer(out, setting, given),
         Form::Ranges(form) => form.answer(out, given),
@@ -80,6 +90,7 @@ pub fn answer(out: &mut Output, rt: HostRuntime, form: Form, setting: &Setting, 
         Form::Columns(form) => form.answer(out, given),
         Form::Selectors(form) => form.answer(out, setting, given),
         Form::Joins(form) => form.answer(out, given),
+        Form::Aggregations(form) => form.answer(out, given),
         Form::Evaluation(form) => form.answer(out, setting, given),
         Form::Reports(form) => form.answer(out, setting, given),
         Form::Outside(form) => form.answer(out, rt, setting, given),

@@ -3,28 +3,13 @@
 //! was found. It ends with status 1 where a row doesn't hold, a file is not read, or a line is of no form.
 #![tactic(auto)]
 
-mod base;
-mod columns;
-mod escapes;
 mod evaluation;
 mod file;
 mod forms;
-mod functions;
-mod joins;
-mod language;
-mod output;
-mod outside;
-mod patterns;
-mod ranges;
-mod reports;
-mod resolution;
 mod runs;
-mod selectors;
-mod setting;
-mod stores;
 
+use cases_rows::output::{Output, Trouble};
 use file::judge_file;
-use output::{Output, Trouble};
 use pf_io::{DiskFiles, Files, StdSink, put_all};
 use std::env;
 use std::process::ExitCode;

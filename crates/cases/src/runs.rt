@@ -2,13 +2,13 @@
 
 ghost use Rattle.std.specs.Prelude.{◌≤◌};
 
-use crate::base::texts_of;
-use crate::output::{Output, cut};
-use crate::setting::{Part, Setting};
-use pf_base::{Limits, OutOfMemory, Text};
+use cases_rows::base::texts_of;
+use cases_rows::output::{Output, cut};
+use cases_rows::outside::{failing, file_of, files_of};
+use cases_rows::setting::Setting;
+use pf_base::{Limits, Text};
 use pf_io::{DiskFiles, Files, MemFiles, MemSink};
 use pf_top::{DEFAULT_LIMITS, run_within};
-use std::alloc::Global;
 
 /// A form of rows.
 #[derive(Clone, Copy)]
@@ -52,51 +52,6 @@ fn words_of(out: &mut Output, setting: &Setting) -> Vec<Text> {
         Some(part) => texts_of(out, part.words.as_str(), ' '),
         None => texts_of(out, "replay script", ' '),
     }
-}
-
-fn push_numbers(out: &mut Output, numbers: &mut Vec<u64>, list: &str) {
-    for number in list.split_ascii_whitespace() {
-        let number = out.number(number);
-        out.push(numbers, number);
-    }
-}
-
-/// The numbers of the calls that fail, by a part `failing WHAT NUMBERS`.
-pub fn failing(out: &mut Output, setting: &Setting, what: &str) -> Vec<u64> {
-    let mut numbers = Vec::new(out.alloc());
-    for part in &setting.parts {
-        if part.key.as_str() == "failing" {
-            if let Some(list) = part.words.as_str().strip_prefix(what) {
-                push_numbers(out, &mut numbers, list);
-            }
-        }
-    }
-    numbers
-}
-
-/// A file of a run: its name, and the text of a part.
-fn file_of(alloc: Global, name: &str, text: &Vec<u8>) -> Result<(Text, Vec<u8>), OutOfMemory> {
-    Ok((Text::of(alloc, name)?, text.clone()?))
-}
-
-/// The name of the file that a part tells.
-fn file_name(part: &Part) -> Option<&str> {
-    match part.key.as_str() {
-        "script" => Some("script"),
-        "file" => Some(part.words.as_str()),
-        _ => None,
-    }
-}
-
-/// The files of the run.
-pub fn files_of(out: &mut Output, setting: &Setting) -> MemFiles {
-    let mut files = Vec::new(out.alloc());
-    for part in &setting.parts {
-        if let Some(name) = file_name(part) {
-            out.add(&mut files, file_of(out.alloc(), name, &part.text));
-        }
-    }
-    MemFiles::new(files, failing(out, setting, "reads"))
 }
 
 /// The limits of the run.

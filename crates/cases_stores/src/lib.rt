@@ -1,13 +1,17 @@
-//! Rows of lines, matchers, exposition files, snapshots and logs.
+//! Rows of what is stored, and of what is read of it: lines, matchers, exposition files, snapshots and logs, the functions of
+//! their windows, and selectors.
+#![tactic(auto)]
 
 pub mod files;
 pub mod logs;
 pub mod matchers;
-pub mod selection;
-pub mod snapshots;
+pub mod ranges;
+mod selection;
+pub mod selectors;
+mod snapshots;
 
-use crate::output::Output;
-use crate::setting::Setting;
+use cases_rows::output::Output;
+use cases_rows::setting::Setting;
 
 /// A form of rows.
 #[derive(Clone, Copy)]

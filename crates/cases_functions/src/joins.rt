@@ -8,9 +8,9 @@ ghost use Rattle.std.specs.Prelude.{◌≡◌};
 ghost use Rattle.std.specs.List.{list_all};
 ghost use Rattle.pf_base.specs.LabelSets.{is_label_name};
 
-use crate::base::{labels_of, texts_of, value_of};
 use crate::columns::push_cell;
-use crate::output::{Output, cut};
+use cases_rows::base::{labels_of, texts_of, value_of};
+use cases_rows::output::{Output, cut};
 use pf_base::{Text, is_label_name};
 use pf_join::join;
 use pf_model::{BinaryOp, Cell, Element, Matching, Side, Sign, StepCell, operator_text};
@@ -67,7 +67,8 @@ fn sign_of(out: &mut Output, text: &str) -> Sign {
     Sign::Add
 }
 
-fn cell_of(out: &mut Output, list: &str) -> Cell {
+/// The vector of a list.
+pub fn cell_of(out: &mut Output, list: &str) -> Cell {
     let mut elements = Vec::new(out.alloc());
     if list == "none" {
         return Cell { elements };
@@ -82,7 +83,8 @@ fn cell_of(out: &mut Output, list: &str) -> Cell {
     Cell { elements }
 }
 
-fn names_of(out: &mut Output, list: &str) -> Vec<Text> {
+/// The names of a list, `,` between them.
+pub fn names_of(out: &mut Output, list: &str) -> Vec<Text> {
     if list.is_empty() {
         return Vec::new(out.alloc());
     }

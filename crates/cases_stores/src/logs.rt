@@ -3,12 +3,12 @@
 ghost use Rattle.std.specs.Prelude.{◌≡◌};
 ghost use Rattle.pf_block.specs.Snaps.{are_timed};
 
-use crate::base::labels_of;
-use crate::output::{Output, cut};
-use crate::setting::{Part, Setting};
-use crate::stores::files::batch_of;
-use crate::stores::matchers::matchers_of;
-use crate::stores::snapshots::push_held;
+use crate::files::batch_of;
+use crate::matchers::matchers_of;
+use crate::snapshots::push_held;
+use cases_rows::base::labels_of;
+use cases_rows::output::{Output, cut};
+use cases_rows::setting::{Part, Setting};
 use pf_base::{Batch, MAXT, OutOfMemory, Row};
 use pf_store::{Deleted, Pin, TenantLog, Verdict, Verdicts};
 

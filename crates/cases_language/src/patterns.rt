@@ -1,7 +1,7 @@
 //! Rows of patterns. Above them stand `pattern TEXT`, and above rows of expansions `template TEXT` too.
 
-use crate::output::Output;
-use crate::setting::Setting;
+use cases_rows::output::Output;
+use cases_rows::setting::Setting;
 use pf_match::{Pattern, PatternError};
 
 /// A form of rows.

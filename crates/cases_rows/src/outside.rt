@@ -1,13 +1,13 @@
 //! Rows of the outside: files in memory and on a disk, outputs that fail, connections, hops and gates.
 
 use crate::output::{Output, cut};
-use crate::runs::{failing, files_of};
-use crate::setting::Setting;
-use pf_base::JobHead;
+use crate::setting::{Part, Setting};
+use pf_base::{JobHead, OutOfMemory, Text};
 use pf_io::{
-    DiskFiles, Doors, Failed, Files, Gate, Hop, MemDoors, MemSink, OpenGate, ReadError, SteadyHop,
-    put_all,
+    DiskFiles, Doors, Failed, Files, Gate, Hop, MemDoors, MemFiles, MemSink, OpenGate, ReadError,
+    SteadyHop, put_all,
 };
+use std::alloc::Global;
 
 /// A form of rows.
 #[derive(Clone, Copy)]
@@ -51,6 +51,51 @@ impl Form {
             Form::Job => job(out),
         }
     }
+}
+
+fn push_numbers(out: &mut Output, numbers: &mut Vec<u64>, list: &str) {
+    for number in list.split_ascii_whitespace() {
+        let number = out.number(number);
+        out.push(numbers, number);
+    }
+}
+
+/// The numbers of the calls that fail, by a part `failing WHAT NUMBERS`.
+pub fn failing(out: &mut Output, setting: &Setting, what: &str) -> Vec<u64> {
+    let mut numbers = Vec::new(out.alloc());
+    for part in &setting.parts {
+        if part.key.as_str() == "failing" {
+            if let Some(list) = part.words.as_str().strip_prefix(what) {
+                push_numbers(out, &mut numbers, list);
+            }
+        }
+    }
+    numbers
+}
+
+/// A file in memory: its name, and the text of a part.
+pub fn file_of(alloc: Global, name: &str, text: &Vec<u8>) -> Result<(Text, Vec<u8>), OutOfMemory> {
+    Ok((Text::of(alloc, name)?, text.clone()?))
+}
+
+/// The name of the file that a part tells.
+fn file_name(part: &Part) -> Option<&str> {
+    match part.key.as_str() {
+        "script" => Some("script"),
+        "file" => Some(part.words.as_str()),
+        _ => None,
+    }
+}
+
+/// The files in memory that the parts tell.
+pub fn files_of(out: &mut Output, setting: &Setting) -> MemFiles {
+    let mut files = Vec::new(out.alloc());
+    for part in &setting.parts {
+        if let Some(name) = file_name(part) {
+            out.add(&mut files, file_of(out.alloc(), name, &part.text));
+        }
+    }
+    MemFiles::new(files, failing(out, setting, "reads"))
 }
 
 /// Appends the answer to a call that read a file.

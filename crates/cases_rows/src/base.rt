@@ -1,11 +1,10 @@
-//! Rows of numbers, values, durations, grids, tenants' names and label sets.
+//! Rows of numbers, values, durations, tenants' names and label sets.
 
 use crate::output::{Output, cut};
 use pf_base::{
-    DurationError, Grid, GridError, Labels, LabelsError, OutOfMemory, Read, Tenant, TenantError,
-    Text, Value, is_label_name, read_duration, read_value,
+    DurationError, Grid, GridError, Labels, LabelsError, OutOfMemory, Read, Sample, Tenant,
+    TenantError, Text, Value, is_label_name, read_duration, read_value,
 };
-use pf_types::grid_text;
 use std::alloc::Global;
 
 /// A form of rows.
@@ -19,8 +18,6 @@ pub enum Form {
     Arithmetic,
     /// `duration`: `TEXT => MILLISECONDS`, or `bad form`, or `too large`.
     Duration,
-    /// `grid`: `START END STEP => FIRST LAST STEPS`, or `TIME => FIRST LAST STEPS`; or the text of the refusal.
-    Grid,
     /// `tenant`: `NAME => NAME`, or `bad tenant`.
     Tenant,
     /// `same tenant`: `NAME NAME => true`, whether two tenants are equal.
@@ -37,7 +34,6 @@ impl Form {
             "value" => Form::Value,
             "arithmetic" => Form::Arithmetic,
             "duration" => Form::Duration,
-            "grid" => Form::Grid,
             "tenant" => Form::Tenant,
             "same tenant" => Form::SameTenant,
             "labels" => Form::Labels,
@@ -62,7 +58,6 @@ impl Form {
         match self {
             Form::Value => value(out, given),
             Form::Arithmetic => arithmetic(out, given),
-            Form::Grid => grid(out, given),
             Form::Tenant => tenant(out, given),
             Form::SameTenant => same_tenant(out, given),
             Form::Labels => labels(out, given),
@@ -141,16 +136,12 @@ pub fn grid_of(out: &mut Output, text: &str) -> Result<Grid, GridError> {
     Grid::aligned(start, out.number(end), out.number(step))
 }
 
-fn grid(out: &mut Output, given: &str) {
-    match grid_of(out, given) {
-        Ok(grid) => {
-            out.show(grid.at(0));
-            out.text(" ");
-            out.show(grid.at(grid.len() - 1));
-            out.text(" ");
-            out.show(grid.len());
-        }
-        Err(error) => out.made(&grid_text(out.alloc(), error)),
+/// The sample of a text `TIME:MICROS`.
+pub fn sample_of(out: &mut Output, text: &str) -> Sample {
+    let (time, micros) = text.split_once(':').unwrap_or((text, ""));
+    Sample {
+        time: out.number(time),
+        value: value_of(out, micros),
     }
 }
 

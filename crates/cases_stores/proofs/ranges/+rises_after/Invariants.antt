@@ -1,5 +1,5 @@
 use Rattle.std.proofs.Common.{length}
-use Rattle.cases.proofs.ranges.+rises_after.Given as goal
+use Rattle.cases_stores.proofs.ranges.+rises_after.Given as goal
 
 abbrev pub decreases-rises_after : goal.decreases-rises_after
 decreases-rises_after l = length l.samples.now

@@ -3,8 +3,8 @@
 //! Columns stand with blanks between them, each as its label set and the micros of its values: `job=a:1;-;3` has no value at
 //! the second step. A run has as many steps as the longest of them.
 
-use crate::base::{labels_of, push_labels, texts_of, value_of};
-use crate::output::{Output, cut};
+use cases_rows::base::{labels_of, push_labels, texts_of, value_of};
+use cases_rows::output::{Output, cut};
 use pf_base::{Grid, Value};
 use pf_columns::{Cells, Column, GroupOp, StepCells, aggregated, normalised};
 use pf_matrix::{Matrix, MatrixRow};

@@ -6,12 +6,12 @@
 ghost use Rattle.std.specs.Prelude.{◌<◌, length};
 ghost use Rattle.std.specs.List.{All};
 
-use crate::base::{labels_of, push_labels};
-use crate::output::{Output, cut};
+use crate::logs::last_pin;
+use crate::matchers::matchers_of;
 use crate::ranges::function_of;
-use crate::setting::Setting;
-use crate::stores::logs::last_pin;
-use crate::stores::matchers::matchers_of;
+use cases_rows::base::{labels_of, push_labels};
+use cases_rows::output::{Output, cut};
+use cases_rows::setting::Setting;
 use pf_base::{Labels, OutOfMemory, Text};
 use pf_block::Snap;
 use pf_columns::{Column, StepCells};

@@ -1,8 +1,8 @@
 //! Rows of lines and of exposition files.
 
-use crate::base::push_labels;
-use crate::output::{Output, cut};
-use crate::setting::Setting;
+use cases_rows::base::push_labels;
+use cases_rows::output::{Output, cut};
+use cases_rows::setting::Setting;
 use pf_base::{Batch, MAXT, Row};
 use pf_expo::{ExpoError, read_exposition};
 use pf_model::next_line;

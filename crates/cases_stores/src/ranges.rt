@@ -5,8 +5,8 @@ ghost use Rattle.std.specs.List.{list_all};
 ghost use Rattle.pf_block.specs.Samples.{is_within, rises, rises_after};
 ghost use Rattle.pf_range.specs.Windows.{IsTime};
 
-use crate::output::{Output, cut};
-use crate::stores::snapshots::sample_of;
+use cases_rows::base::sample_of;
+use cases_rows::output::{Output, cut};
 use pf_base::Sample;
 use pf_block::Window;
 use pf_model::RangeFn;

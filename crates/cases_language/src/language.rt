@@ -2,8 +2,8 @@
 
 ghost use Rattle.pf_lex.specs.Seen.{IsTokenOf};
 
-use crate::output::Output;
 use crate::resolution::resolving;
+use cases_rows::output::Output;
 use pf_lex::{LexError, Token, TokenSort, string_value, token_text, tokens};
 use pf_model::{Expr, Kind};
 use pf_parse::{ParseError, parse};

@@ -1,9 +1,9 @@
 //! Rows of selections.
 
-use crate::output::Output;
-use crate::setting::Setting;
-use crate::stores::matchers::matchers_of;
-use crate::stores::snapshots::pin_of;
+use crate::matchers::matchers_of;
+use crate::snapshots::pin_of;
+use cases_rows::output::Output;
+use cases_rows::setting::Setting;
 use pf_block::Snap;
 use pf_index::{select, select_all};
 

@@ -4,10 +4,10 @@
 //! stand those of these parts that are wanted: `time`, in milliseconds; `scalars`, micros with `;` between them, and a dash
 //! where there is no value; `texts`, with `;` between them; and `selector`, whose labels `absent` gives.
 
-use crate::base::{labels_of, push_labels, texts_of, value_of};
 use crate::columns::{push_cell, value_at, values_of};
-use crate::output::{Output, cut};
-use crate::setting::Setting;
+use cases_rows::base::{labels_of, push_labels, texts_of, value_of};
+use cases_rows::output::{Output, cut};
+use cases_rows::setting::Setting;
 use pf_base::{Labels, OutOfMemory, Text, Value};
 use pf_match::Pattern;
 use pf_math::{

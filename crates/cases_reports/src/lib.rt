@@ -1,8 +1,9 @@
 //! Rows of scripts that are read, and of the lines of reports.
+#![tactic(auto)]
 
-use crate::base::{labels_of, value_of};
-use crate::output::{Output, cut};
-use crate::setting::{Part, Setting};
+use cases_rows::base::{labels_of, value_of};
+use cases_rows::output::{Output, cut};
+use cases_rows::setting::{Part, Setting};
 use pf_base::{OutOfMemory, Sample};
 use pf_matrix::{Matrix, MatrixRow};
 use pf_report::{

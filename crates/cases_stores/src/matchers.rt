@@ -1,8 +1,8 @@
 //! Rows of matchers.
 
-use crate::base::labels_of;
-use crate::output::Output;
-use crate::setting::Setting;
+use cases_rows::base::labels_of;
+use cases_rows::output::Output;
+use cases_rows::setting::Setting;
 use pf_base::Labels;
 use pf_model::{Expr, MatchError, Matchers};
 use pf_parse::parse;

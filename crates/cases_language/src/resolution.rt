@@ -1,6 +1,6 @@
 //! Rows of queries with their range put in, and of shardable ones.
 
-use crate::output::{Output, cut};
+use cases_rows::output::{Output, cut};
 use pf_model::Expr;
 use pf_parse::parse;
 use pf_print::print;

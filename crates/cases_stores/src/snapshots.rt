@@ -2,11 +2,11 @@
 
 ghost use Rattle.std.specs.Prelude.{◌<◌, IfSome, length};
 
-use crate::base::{labels_of, push_labels, value_of};
-use crate::output::{Output, cut};
-use crate::setting::Setting;
-use crate::stores::files::batch_of;
-use crate::stores::logs::append;
+use crate::files::batch_of;
+use crate::logs::append;
+use cases_rows::base::{labels_of, push_labels, sample_of};
+use cases_rows::output::{Output, cut};
+use cases_rows::setting::Setting;
 use pf_base::{Labels, MAXT, OutOfMemory, Sample, Value};
 use pf_block::{Snap, Window};
 use pf_store::{Pin, TenantLog};
@@ -191,15 +191,6 @@ pub fn snapshot(out: &mut Output, setting: &Setting, given: &str) {
     let (verb, words) = cut(given);
     if let Some(pin) = &pin_of(out, setting) {
         call(out, &pin.snap, verb, words);
-    }
-}
-
-/// The sample of a text `TIME:MICROS`.
-pub fn sample_of(out: &mut Output, text: &str) -> Sample {
-    let (time, micros) = text.split_once(':').unwrap_or((text, ""));
-    Sample {
-        time: out.number(time),
-        value: value_of(out, micros),
     }
 }
 
