@@ -1,3 +1,4 @@
+mod Copied
 pub mod Crossing
 pub mod FirstLines
 mod Fitting
@@ -11,7 +12,6 @@ pub mod MergeQuery
 mod MergedParts
 pub mod OneAnswer
 pub mod OnePlace
-pub mod OwnResolved
 pub mod Places
 pub mod SelectorLabels
 mod ShardSteps

@@ -15,11 +15,12 @@ use Rattle.pf_model.specs.declared.functions.InstantFn.TheVariants as function
 use Rattle.pf_model.specs.declared.functions.RangeFn.TheVariants as ranged
 use Rattle.pf_model.specs.declared.functions.Sign.TheVariants as operator
 use Rattle.pf_model.specs.declared.expr.Side.TheVariants as side
+use Rattle.pf_model.specs.Built.{is_evaluated}
 use Rattle.pf_model.specs.Direct.{Asked}
 use Rattle.pf_model.specs.ErrorTexts.{of_grammar, of_kinds, empty_selector, query_text}
 use Rattle.pf_model.specs.Log.{taken}
 use Rattle.pf_model.specs.Machine.{Entry, append, ask, answer}
-use Rattle.pf_model.specs.Queries.{Readings, asked_of, is_built, is_unbuilt, empty, lawful, no_selector, obstacle_of, pattern, refused, selecting, selector, with_pattern}
+use Rattle.pf_model.specs.Queries.{CanRefuse, Readings, asked_of, first_empty, lawful, may_be_no_selector, may_be_refused, no_selector, refused, selecting, selector}
 use Rattle.pf_model.specs.Report.{report}
 use Rattle.json.specs.Print.{escape_byte}
 use Rattle.pf_model.specs.Scripts as script
@@ -56,32 +57,54 @@ one : MatchSign → List ℕ → List Matcher
 one sign value = record { label = codes "a"; sign = sign; text = value } ∷ []
 
 -- `{a!="b"}`
-refuses_nothing : obstacle_of (instant (one match.NotEqual (codes "b"))) ≡ Some (empty 0)
+refuses_nothing : first_empty (instant (one match.NotEqual (codes "b"))) ≡ Some 0
 unfolding one
 refuses_nothing = refl
 
+-- `{a=~"b|"}`
+alternatives_refuse_nothing : first_empty (instant (one match.Like (codes "b|"))) ≡ Some 0
+unfolding one
+alternatives_refuse_nothing = refl
+
 -- `up{job="a"} + rate({a=""}[1m])`
-second_selector_is_empty : obstacle_of (tree.binary (record { sign = operator.Add; with_bool = false }) (record { on = false; labels = []; side = side.One; include = [] }) (instant up_job) (tree.call (called.Range ranged.Rate) (tree.more (tree.select (one match.Equal []) (Some 60000) no_mods) tree.none))) ≡ Some (empty 1)
+second_selector_is_empty : first_empty (tree.binary (record { sign = operator.Add; with_bool = false }) (record { on = false; labels = []; side = side.One; include = [] }) (instant up_job) (tree.call (called.Range ranged.Rate) (tree.more (tree.select (one match.Equal []) (Some 60000) no_mods) tree.none))) ≡ Some 1
 unfolding one up_job equal
 second_selector_is_empty = refl
 
--- `label_replace({a=""}, "b", "c", "d", "e")`
-calls_are_counted : obstacle_of (tree.call (called.Instant function.LabelReplace) (tree.more (instant (one match.Equal [])) (tree.more (tree.text (codes "b")) tree.none))) ≡ Some pattern
-unfolding one
+-- `label_replace({a=""}, "b", "c", "d", "(")`: the call is counted, and so the selector has the number 1
+unclosed : Tree
+unclosed = tree.call (called.Instant function.LabelReplace) (tree.more (instant (one match.Equal [])) (tree.more (tree.text (codes "b")) (tree.more (tree.text (codes "c")) (tree.more (tree.text (codes "d")) (tree.more (tree.text (codes "(")) tree.none)))))
+
+calls_are_counted : first_empty unclosed ≡ Some 1
+unfolding unclosed one
 calls_are_counted = refl
 
--- `{a=~""}`
-pattern_is_not_built : is_unbuilt (obstacle_of (instant (one match.Like []))) (instant (one match.Like [])) ≡ true
+-- and its pattern may be refused before
+calls_may_be_refused : CanRefuse 0 unclosed
+unfolding unclosed one
+calls_may_be_refused = record { before = refl; node = unclosed; there = refl; pattern = refl }
+
+-- at one node too the pattern comes before the empty selector: `{a=~"("}`
+pattern_comes_first : CanRefuse 0 (instant (one match.Like (codes "(")))
 unfolding one
-pattern_is_not_built = refl
+pattern_comes_first = record { before = refl; node = instant (one match.Like (codes "(")); there = refl; pattern = refl }
+
+-- a plain pattern is never refused
+plain_is_taken : may_be_refused (instant (one match.Like (codes "b"))) ≡ false
+unfolding one
+plain_is_taken = refl
+
+pattern_is_evaluated : is_evaluated (instant (one match.Like (codes "(b)"))) ≡ true
+unfolding one
+pattern_is_evaluated = refl
 
 -- `up{job="a"}[1m]`, and `up{job="a"} offset 1s`
-range_is_not_built : is_unbuilt (obstacle_of (tree.select up_job (Some 60000) no_mods)) (tree.select up_job (Some 60000) no_mods) ≡ true
+range_is_not_evaluated : is_evaluated (tree.select up_job (Some 60000) no_mods) ≡ false
 unfolding up_job equal
-range_is_not_built = refl
+range_is_not_evaluated = refl
 
-offset_is_built : is_built (lawful (tree.select up_job None (record { at = None; offset = pos 1000 }))) ≡ true
-offset_is_built = refl
+offset_is_evaluated : is_evaluated (tree.select up_job None (record { at = None; offset = pos 1000 })) ≡ true
+offset_is_evaluated = refl
 
 instant_selector_is_one : selecting (instant up_job) ≡ selector up_job
 unfolding up_job equal
@@ -94,9 +117,13 @@ empty_selector_is_none : selecting (instant (one match.NotEqual (codes "b"))) �
 unfolding one
 empty_selector_is_none = refl
 
-pattern_is_neither : selecting (instant (one match.NotLike (codes "b"))) ≡ with_pattern
+plain_pattern_is_a_selector : selecting (instant (one match.Like (codes "b"))) ≡ selector (one match.Like (codes "b"))
 unfolding one
-pattern_is_neither = refl
+plain_pattern_is_a_selector = refl
+
+unclosed_pattern_may_be_none : may_be_no_selector (instant (one match.NotLike (codes "("))) ≡ true
+unfolding one
+unclosed_pattern_may_be_none = refl
 
 texts_of_refusals : query_text (of_grammar (bad_token 3)) ≡ codes "bad token at 3"
 unfolding digits

@@ -37,6 +37,7 @@ use Rattle.pf_model.specs.Direct.{Answer, MatrixRow, direct, gathered, failed}
 use Rattle.pf_model.specs.Evaluation.{eval}
 use Rattle.pf_model.specs.Legs.{LegsData, leg_part, grouped, bad}
 use Rattle.pf_model.specs.Reach.{reach, lowest, is_frozen}
+use Rattle.pf_model.specs.Resolving.{resolved_over}
 use Rattle.pf_model.specs.Sharding.{is_shardable, sharded_nodes, legs_over}
 use Rattle.pf_model.specs.Trees as tree
 use Rattle.pf_model.specs.Trees.{Tree, Trees, no_mods}
@@ -108,7 +109,7 @@ abbrev grid : ℕ → ℕ → ℕ → GridData
 grid start step len = record { start = start; step = step; len = len }
 
 abbrev over_grid : List Row → Tree → GridData → Answer
-over_grid rows query g = direct rows (record { tree = query; grid = g })
+over_grid rows query g = direct rows (record { tree = resolved_over g query; grid = g })
 
 -- ---- the look-back is open at its left end
 

@@ -11,11 +11,10 @@ use Rattle.pf_model.specs.declared.cell.StepCell.{StepCell}
 use Rattle.pf_model.specs.declared.cell.StepCell.TheVariants.{Good, Bad}
 use Rattle.pf_model.specs.Evaluation.{eval, put}
 use Rattle.pf_model.specs.Lists.{joined}
-use Rattle.pf_model.specs.Resolving.{resolved_over}
 use Rattle.pf_model.specs.Selection.{same_labels}
 use Rattle.pf_model.specs.Trees.{Tree}
 
--- an asked query: its tree and its grid
+-- an asked query: its tree, the grid's ends put in, and its grid
 pub record Asked : Type 0 where
   pub tree : Tree
   pub grid : GridData
@@ -90,6 +89,6 @@ answer_unless (Some f) steps = failed f.time f.kind
 abbrev pub answered : List Evaluated → Answer
 answered cells = answer_unless (first_failure cells) (steps_of cells)
 
--- the direct evaluation of a query over samples: its value at each time of its grid, the grid's ends put in
+-- the direct evaluation of a query over samples: its value at each time of its grid
 abbrev pub direct : List Row → Asked → Answer
-direct samples asked = answered (evaluated samples (resolved_over asked.grid asked.tree) (points asked.grid))
+direct samples asked = answered (evaluated samples asked.tree (points asked.grid))

@@ -1,6 +1,6 @@
 -- A query with its range put in: `start()` and `end()` are the first and the last time of its grid (Prometheus, Querying
 -- basics: @ modifier), and a subquery without a resolution has one minute, which is this project's own.
-use Rattle.std.specs.Prelude.{ℕ, ◌+◌, ◌-◌, ◌*◌, Bool, true, false, ◌&&◌, Option, Some, None, is_some}
+use Rattle.std.specs.Prelude.{ℕ, ◌+◌, ◌-◌, ◌*◌, Option, Some, None}
 use Rattle.pf_base.specs.GridLists.{GridData}
 use Rattle.pf_model.specs.declared.expr.At.{At}
 use Rattle.pf_model.specs.declared.expr.At.TheVariants as at
@@ -37,26 +37,3 @@ abbrev mutual
 -- over a grid
 abbrev pub resolved_over : GridData → Tree → Tree
 resolved_over g query = resolved g.start (g.start + (g.len - 1) * g.step) query
-
--- a time that is none of `start()` and `end()`
-abbrev pub is_fixed : Option At → Bool
-is_fixed None = true
-is_fixed (Some (at.Time millis)) = true
-is_fixed (Some at.Start) = false
-is_fixed (Some at.End) = false
-
--- a query that no range changes: it has neither `start()` nor `end()`, and each subquery has a resolution
-abbrev mutual
-  pub is_settled : Tree → Bool
-  is_settled (tree.number v) = true
-  is_settled (tree.text bytes) = true
-  is_settled (tree.unary minus arg) = is_settled arg
-  is_settled (tree.binary op m left right) = is_settled left && is_settled right
-  is_settled (tree.call f args) = are_settled args
-  is_settled (tree.aggregate op g args) = are_settled args
-  is_settled (tree.select ms range mods) = is_fixed mods.at
-  is_settled (tree.subquery arg range resolution mods) = is_some resolution && (is_fixed mods.at && is_settled arg)
-
-  pub are_settled : Trees → Bool
-  are_settled tree.none = true
-  are_settled (tree.more arg args) = is_settled arg && are_settled args

@@ -1,6 +1,7 @@
 //! The tree of a query.
 
-ghost use Rattle.std.specs.Prelude.{◌≡◌, IfOk};
+ghost use Rattle.std.specs.Prelude.{◌≡◌, IfOk, map};
+ghost use Rattle.pf_model.specs.Trees.{tree_of};
 
 use crate::functions::{AggOp, InstantFn, RangeFn, Sign};
 use pf_base::{Text, Value};
@@ -48,6 +49,18 @@ pub struct Selector {
     pub matchers: Vec<Matcher>,
 }
 
+impl Clone for Selector {
+    ghost is_clone = { λ x y. y ≡ x };
+
+    #[tactic(auto, using(crate::proofs::Copied::same_matchers))]
+    fn clone(&self) -> Result<Selector, AllocError>
+        ensures { IfOk result (λ s. s ≡ self.now) }
+    {
+        let matchers = self.matchers.clone()?;
+        Ok(Selector { matchers })
+    }
+}
+
 impl Model for Selector {
     ghost use Rattle.std.specs.Prelude.{List};
     ghost use Rattle.pf_model.specs.declared.expr.Matcher.{Matcher};
@@ -91,6 +104,21 @@ pub struct Grouping {
     pub labels: Vec<Text>,
 }
 
+impl Clone for Grouping {
+    ghost is_clone = { λ x y. y ≡ x };
+
+    #[tactic(auto, using(crate::proofs::Copied::same_texts))]
+    fn clone(&self) -> Result<Grouping, AllocError>
+        ensures { IfOk result (λ g. g ≡ self.now) }
+    {
+        let labels = self.labels.clone()?;
+        Ok(Grouping {
+            without: self.without,
+            labels,
+        })
+    }
+}
+
 impl Model for Grouping {
     ghost use Rattle.pf_model.specs.Clauses.{Grouped};
 
@@ -119,6 +147,24 @@ pub struct Matching {
     pub side: Side,
     /// The labels taken from the one side.
     pub include: Vec<Text>,
+}
+
+impl Clone for Matching {
+    ghost is_clone = { λ x y. y ≡ x };
+
+    #[tactic(auto, using(crate::proofs::Copied::same_texts))]
+    fn clone(&self) -> Result<Matching, AllocError>
+        ensures { IfOk result (λ m. m ≡ self.now) }
+    {
+        let labels = self.labels.clone()?;
+        let include = self.include.clone()?;
+        Ok(Matching {
+            on: self.on,
+            labels,
+            side: self.side,
+            include,
+        })
+    }
 }
 
 impl Model for Matching {
@@ -178,6 +224,92 @@ pub enum Expr {
         resolution: Option<u64>,
         mods: Mods,
     },
+}
+
+impl Clone for Expr {
+    ghost is_clone = { λ x y. tree_of y ≡ tree_of x };
+
+    /// Calls itself as deep as the tree is high.
+    fn clone(&self) -> Result<Expr, AllocError>
+        ensures { IfOk result (λ e. tree_of e ≡ tree_of self.now) }
+    {
+        copy(self)
+    }
+}
+
+#[cycle(copy)]
+fn copy(expr: &Expr) -> Result<Expr, AllocError>
+    ensures { IfOk result (λ e. tree_of e ≡ tree_of expr.now) }
+{
+    match expr {
+        Expr::Number { value } => Ok(Expr::Number { value: *value }),
+        Expr::Text { text } => Ok(Expr::Text {
+            text: text.clone()?,
+        }),
+        Expr::Unary { minus, arg } => Ok(Expr::Unary {
+            minus: *minus,
+            arg: copy_boxed(arg)?,
+        }),
+        Expr::Binary {
+            op,
+            matching,
+            left,
+            right,
+        } => Ok(Expr::Binary {
+            op: *op,
+            matching: matching.clone()?,
+            left: copy_boxed(left)?,
+            right: copy_boxed(right)?,
+        }),
+        Expr::Call { function, args } => Ok(Expr::Call {
+            function: *function,
+            args: copy_all(args)?,
+        }),
+        Expr::Aggregate { op, grouping, args } => Ok(Expr::Aggregate {
+            op: *op,
+            grouping: grouping.clone()?,
+            args: copy_all(args)?,
+        }),
+        Expr::Select {
+            selector,
+            range,
+            mods,
+        } => Ok(Expr::Select {
+            selector: selector.clone()?,
+            range: *range,
+            mods: *mods,
+        }),
+        Expr::Subquery {
+            arg,
+            range,
+            resolution,
+            mods,
+        } => Ok(Expr::Subquery {
+            arg: copy_boxed(arg)?,
+            range: *range,
+            resolution: *resolution,
+            mods: *mods,
+        }),
+    }
+}
+
+#[cycle(copy)]
+fn copy_boxed(arg: &Box<Expr>) -> Result<Box<Expr>, AllocError>
+    ensures { IfOk result (λ b. tree_of b.value ≡ tree_of arg.now.value) }
+{
+    let inner = copy(arg)?;
+    Ok(Box::new(*Box::allocator(arg), inner)?)
+}
+
+#[cycle(copy)]
+fn copy_all(args: &Vec<Expr>) -> Result<Vec<Expr>, AllocError>
+    ensures { IfOk result (λ v. map tree_of v.items ≡ map tree_of args.now.items) }
+{
+    let mut copies = Vec::with_capacity(*args.allocator(), args.len())?;
+    for arg in args {
+        copies.push(copy(arg)?)?;
+    }
+    Ok(copies)
 }
 
 /// What a query's value is. Prometheus, Querying basics: Expression language data types.
