@@ -61,7 +61,7 @@ id_is [] r l a g h = absurd (omega (arith, h))
 id_is (m ∷ ms) r l a g h = id_by l m ms (same_labels l m) refl r.0 (id_is ms r.1 l) a g h
 
 module _ (key : Pairs → Pairs) (ks : List Pairs) (r : AreRising ks) (g : ℕ) (h : g < length ks) where
-  those_members : (cs : List ColumnData) → Each (λ l. stands_in l ks ≡ true) (map key (columns_labels cs))
+  pub those_members : (cs : List ColumnData) → Each (λ l. stands_in l ks ≡ true) (map key (columns_labels cs))
       → those_of g (map (place_in ks) (map key (columns_labels cs))) cs ≡ members key (get_or ks g []) cs
   those_members [] a = refl
   those_members (c ∷ cs) a =
@@ -70,14 +70,14 @@ module _ (key : Pairs → Pairs) (ks : List Pairs) (r : AreRising ks) (g : ℕ) 
 
 -- ---- the columns of the groups
 
-module _ (f : List ℤ → ℤ) (key : Pairs → Pairs) (cs : List ColumnData) (n : ℕ) where
+module _ (f : ℕ → List ℤ → Option ℤ) (key : Pairs → Pairs) (cs : List ColumnData) (n : ℕ) where
   by_id : (os : List ℕ) (g : ℕ) (ls : List Pairs) → ((j : ℕ) → j < length ls → those_of (g + j) os cs ≡ members key (get_or ls j []) cs)
       → id_columns f os cs n g ls ≡ map (group_column f key cs n) ls
   by_id os g [] e = refl
   by_id os g (l ∷ ls) e =
       let here : those_of g os cs ≡ members key l cs = ap (λ j. those_of j os cs) (omega arith) ∙ e 0 (omega arith) in
       let rest = by_id os (g + 1) ls (λ j h. ap (λ i. those_of i os cs) (omega arith) ∙ e (suc j) (omega (arith, h))) in
-      λ i. record { labels = l; values = below (λ k. found_of f (values_of (cell_at (here i) k))) n } ∷ rest i
+      λ i. record { labels = l; values = below (λ k. f k (values_of (cell_at (here i) k))) n } ∷ rest i
 
   pub columns_are : id_columns f (map (place_in (distinct (map key (columns_labels cs)))) (map key (columns_labels cs))) cs n 0 (distinct (map key (columns_labels cs)))
       ≡ map (group_column f key cs n) (distinct (map key (columns_labels cs)))
@@ -87,10 +87,10 @@ module _ (f : List ℤ → ℤ) (key : Pairs → Pairs) (cs : List ColumnData) (
       (λ j h. ap (λ i. those_of i (map (place_in (distinct ks)) ks) cs) (omega arith)
       ∙ those_members key (distinct ks) (distinct_rising ks) j h cs (each_stands ks))
 
-  group_cells : (k : ℕ) → k < n → (ls : List Pairs) → cell_at (map (group_column f key cs n) ls) k ≡ joined (λ l. element l (found_of f (values_of (cell_at (members key l cs) k)))) ls
+  pub group_cells : (k : ℕ) → k < n → (ls : List Pairs) → cell_at (map (group_column f key cs n) ls) k ≡ joined (λ l. element l (f k (values_of (cell_at (members key l cs) k)))) ls
   group_cells k h [] = refl
   group_cells k h (l ∷ ls) =
-      λ i. element l (in_below (λ j. found_of f (values_of (cell_at (members key l cs) j))) n k None h i) ++ group_cells k h ls i
+      λ i. element l (in_below (λ j. f j (values_of (cell_at (members key l cs) j))) n k None h i) ++ group_cells k h ls i
 
   labels_are : (ls : List Pairs) → columns_labels (map (group_column f key cs n) ls) ≡ ls
   labels_are [] = refl
@@ -98,9 +98,6 @@ module _ (f : List ℤ → ℤ) (key : Pairs → Pairs) (cs : List ColumnData) (
 
   pub rises_groups : AreRising (columns_labels (map (group_column f key cs n) (distinct (map key (columns_labels cs)))))
   rises_groups = subst AreRising (sym (labels_are (distinct (map key (columns_labels cs))))) (distinct_rising (map key (columns_labels cs)))
-
-  pub grouped_cell : (k : ℕ) → k < n → cell_at (map (group_column f key cs n) (distinct (map key (columns_labels cs)))) k ≡ each_group f (groups key (cell_at cs k))
-  grouped_cell k h = group_cells k h (distinct (map key (columns_labels cs))) ∙ sym (grouped_is f key cs k)
 
 -- ---- an aggregation
 
@@ -124,8 +121,8 @@ those_snoc g (p ∷ ps) (d ∷ ds) o c e = by (nat_eq p g) (those_snoc g ps ds o
   by true r = ap (λ xs. d ∷ xs) r
   by false r = r
 
-module _ (f : ℕ → List ColumnData) (n o : ℕ) (c : ColumnData) (h : o < n) where
-  abbrev put_in : List (List ColumnData)
+module _ {X : Type 0} (f : ℕ → List X) (n o : ℕ) (c : X) (h : o < n) where
+  abbrev put_in : List (List X)
   put_in = slice_set (below f n) o (get_or (below f n) o [] ++ (c ∷ []))
 
   put_at : (k : ℕ) → k < n → (b : Bool) → nat_eq o k ≡ b → f k ++ cond b (c ∷ []) [] ≡ get_or put_in k []
@@ -145,7 +142,7 @@ module _ (f : ℕ → List ColumnData) (n o : ℕ) (c : ColumnData) (h : o < n) 
       ∙ below_is (λ x. x) (λ k. f k ++ cond (nat_eq o k) (c ∷ []) []) [] put_in (λ k l. put_at k (subst (λ m. k < m) many l) (nat_eq o k) refl)
       ∙ map-id put_in)
 
-below_alike : {X : Type 0} (f g : ℕ → X) (n : ℕ) → ((k : ℕ) → f k ≡ g k) → below f n ≡ below g n
+pub below_alike : {X : Type 0} (f g : ℕ → X) (n : ℕ) → ((k : ℕ) → f k ≡ g k) → below f n ≡ below g n
 below_alike f g zero e = refl
 below_alike f g (suc n) e = λ i. below_alike f g n e i ++ (e n i ∷ [])
 
@@ -170,14 +167,14 @@ bucket_more os cs n i c before after e h w q b a =
     ∙ below_alike (λ k. f k ++ cond (nat_eq o k) (c ∷ []) []) (λ g. those_of g (take (i + 1) os) (take (i + 1) cs)) n
     (λ g. sym (those_snoc g (take i os) (take i cs) o c many) ∙ (λ j. those_of g (sym os' j) (sym cs' j)))
 
-module _ (f : List ℤ → ℤ) (os : List ℕ) (cs : List ColumnData) (n : ℕ) where
+module _ (f : ℕ → List ℤ → Option ℤ) (os : List ℕ) (cs : List ColumnData) (n : ℕ) where
   buckets_from : (g : ℕ) (ls : List Pairs) → bucket_columns f (below (λ j. those_of (g + j) os cs) (length ls)) n ls ≡ id_columns f os cs n g ls
   buckets_from g [] = refl
   buckets_from g (l ∷ ls) =
       ap (λ bs. bucket_columns f bs n (l ∷ ls)) (first_below (λ j. those_of (g + j) os cs) (length ls))
-      ∙ (λ i. record { labels = l; values = below (λ k. found_of f (values_of (cell_at (first i) k))) n }
+      ∙ (λ i. record { labels = l; values = below (λ k. f k (values_of (cell_at (first i) k))) n }
       ∷ bucket_columns f (below_alike (λ j. those_of (g + suc j) os cs) (λ j. those_of ((g + 1) + j) os cs) (length ls) (λ j. ap (λ x. those_of x os cs) (omega arith)) i) n ls)
-      ∙ ap (λ bs. record { labels = l; values = below (λ k. found_of f (values_of (cell_at (those_of g os cs) k))) n } ∷ bs) (buckets_from (g + 1) ls) where
+      ∙ ap (λ bs. record { labels = l; values = below (λ k. f k (values_of (cell_at (those_of g os cs) k))) n } ∷ bs) (buckets_from (g + 1) ls) where
         first : those_of (g + 0) os cs ≡ those_of g os cs
         first = ap (λ x. those_of x os cs) (omega arith)
 
@@ -201,13 +198,13 @@ ids_below ls = all_below ls (distinct ls) (each_stands ls)
 -- ---- the steps of an aggregation
 
 module _ (op : GroupOp) (key : Pairs → Pairs) (all cs found : List ColumnData) (n : ℕ) (same : cs ≡ all)
-    (made : found ≡ map (group_column (group_value op) key cs n) (keys_by key (columns_labels cs))) where
+    (made : found ≡ map (group_column (λ k. found_of (group_value op)) key cs n) (keys_by key (columns_labels cs))) where
   pub aggregation_is : (bads kept : List (Option ErrorKind)) → kept ≡ bads → (p : Option ℤ) (k : ℕ) → k < n
       → unless_bad (bad_in kept k) (Good (cell_at found k)) ≡ unless_bad (bad_in bads k) (Good (aggregated (operator op) p (groups key (cell_at all k))))
   aggregation_is bads kept e p k h =
       (λ i. unless_bad (bad_in (e i) k) (Good (cell_at (made i) k)))
       ∙ ap (λ es. unless_bad (bad_in bads k) (Good es))
-      (grouped_cell (group_value op) key cs n k h ∙ aggregated_is op p (groups key (cell_at cs k)) ∙ ap (λ ds. aggregated (operator op) p (groups key (cell_at ds k))) same)
+      (group_cells (λ j. found_of (group_value op)) key cs n k h (keys_by key (columns_labels cs)) ∙ sym (grouped_is (group_value op) key cs k) ∙ aggregated_is op p (groups key (cell_at cs k)) ∙ ap (λ ds. aggregated (operator op) p (groups key (cell_at ds k))) same)
 
   pub groups_rise : AreRising (columns_labels found)
-  groups_rise = subst (λ ds. AreRising (columns_labels ds)) (sym made) (rises_groups (group_value op) key cs n)
+  groups_rise = subst (λ ds. AreRising (columns_labels ds)) (sym made) (rises_groups (λ k. found_of (group_value op)) key cs n)

@@ -36,7 +36,7 @@ any_ins : {X : Type 0} (p : X → Bool) (R : X → X → Ordering) (x : X) (ys :
 any_ins p R x [] = refl
 any_ins p R x (y ∷ ys) = any_by p R x y ys (is_gt (R x y)) (any_ins p R x ys)
 
-any_isort : {X : Type 0} (p : X → Bool) (R : X → X → Ordering) (xs : List X) → list_any p (isort R xs) ≡ list_any p xs
+pub any_isort : {X : Type 0} (p : X → Bool) (R : X → X → Ordering) (xs : List X) → list_any p (isort R xs) ≡ list_any p xs
 any_isort p R [] = refl
 any_isort p R (x ∷ xs) = any_ins p R x (isort R xs) ∙ ap (λ b. p x || b) (any_isort p R xs)
 

@@ -50,8 +50,9 @@ module _ (p : Pairs → Bool) where
   has_filter n [] = refl
   has_filter n (l ∷ ls) = has_some n l ls (same_labels n l) (p l) (stands_in n ls) refl refl (has_filter n ls)
 
-module _ (f : List ℤ → ℤ) (key : Pairs → Pairs) where
-  abbrev of_key : Pairs → List Element → List Element
+module _ (key : Pairs → Pairs) where
+  -- the elements that have a key
+  abbrev pub of_key : Pairs → List Element → List Element
   of_key l es = filter (λ e. same_labels (key e.labels) l) es
 
   picked_by : (l m : Pairs) (k : ℕ) (o : Option ℤ) (vs : List (Option ℤ)) (cs : List ColumnData) (b : Bool) → same_labels (key m) l ≡ b → value_in vs k ≡ o
@@ -66,7 +67,7 @@ module _ (f : List ℤ → ℤ) (key : Pairs → Pairs) where
   picked_by l m k (Some x) vs cs false s v h =
       ap (λ b. cond b (record { labels = m; value = x } ∷ of_key l (cell_at cs k)) (of_key l (cell_at cs k))) s ∙ h
 
-  picked : (l : Pairs) (k : ℕ) (cs : List ColumnData) → of_key l (cell_at cs k) ≡ cell_at (members key l cs) k
+  pub picked : (l : Pairs) (k : ℕ) (cs : List ColumnData) → of_key l (cell_at cs k) ≡ cell_at (members key l cs) k
   picked l k [] = refl
   picked l k (c ∷ cs) = picked_by l c.labels k (value_in c.values k) c.values cs (same_labels (key c.labels) l) refl refl (picked l k cs)
 
@@ -96,6 +97,20 @@ module _ (f : List ℤ → ℤ) (key : Pairs → Pairs) where
   both true b h = refl
   both false b h = h refl
 
+  -- the keys of the elements at a step
+  pub keys_at : (cs : List ColumnData) (k : ℕ)
+      → distinct (map key (labels_of (cell_at cs k))) ≡ filter (λ l. is_full (values_of (cell_at (members key l cs) k))) (distinct (map key (columns_labels cs)))
+  keys_at cs k =
+      let es = cell_at cs k in
+      let g : Pairs → List ℤ = λ l. values_of (cell_at (members key l cs) k) in
+      let all = distinct (map key (columns_labels cs)) in
+      alike (distinct (map key (labels_of es))) (filter (λ m. is_full (g m)) all) (distinct_ascends (map key (labels_of es)))
+      (ascends _ (rises_filter (λ m. is_full (g m)) all (distinct_rising (map key (columns_labels cs)))))
+      (λ n. distinct_in n (map key (labels_of es)) ∙ has_keys n es ∙ ap (λ xs. is_full (values_of xs)) (picked n k cs)
+      ∙ both (stands_in n all) (is_full (g n)) (λ e. no_value n k cs (sym (distinct_in n (map key (columns_labels cs))) ∙ e))
+      ∙ sym (has_filter (λ m. is_full (g m)) n all))
+
+module _ (f : List ℤ → ℤ) (key : Pairs → Pairs) where
   row_by : (l : Pairs) (vs : List ℤ) (ms : List Pairs) (g : Pairs → List ℤ) → g l ≡ vs
       → map (λ m. record { labels = m; value = f (g m) }) (filter (λ m. is_full (g m)) ms) ≡ joined (λ m. element m (found_of f (g m))) ms
       → map (λ m. record { labels = m; value = f (g m) }) (cond (is_full vs) (l ∷ filter (λ m. is_full (g m)) ms) (filter (λ m. is_full (g m)) ms)) ≡ element l (found_of f vs) ++ joined (λ m. element m (found_of f (g m))) ms
@@ -106,22 +121,14 @@ module _ (f : List ℤ → ℤ) (key : Pairs → Pairs) where
   full_rows g [] = refl
   full_rows g (m ∷ ms) = row_by m (g m) ms g refl (full_rows g ms)
 
-  each_by : (es : List Element) (g : Pairs → List ℤ) → ((l : Pairs) → values_of (of_key l es) ≡ g l) → (ls : List Pairs)
-      → each_group f (map (λ l. record { key = l; elements = of_key l es }) ls) ≡ map (λ l. record { labels = l; value = f (g l) }) ls
+  each_by : (es : List Element) (g : Pairs → List ℤ) → ((l : Pairs) → values_of (of_key key l es) ≡ g l) → (ls : List Pairs)
+      → each_group f (map (λ l. record { key = l; elements = of_key key l es }) ls) ≡ map (λ l. record { labels = l; value = f (g l) }) ls
   each_by es g h [] = refl
   each_by es g h (l ∷ ls) = λ i. record { labels = l; value = f (h l i) } ∷ each_by es g h ls i
 
   pub grouped_is : (cs : List ColumnData) (k : ℕ) → each_group f (groups key (cell_at cs k)) ≡ grouped_at f key cs k
   grouped_is cs k =
-      let es = cell_at cs k in
       let g : Pairs → List ℤ = λ l. values_of (cell_at (members key l cs) k) in
-      let all = distinct (map key (columns_labels cs)) in
-      let here : (n : Pairs) → stands_in n (distinct (map key (labels_of es))) ≡ stands_in n (filter (λ m. is_full (g m)) all) =
-      λ n. distinct_in n (map key (labels_of es)) ∙ has_keys n es ∙ ap (λ xs. is_full (values_of xs)) (picked n k cs)
-      ∙ both (stands_in n all) (is_full (g n)) (λ e. no_value n k cs (sym (distinct_in n (map key (columns_labels cs))) ∙ e))
-      ∙ sym (has_filter (λ m. is_full (g m)) n all) in
-      each_by es g (λ l. ap values_of (picked l k cs)) (distinct (map key (labels_of es)))
-      ∙ ap (map (λ l. record { labels = l; value = f (g l) }))
-      (alike (distinct (map key (labels_of es))) (filter (λ m. is_full (g m)) all) (distinct_ascends (map key (labels_of es)))
-      (ascends _ (rises_filter (λ m. is_full (g m)) all (distinct_rising (map key (columns_labels cs))))) here)
-      ∙ full_rows g all
+      each_by (cell_at cs k) g (λ l. ap values_of (picked key l k cs)) (distinct (map key (labels_of (cell_at cs k))))
+      ∙ ap (map (λ l. record { labels = l; value = f (g l) })) (keys_at key cs k)
+      ∙ full_rows g (distinct (map key (columns_labels cs)))

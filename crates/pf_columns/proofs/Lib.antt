@@ -14,3 +14,12 @@ pub mod GroupColumns
 pub mod Sums
 pub mod Bounds
 pub mod Ways
+pub mod Eaches
+pub mod Marking
+pub mod Apart
+pub mod RankedEntries
+pub mod FirstOfGroups
+pub mod WithParameter
+pub mod PlaceBuckets
+pub mod EntryOrder
+pub mod Selected

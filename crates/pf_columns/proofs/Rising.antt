@@ -23,7 +23,7 @@ rising (l ∷ ls) h = (h.0, rising ls h.1)
 
 -- ---- the elements of a step
 
-above_one : (n l : Pairs) (o : Option ℤ) (es : List Element) → labels_cmp n l ≡ Less → ElementsAbove n es → ElementsAbove n (element l o ++ es)
+pub above_one : (n l : Pairs) (o : Option ℤ) (es : List Element) → labels_cmp n l ≡ Less → ElementsAbove n es → ElementsAbove n (element l o ++ es)
 above_one n l None es p h = h
 above_one n l (Some v) es p h = (p, h)
 

@@ -84,7 +84,7 @@ module _ (k : ℕ) where
   ins_none c (d ∷ ds) h = none_by c d ds (is_gt (column_cmp c d)) h (ins_none c ds h)
 
   -- a column with one
-  passes : (l : Pairs) (v : ℤ) (m : Pairs) (o : Option ℤ) (es : List Element) → is_gt (labels_cmp l m) ≡ true
+  pub passes : (l : Pairs) (v : ℤ) (m : Pairs) (o : Option ℤ) (es : List Element) → is_gt (labels_cmp l m) ≡ true
       → element m o ++ ins element_cmp (record { labels = l; value = v }) es ≡ ins element_cmp (record { labels = l; value = v }) (element m o ++ es)
   passes l v m None es p = refl
   passes l v m (Some w) es p =

@@ -5,12 +5,15 @@ use Rattle.pf_base.specs.LabelSets.{Pairs}
 use Rattle.pf_model.specs.declared.cell.Element.{Element}
 use Rattle.pf_model.specs.declared.functions.AggOp.{AggOp}
 use Rattle.pf_model.specs.declared.functions.AggOp.TheVariants.{Sum, Avg, Min, Max, Count, Group, Topk, Bottomk, Quantile}
+use Rattle.pf_model.specs.Aggregation.{quantile}
 use Rattle.pf_model.specs.Cells.{distinct, element, values_of}
 use Rattle.pf_model.specs.Lists.{joined}
 use Rattle.pf_model.specs.Merging.{below}
 use Rattle.pf_model.specs.Micros.{greatest, least, mean, one, total, units}
 use Rattle.pf_model.specs.Selection.{same_labels}
-use Rattle.pf_columns.specs.Columns.{ColumnData, cell_at, columns_labels}
+use Rattle.pf_columns.specs.Columns.{ColumnData, cell_at, columns_labels, value_in}
+use Rattle.pf_columns.specs.declared.aggregate.GroupFn.{GroupFn}
+use Rattle.pf_columns.specs.declared.aggregate.GroupFn.TheVariants as function
 use Rattle.pf_columns.specs.declared.aggregate.GroupOp.{GroupOp}
 use Rattle.pf_columns.specs.declared.aggregate.GroupOp.TheVariants as each
 
@@ -77,9 +80,19 @@ members key l cs = filter (λ c. same_labels (key c.labels) l) cs
 abbrev pub grouped_at : (List ℤ → ℤ) → (Pairs → Pairs) → List ColumnData → ℕ → List Element
 grouped_at f key cs k = joined (λ l. element l (found_of f (values_of (cell_at (members key l cs) k)))) (keys_by key (columns_labels cs))
 
--- the column of a group
-abbrev pub group_column : (List ℤ → ℤ) → (Pairs → Pairs) → List ColumnData → ℕ → Pairs → ColumnData
-group_column f key cs n l = record { labels = l; values = below (λ k. found_of f (values_of (cell_at (members key l cs) k))) n }
+-- the value at a share of the places of the sorted values of a group, none without a parameter
+abbrev pub quantile_of : Option ℤ → List ℤ → Option ℤ
+quantile_of None vs = None
+quantile_of (Some q) vs = found_of (quantile q) vs
+
+-- what is found of the values of a group at a step
+abbrev pub found_at : GroupFn → ℕ → List ℤ → Option ℤ
+found_at (function.Each op) k vs = found_of (group_value op) vs
+found_at (function.Quantile params) k vs = quantile_of (value_in params.now k) vs
+
+-- the column of a group, of what is found at each step
+abbrev pub group_column : (ℕ → List ℤ → Option ℤ) → (Pairs → Pairs) → List ColumnData → ℕ → Pairs → ColumnData
+group_column f key cs n l = record { labels = l; values = below (λ k. f k (values_of (cell_at (members key l cs) k))) n }
 
 -- the columns at a place
 abbrev pub those_of : ℕ → List ℕ → List ColumnData → List ColumnData
@@ -88,14 +101,14 @@ those_of g (o ∷ os) [] = []
 those_of g (o ∷ os) (c ∷ cs) = cond (nat_eq o g) (c ∷ those_of g os cs) (those_of g os cs)
 
 -- the columns of groups by their places, the first of which is g
-abbrev pub id_columns : (List ℤ → ℤ) → List ℕ → List ColumnData → ℕ → ℕ → List Pairs → List ColumnData
+abbrev pub id_columns : (ℕ → List ℤ → Option ℤ) → List ℕ → List ColumnData → ℕ → ℕ → List Pairs → List ColumnData
 id_columns f os cs n g [] = []
 id_columns f os cs n g (l ∷ ls) =
-    record { labels = l; values = below (λ k. found_of f (values_of (cell_at (those_of g os cs) k))) n } ∷ id_columns f os cs n (g + 1) ls
+    record { labels = l; values = below (λ k. f k (values_of (cell_at (those_of g os cs) k))) n } ∷ id_columns f os cs n (g + 1) ls
 
 -- a column of each bucket
-abbrev pub bucket_columns : (List ℤ → ℤ) → List (List ColumnData) → ℕ → List Pairs → List ColumnData
+abbrev pub bucket_columns : (ℕ → List ℤ → Option ℤ) → List (List ColumnData) → ℕ → List Pairs → List ColumnData
 bucket_columns f bs n [] = []
 bucket_columns f [] n (l ∷ ls) = []
 bucket_columns f (b ∷ bs) n (l ∷ ls) =
-    record { labels = l; values = below (λ k. found_of f (values_of (cell_at b k))) n } ∷ bucket_columns f bs n ls
+    record { labels = l; values = below (λ k. f k (values_of (cell_at b k))) n } ∷ bucket_columns f bs n ls

@@ -1,3 +1,4 @@
 pub mod Columns
 pub mod Groups
+pub mod Ranks
 pub mod Steps

@@ -8,8 +8,8 @@
 //!   vector in label order, or `DoubleLabels`.
 //! - `Cells` are the cells of consecutive steps without errors. A copy and a `part` share all elements, and so does a `cut`
 //!   but where it keeps few of them. `gather` makes the matrix over a grid.
-//! - `GroupIds` are the groups of columns, found once for all steps, and `aggregated` the aggregations that have one value
-//!   for each group.
+//! - `GroupIds` are the groups of columns, found once for all steps, `aggregated` the aggregations that have one value for
+//!   each group and no parameter, and `aggregated_by` those with one.
 //!
 //! Nothing uses it yet. A node that drops the metric name would go so:
 //!
@@ -31,10 +31,11 @@ mod cells;
 mod column;
 mod gather;
 mod groups;
+mod ranked;
 mod steps;
 mod values;
 
-pub use aggregate::{GroupOp, aggregated, group_value};
+pub use aggregate::{GroupOp, aggregated, aggregated_by, group_value};
 pub use cells::Cells;
 pub use column::Column;
 pub use groups::GroupIds;

@@ -1,7 +1,7 @@
 use Rattle.std.proofs.Common.{List, map, length, Bor, Vec, Global, ap, sym, ◌∙◌}
 use Rattle.std.proofs.lemmas.List.{length-map}
 use Rattle.pf_columns.specs.Columns.{ColumnData}
-use Rattle.pf_columns.specs.Groups.{bucket_columns, group_value, those_of}
+use Rattle.pf_columns.specs.Groups.{bucket_columns, found_at, those_of}
 use Rattle.pf_columns.proofs.GroupColumns.{buckets_are}
 use Rattle.pf_columns.proofs.Below.{length_below}
 use Rattle.pf_columns.proofs.aggregate.columns_by_place.Goals as goal
@@ -16,7 +16,7 @@ columns_of_buckets-requires c =
 
 pub returns : goal.returns
 returns c =
-    let f = group_value c.args.op in
+    let f = found_at c.args.function.now in
     c.in_ok-found.ensures
     ∙ ap (λ bs. bucket_columns f (map bucket bs) c.args.len c.args.keys.now) c.deref.ensures.value
     ∙ ap (λ bs. bucket_columns f bs c.args.len c.args.keys.now) c.in_ok-buckets.ensures

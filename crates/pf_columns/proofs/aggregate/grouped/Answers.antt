@@ -4,7 +4,7 @@ use Rattle.std.proofs.lemmas.List.{length-map}
 use Rattle.pf_model.specs.Aggregation.{group_key}
 use Rattle.pf_model.specs.Cells.{distinct}
 use Rattle.pf_columns.specs.Columns.{columns_labels}
-use Rattle.pf_columns.specs.Groups.{group_value, id_columns, place_in}
+use Rattle.pf_columns.specs.Groups.{found_at, id_columns, place_in}
 use Rattle.pf_columns.proofs.GroupColumns.{columns_are, ids_below}
 use Rattle.pf_columns.proofs.aggregate.grouped.Goals as goal
 
@@ -25,7 +25,7 @@ columns_by_place-requires-clause-within c =
 
 pub returns : goal.returns
 returns c =
-    let f = group_value c.args.op in
+    let f = found_at c.args.function.now in
     let key = group_key c.args.grouping.now.without c.args.grouping.now.labels in
     let cs = c.args.columns.now in
     let keys = c.deref.ensures.value ∙ ap (λ g. g.keys) (c.ids.view_is ∙ c.in_ok-ids.ensures) in
