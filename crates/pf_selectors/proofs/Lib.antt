@@ -1,10 +1,14 @@
 mod LastHeld
+mod MomentErrors
+mod MomentSamples
 mod Places
 mod RangeCells
 mod ReadCells
 mod RunValues
 mod SeriesOrder
 mod SetRows
+mod StepMultiples
 pub mod StepTimes
+mod SubqueryCells
 mod TimedCells
 mod WindowCells

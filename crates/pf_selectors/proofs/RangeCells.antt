@@ -50,7 +50,7 @@ no_low (x ∷ xs) n h =
 abbrev pub IsOfEach : RangeFn → Type 0
 IsOfEach f = f ≡ AbsentOverTime → ⊥
 
-of_none : (f : RangeFn) (from to : ℤ) → IsOfEach f → range_function f [] from to ≡ None
+pub of_none : (f : RangeFn) (from to : ℤ) → IsOfEach f → range_function f [] from to ≡ None
 of_none Increase from to h = refl
 of_none Rate from to h = refl
 of_none Delta from to h = refl
@@ -67,10 +67,10 @@ of_none LastOverTime from to h = refl
 of_none PresentOverTime from to h = refl
 of_none AbsentOverTime from to h = absurd (h refl)
 
-abbrev each_series : RangeFn → ℤ → ℤ → List Series → List Element
+abbrev pub each_series : RangeFn → ℤ → ℤ → List Series → List Element
 each_series f from to ss = joined (λ (x : Series). element (ranged_labels f x.labels) (range_function f x.samples from to)) ss
 
-of_each : (f : RangeFn) (absent : Pairs) (from to : ℤ) (ss : List Series) → IsOfEach f → each_series f from to ss ≡ of_series f absent from to ss
+pub of_each : (f : RangeFn) (absent : Pairs) (from to : ℤ) (ss : List Series) → IsOfEach f → each_series f from to ss ≡ of_series f absent from to ss
 of_each Increase absent from to ss h = refl
 of_each Rate absent from to ss h = refl
 of_each Delta absent from to ss h = refl
@@ -88,7 +88,7 @@ of_each PresentOverTime absent from to ss h = refl
 of_each AbsentOverTime absent from to ss h = absurd (h refl)
 
 -- what is made of each series of some rows
-over_sets : {Y : Type 0} (f : Series → List Y) (w : Pairs → List Sample) (ls : List Pairs) → joined f (map (λ l. record { labels = l; samples = w l }) ls) ≡ joined (λ l. f (record { labels = l; samples = w l })) ls
+pub over_sets : {Y : Type 0} (f : Series → List Y) (w : Pairs → List Sample) (ls : List Pairs) → joined f (map (λ l. record { labels = l; samples = w l }) ls) ≡ joined (λ l. f (record { labels = l; samples = w l })) ls
 over_sets f w [] = refl
 over_sets f w (l ∷ ls) = ap (λ ys. f (record { labels = l; samples = w l }) ++ ys) (over_sets f w ls)
 
@@ -155,12 +155,12 @@ module _ (range : ℕ) (s : SnapData) (times : Times) (ids : List ℕ) (k : ℕ)
 
 -- ---- no samples at all
 
-absent_more : (ys xs : List Sample) (v : Option ℤ) → unless_some (ys ++ xs) v ≡ unless_some xs (unless_some ys v)
+pub absent_more : (ys xs : List Sample) (v : Option ℤ) → unless_some (ys ++ xs) v ≡ unless_some xs (unless_some ys v)
 absent_more [] xs v = refl
 absent_more (y ∷ ys) [] v = refl
 absent_more (y ∷ ys) (x ∷ xs) v = refl
 
-absent_is : (xs : List Sample) (a b : ℤ) → unless_some xs (Some one) ≡ range_function AbsentOverTime xs a b
+pub absent_is : (xs : List Sample) (a b : ℤ) → unless_some xs (Some one) ≡ range_function AbsentOverTime xs a b
 absent_is [] a b = refl
 absent_is (x ∷ xs) a b = refl
 

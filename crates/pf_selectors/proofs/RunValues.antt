@@ -17,7 +17,7 @@ use Rattle.pf_selectors.proofs.Places.{narrower, until_rises}
 pub below_more : {X : Type 0} (f : ℕ → X) (n : ℕ) → below f n ++ (f n ∷ []) ≡ below f (n + 1)
 below_more f n = ap (below f) (sym (add-one n))
 
-below_alike : {X : Type 0} (f g : ℕ → X) (n : ℕ) → ((k : ℕ) → k < n → f k ≡ g k) → below f n ≡ below g n
+pub below_alike : {X : Type 0} (f g : ℕ → X) (n : ℕ) → ((k : ℕ) → k < n → f k ≡ g k) → below f n ≡ below g n
 below_alike f g zero h = refl
 below_alike f g (suc n) h = λ i. below_alike f g n (λ k l. h k (omega (arith, l))) i ++ (h n (omega arith) i ∷ [])
 

@@ -1,2 +1,3 @@
 pub mod SeriesColumns
+pub mod Subqueries
 pub mod Times

@@ -5,6 +5,7 @@
 //! - `selected` is an instant selector: for each series its last sample in the look-back of each time.
 //! - `ranged` is a function of a range selector: for each series its value over the window before each time.
 //! - `sample_times` is the function `timestamp` of an instant selector: the times of the samples that are read.
+//! - `over_moments` is a function of a subquery, from what its inner expression is at the times that `multiples_over` gives.
 //! - `Times` are the times of a run. They are those that are read at: `@` and the offset are put in before, so that a
 //!   constant `@` has step 0.
 //!
@@ -14,9 +15,13 @@
 
 mod cursor;
 mod instant;
+mod moments;
+mod multiples;
 mod times;
 mod windows;
 
 pub use instant::{sample_times, selected};
+pub use moments::over_moments;
+pub use multiples::multiples_over;
 pub use times::Times;
 pub use windows::ranged;

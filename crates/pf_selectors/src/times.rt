@@ -1,6 +1,6 @@
 //! The times of a run.
 
-ghost use Rattle.std.specs.Prelude.{◌≡◌, ◌<◌, ◌+ℤ◌, ◌-ℤ◌, ◌*ℤ◌, ℕ, ℤ, pos, int_le, true, Some};
+ghost use Rattle.std.specs.Prelude.{◌≡◌, ◌<◌, ◌+ℤ◌, ◌-ℤ◌, ◌*ℤ◌, ◌≤ℤ◌, ℕ, ℤ, pos, int_le, true, Some};
 ghost use Rattle.pf_range.specs.Windows.{IsTime};
 ghost use Rattle.pf_selectors.specs.Times.{AreEnds, AreStarts, AreTimes, time_at};
 
@@ -92,6 +92,8 @@ impl Times {
         ensures first { IsTime result.first }
         ensures last { IsTime result.last }
         ensures starts { (range : ℕ) → AreStarts range self.now → IsTime (result.first -ℤ pos range) }
+        ensures least { (bound : ℤ) → ((k : ℕ) → k < self.now.len → bound ≤ℤ time_at self.now k) → bound ≤ℤ result.first }
+        ensures greatest { (bound : ℤ) → ((k : ℕ) → k < self.now.len → time_at self.now k ≤ℤ bound) → result.last ≤ℤ bound }
     {
         let start = self.at(0);
         let end = self.at(self.len - 1);

@@ -27,7 +27,7 @@ use pf_model::RangeFn;
 use pf_range::range_value;
 use std::alloc::Global;
 
-fn labels_over(f: RangeFn, labels: &Labels) -> Result<Labels, OutOfMemory>
+pub(crate) fn labels_over(f: RangeFn, labels: &Labels) -> Result<Labels, OutOfMemory>
     ensures { IfOk result (λ l. l ≡ ranged_labels f labels.now) }
 {
     match f {
@@ -51,7 +51,7 @@ fn window(samples: &[Sample], start: usize, end: usize, from: i64, to: i64) -> W
 }
 
 /// The values of a function over the windows of so many milliseconds before each step.
-fn values_over(
+pub(crate) fn values_over(
     alloc: Global,
     f: RangeFn,
     range: u64,
@@ -150,7 +150,12 @@ fn unless(found: Option<Sample>, value: Option<Value>) -> Option<Value>
 }
 
 /// Takes the value from the steps in whose windows there are samples.
-fn note_present(values: &mut [Option<Value>], range: u64, samples: &[Sample], times: &Times)
+pub(crate) fn note_present(
+    values: &mut [Option<Value>],
+    range: u64,
+    samples: &[Sample],
+    times: &Times,
+)
     requires rises { rises samples.now ≡ true }
     requires times { AreTimes times.now }
     requires starts { AreStarts range times.now }
@@ -192,7 +197,7 @@ fn absent_values(
 
 /// One unit.
 #[tactic(auto, unfolding(pf_base::specs::Arithmetic::clamp))]
-fn unit() -> Value
+pub(crate) fn unit() -> Value
     ensures { result ≡ one }
 {
     Value::new(1_000_000)

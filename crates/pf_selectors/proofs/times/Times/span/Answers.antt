@@ -1,5 +1,5 @@
-use Rattle.std.proofs.Common.{◌≡◌, ◌-◌, ◌-ℤ◌, arith, ◌∙◌, pos, to_z, of_z, w64}
-use Rattle.std.proofs.lemmas.Int.{ints}
+use Rattle.std.proofs.Common.{◌≡◌, ◌-◌, ◌-ℤ◌, ◌≤ℤ◌, arith, ◌∙◌, pos, to_z, of_z, w64}
+use Rattle.std.proofs.lemmas.Int.{clamps, ints}
 use Rattle.std.specs.Prelude.{int_lt}
 use Rattle.std.specs.Int.{int_min}
 use Rattle.pf_range.specs.Windows.{IsTime}
@@ -26,3 +26,17 @@ returns-clause-starts c = λ range starts.
     of_lower (λ m. IsTime (m -ℤ pos range)) (time_at t (t.len - 1)) (time_at t 0) (to_z w64 (of_z w64 c.min.result)) (int_lt (time_at t (t.len - 1)) (time_at t 0))
     (z ∙ c.min.ensures.value ∙ (λ i. int_min (a i) (b i)))
     (starts (t.len - 1) (omega (arith, c.requires.some))) (starts 0 c.requires.some)
+
+pub returns-clause-least : goal.returns-clause-least
+returns-clause-least c = λ bound h.
+    let t = c.args.self.now in
+    let a : bound ≤ℤ time_at t 0 = h 0 c.requires.some in
+    let b : bound ≤ℤ time_at t (t.len - 1) = h (t.len - 1) (omega (arith, c.requires.some)) in
+    omega (arith, ints, clamps, a, b, c.at-start.ensures.value, c.at-end.ensures.value, c.min.ensures.value)
+
+pub returns-clause-greatest : goal.returns-clause-greatest
+returns-clause-greatest c = λ bound h.
+    let t = c.args.self.now in
+    let a : time_at t 0 ≤ℤ bound = h 0 c.requires.some in
+    let b : time_at t (t.len - 1) ≤ℤ bound = h (t.len - 1) (omega (arith, c.requires.some)) in
+    omega (arith, ints, clamps, a, b, c.at-start.ensures.value, c.at-end.ensures.value, c.max.ensures.value)
