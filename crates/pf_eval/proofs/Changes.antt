@@ -8,22 +8,23 @@ use Rattle.pf_model.specs.declared.expr.BinaryOp.{BinaryOp}
 use Rattle.pf_model.specs.Cells.{cell_of, element}
 use Rattle.pf_model.specs.Clauses.{Matched}
 use Rattle.pf_model.specs.Lists.{joined}
-use Rattle.pf_model.specs.Outcomes.{negated, of_cell, operation, scalar}
+use Rattle.pf_model.specs.Matching.{of_scalars}
+use Rattle.pf_model.specs.Outcomes.{negated, of_cell, operation}
 use Rattle.pf_columns.specs.Columns.{ColumnData, cell_at, value_in}
 use Rattle.pf_columns.specs.Steps.{unless_bad}
-use Rattle.pf_eval.specs.Nodes.{altered, applied, changed, labelled, onto}
+use Rattle.pf_eval.specs.Nodes.{altered, applied, changed, first_of, labelled, onto, scalar_unless}
 use Rattle.pf_eval.specs.declared.change.Change.TheVariants as change
 use Rattle.pf_columns.proofs.Below.{in_below}
 
 module _ (g : Pairs → Pairs) (f : ℕ → ℤ → Option ℤ) (n k : ℕ) where
-  one_cell : (l : Pairs) (o : Option ℤ) → element (g l) (onto o (f k)) ≡ joined (λ e. element (g e.labels) (f k e.value)) (element l o)
+  pub one_cell : (l : Pairs) (o : Option ℤ) → element (g l) (onto o (f k)) ≡ joined (λ e. element (g e.labels) (f k e.value)) (element l o)
   one_cell l None = refl
   one_cell l (Some v) = some_cell (f k v) where
     some_cell : (o : Option ℤ) → element (g l) o ≡ element (g l) o ++ []
     some_cell None = refl
     some_cell (Some w) = refl
 
-  spread : (xs ys : List Element) → joined (λ e. element (g e.labels) (f k e.value)) (xs ++ ys)
+  pub spread : (xs ys : List Element) → joined (λ e. element (g e.labels) (f k e.value)) (xs ++ ys)
       ≡ joined (λ e. element (g e.labels) (f k e.value)) xs ++ joined (λ e. element (g e.labels) (f k e.value)) ys
   spread [] ys = refl
   spread (x ∷ xs) ys = ap (λ es. element (g x.labels) (f k x.value) ++ es) (spread xs ys)
@@ -40,22 +41,31 @@ none_joined : (g : Pairs → Pairs) (es : List Element) → joined (λ e. elemen
 none_joined g [] = refl
 none_joined g (e ∷ es) = none_joined g es
 
-pub negated_scalar : (o : Option ℤ) → scalar (onto o (applied change.Negation None)) ≡ negated (scalar o)
-negated_scalar None = refl
-negated_scalar (Some v) = refl
+pub negated_scalar : (b : Option ErrorKind) (o : Option ℤ) → scalar_unless b (onto o (applied change.Negation None)) ≡ negated (scalar_unless b o)
+negated_scalar None None = refl
+negated_scalar None (Some v) = refl
+negated_scalar (Some kind) o = refl
+
+pub scalar_step : (op : BinaryOp) (m : Matched) (b c : Option ErrorKind) (x y : Option ℤ)
+    → scalar_unless (first_of b c) (of_scalars op x y) ≡ operation op m (scalar_unless b x) (scalar_unless c y)
+scalar_step op m None None x y = refl
+scalar_step op m None (Some kind) x y = refl
+scalar_step op m (Some kind) c x y = refl
 
 pub negated_step : (b : Option ErrorKind) (s : Option ℤ) (es : List Element) → of_cell (unless_bad b (cell_of (altered change.Negation s es))) ≡ negated (of_cell (unless_bad b (Good es)))
 negated_step None s es = refl
 negated_step (Some kind) s es = refl
 
-pub left_step : (op : BinaryOp) (m : Matched) (b : Option ErrorKind) (a : Option ℤ) (es : List Element)
-    → of_cell (unless_bad b (cell_of (altered (change.Left op) a es))) ≡ operation op m (scalar a) (of_cell (unless_bad b (Good es)))
-left_step op m (Some kind) a es = refl
-left_step op m None None es = ap (λ xs. of_cell (cell_of xs)) (none_joined (labelled (change.Left op)) es)
-left_step op m None (Some a) es = refl
+pub left_step : (op : BinaryOp) (m : Matched) (b c : Option ErrorKind) (a : Option ℤ) (es : List Element)
+    → of_cell (unless_bad (first_of b c) (cell_of (altered (change.Left op) a es))) ≡ operation op m (scalar_unless b a) (of_cell (unless_bad c (Good es)))
+left_step op m (Some kind) c a es = refl
+left_step op m None (Some kind) a es = refl
+left_step op m None None None es = ap (λ xs. of_cell (cell_of xs)) (none_joined (labelled (change.Left op)) es)
+left_step op m None None (Some a) es = refl
 
-pub right_step : (op : BinaryOp) (m : Matched) (b : Option ErrorKind) (a : Option ℤ) (es : List Element)
-    → of_cell (unless_bad b (cell_of (altered (change.Right op) a es))) ≡ operation op m (of_cell (unless_bad b (Good es))) (scalar a)
-right_step op m (Some kind) a es = refl
-right_step op m None None es = ap (λ xs. of_cell (cell_of xs)) (none_joined (labelled (change.Right op)) es)
-right_step op m None (Some a) es = refl
+pub right_step : (op : BinaryOp) (m : Matched) (b c : Option ErrorKind) (a : Option ℤ) (es : List Element)
+    → of_cell (unless_bad (first_of b c) (cell_of (altered (change.Right op) a es))) ≡ operation op m (of_cell (unless_bad b (Good es))) (scalar_unless c a)
+right_step op m (Some kind) c a es = refl
+right_step op m None (Some kind) a es = refl
+right_step op m None None None es = ap (λ xs. of_cell (cell_of xs)) (none_joined (labelled (change.Right op)) es)
+right_step op m None None (Some a) es = refl

@@ -1,12 +1,16 @@
--- The lists of series that a query's selectors take, one after another, and the times that selectors read at: this project's
--- own.
-use Rattle.std.specs.Prelude.{◌≡◌, ◌<◌, ℕ, ℤ, pos, ◌≤ℤ◌, List, [], ◌∷◌, ◌++◌}
+-- What a node of a query is given: the lists of series that its selectors take, the patterns of its calls, and times that leave
+-- room for the distances that it reads back: this project's own.
+use Rattle.std.specs.Prelude.{◌≡◌, ◌<◌, ◌≤◌, ◌+◌, ◌*◌, ℕ, ℤ, pos, unsigned_abs, true, List, [], ◌∷◌, ◌++◌}
+use Rattle.std.specs.List.{list_any}
+use Rattle.std.specs.Str.{bytes_eq}
 use Rattle.pf_base.specs.LabelSets.{Pairs}
-use Rattle.pf_model.specs.Binding.{accepted_ids}
+use Rattle.pf_model.specs.Binding.{accepted_ids, patterns_in}
 use Rattle.pf_model.specs.Trees as tree
-use Rattle.pf_model.specs.Trees.{Tree, Trees}
+use Rattle.pf_model.specs.Trees.{Tree, Trees, all_preorder, height, heights, preorder}
 use Rattle.pf_selectors.specs.declared.times.Times.{Times}
-use Rattle.pf_selectors.specs.Times.{time_at}
+use Rattle.pf_selectors.specs.Subqueries.{AreMultiplesOver}
+use Rattle.pf_selectors.specs.Times.{AreStarts, AreTimes, time_at}
+use Rattle.pf_eval.specs.declared.subquery.InnerRun.{InnerRun}
 
 -- for each selector the ids of its series, in preorder
 abbrev mutual
@@ -36,11 +40,34 @@ behind [] lists = lists
 behind (ids ∷ taken) [] = []
 behind (ids ∷ taken) (list ∷ lists) = behind taken lists
 
--- a time between 0 and the greatest time of a query
-abbrev pub IsMoment : ℤ → Type 0
-IsMoment t = (pos 0 ≤ℤ t) × (t ≤ℤ pos 4398046511103)
+-- each text is that of a pattern at hand
+abbrev pub AreThere : List (List ℕ) → List (List ℕ) → Type 0
+AreThere [] patterns = Unit {0}
+AreThere (text ∷ texts) patterns = (list_any (λ p. bytes_eq p text) patterns ≡ true) × AreThere texts patterns
 
--- such times, and a first one
-pub record IsRun (times : Times) : Type 0 where
-  pub start : IsMoment times.start
-  pub all : (k : ℕ) → k < times.len → IsMoment (time_at times k)
+-- a time that may be moved by 2^43 milliseconds at each of so many levels, and is then at most 2^50 in size
+abbrev pub HasLevels : ℕ → ℤ → Type 0
+HasLevels levels t = unsigned_abs t + 8796093022208 * levels ≤ 1125899906842624
+
+-- such times, a first one, and the greatest that `@` fixes
+pub record HasRoom (levels : ℕ) (times : Times) : Type 0 where
+  pub fixed : HasLevels levels (pos 4398046511103)
+  pub start : HasLevels levels times.start
+  pub all : (k : ℕ) → k < times.len → HasLevels levels (time_at times k)
+
+-- what a tree is evaluated with, and what trees are
+pub record IsGiven (t : Tree) (ls : List Pairs) (lists texts : List (List ℕ)) (times : Times) : Type 0 where
+  pub bound : Begins (series_in t ls) lists
+  pub patterns : AreThere (patterns_in (preorder t)) texts
+  pub room : HasRoom (height t) times
+
+pub record AreGiven (ts : Trees) (ls : List Pairs) (lists texts : List (List ℕ)) (times : Times) : Type 0 where
+  pub bound : Begins (all_series_in ts ls) lists
+  pub patterns : AreThere (patterns_in (all_preorder ts)) texts
+  pub room : HasRoom (heights ts) times
+
+-- the windows of a run that a subquery is read at, and the times of its inner expression in them
+pub record IsInnerRun (range resolution : ℕ) (run : InnerRun) : Type 0 where
+  pub within : AreTimes run.read
+  pub starts : AreStarts range run.read
+  pub multiples : AreMultiplesOver range resolution run.at run.read

@@ -1,3 +1,6 @@
+pub mod Arguments
 pub mod Bound
+pub mod Calls
 pub mod Nodes
+pub mod Strings
 pub mod Zipped

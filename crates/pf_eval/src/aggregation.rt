@@ -1,46 +1,50 @@
-//! Aggregations with one value for each group.
+//! Aggregations.
 
-ghost use Rattle.std.specs.Prelude.{◌≡◌, ◌<◌, ◌∷◌, [], ℕ, true, map, IfOk};
-ghost use Rattle.pf_model.specs.Built.{has_one_value};
-ghost use Rattle.pf_model.specs.Outcomes.{Outcome, aggregation};
-ghost use Rattle.pf_columns.specs.Groups.{operator};
-ghost use Rattle.pf_eval.specs.Nodes.{node_at, steps_in};
+ghost use Rattle.std.specs.Prelude.{◌≡◌, ◌<◌, ℕ, false, map, IfOk};
+ghost use Rattle.pf_model.specs.Aggregation.{aggregate};
+ghost use Rattle.pf_model.specs.InstantFunctions.{first_scalar};
+ghost use Rattle.pf_model.specs.Outcomes.{aggregation};
+ghost use Rattle.pf_model.specs.declared.cell.StepCell.TheVariants.{Good};
+ghost use Rattle.pf_columns.specs.Columns.{cell_at, value_in};
+ghost use Rattle.pf_columns.specs.Steps.{bad_in, step_at, unless_bad};
+ghost use Rattle.pf_eval.specs.Nodes.{is_text, node_at, nodes_at};
 
+use crate::arguments::arguments_of;
 use crate::node::Node;
-use pf_base::OutOfMemory;
-use pf_columns::{GroupOp, StepCells, aggregated};
+use pf_base::{OutOfMemory, Value};
+use pf_columns::{GroupOp, StepCells, aggregated, aggregated_by};
 use pf_model::{AggOp, Grouping};
 use std::alloc::Global;
 
-/// The vector that a node is. A scalar has no elements.
-fn steps_in(alloc: Global, node: Node) -> StepCells
-    ensures { result ≡ steps_in node }
+/// The values of the first scalar among some, none where there is no scalar.
+fn first_values(scalars: &[Vec<Option<Value>>]) -> &[Option<Value>]
+    ensures { (k : ℕ) → value_in result.now k ≡ first_scalar (map (λ vs. value_in vs.items k) scalars.now) }
 {
-    match node {
-        Node::Vector(steps) => steps,
-        Node::Scalar(_) => StepCells {
-            columns: Vec::new(alloc),
-            bads: Vec::new(alloc),
-        },
+    match scalars.first() {
+        Some(values) => values,
+        None => &[],
     }
 }
 
-/// An aggregation of a node.
-fn of_node(
+/// An aggregation of a vector, beside a scalar where it has a parameter.
+fn over_steps(
     alloc: Global,
-    op: GroupOp,
+    op: AggOp,
     grouping: &Grouping,
-    arg: Node,
+    params: &[Option<Value>],
+    steps: StepCells,
     len: u32,
-) -> Result<Node, OutOfMemory>
-    ensures { IfOk result (λ n. (k : ℕ) → k < len → node_at n k ≡ aggregation (operator op) grouping.now (node_at arg k ∷ [])) }
+) -> Result<StepCells, OutOfMemory>
+    ensures { IfOk result (λ s. (k : ℕ) → k < len
+        → step_at s k ≡ unless_bad (bad_in steps.bads k) (Good (aggregate op grouping.now.without grouping.now.labels (value_in params.now k) (cell_at steps.columns k)))) }
 {
-    let found = aggregated(alloc, op, grouping, steps_in(alloc, arg), len)?;
-    Ok(Node::Vector(found))
+    match GroupOp::of(op) {
+        Some(op) => aggregated(alloc, op, grouping, steps, len),
+        None => aggregated_by(alloc, op, grouping, params, steps, len),
+    }
 }
 
-/// An aggregation of the one node among some.
-#[tactic(auto, using(crate::proofs::Aggregates::one_value_or_parameter))]
+/// An aggregation of the first vector among some nodes, beside the first scalar. The first error among them comes first.
 pub(crate) fn aggregation(
     alloc: Global,
     op: AggOp,
@@ -48,16 +52,21 @@ pub(crate) fn aggregation(
     args: Vec<Node>,
     len: u32,
 ) -> Result<Node, OutOfMemory>
-    requires { has_one_value op ≡ true }
-    ensures { IfOk result (λ n. (k : ℕ) → k < len → (o : Outcome) → map (λ a. node_at a k) args.items ≡ o ∷ [] → node_at n k ≡ aggregation op grouping.now (o ∷ [])) }
+    ensures kind { IfOk result (λ n. is_text n ≡ false) }
+    ensures value { IfOk result (λ n. (k : ℕ) → k < len → node_at n k ≡ aggregation op grouping.now (nodes_at args.items k)) }
 {
-    let Some(op) = GroupOp::of(op) else {
-        unreachable!()
+    let found = arguments_of(alloc, args, len)?;
+    let steps = StepCells {
+        columns: found.columns,
+        bads: found.bads,
     };
-    let mut args = args;
-    let Some(arg) = args.pop() else {
-        return Ok(Node::Scalar(Vec::new(alloc)));
-    };
-    let found = of_node(alloc, op, grouping, arg, len)?;
-    Ok(found)
+    let steps = over_steps(
+        alloc,
+        op,
+        grouping,
+        first_values(&found.scalars),
+        steps,
+        len,
+    )?;
+    Ok(Node::Vector(steps))
 }

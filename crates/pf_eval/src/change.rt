@@ -4,16 +4,17 @@ ghost use Rattle.std.specs.Prelude.{◌≡◌, ◌<◌, ℕ, Some, None, map, If
 ghost use Rattle.pf_model.specs.Cells.{cell_of};
 ghost use Rattle.pf_model.specs.Matching.{of_scalars};
 ghost use Rattle.pf_model.specs.Merging.{below};
-ghost use Rattle.pf_model.specs.Outcomes.{negated, signed};
+ghost use Rattle.pf_model.specs.Outcomes.{negated, of_cell, signed};
 ghost use Rattle.pf_columns.specs.Columns.{cell_at, value_in};
 ghost use Rattle.pf_columns.specs.Steps.{bad_in, step_at, unless_bad};
-ghost use Rattle.pf_eval.specs.Nodes.{altered, applied, changed, labelled, node_at, onto};
+ghost use Rattle.pf_eval.specs.Nodes.{altered, applied, changed, is_text, labelled, node_at, onto};
+ghost use Rattle.pf_eval.specs.declared.node.Node.TheVariants as node;
 
-use crate::node::{Node, value_of};
+use crate::node::{Node, Scalars, value_of};
 use pf_base::{Labels, OutOfMemory, Value};
 use pf_columns::{Column, StepCells, normalised};
 use pf_math::{negated, of_scalars, operated, result_labels};
-use pf_model::BinaryOp;
+use pf_model::{BinaryOp, ErrorKind};
 use std::alloc::Global;
 
 /// A change of an element by itself, beside a scalar on its left or on its right.
@@ -84,40 +85,64 @@ fn changed_columns(
     Ok(found)
 }
 
-/// A vector with each element changed by itself.
+/// The elements of columns, each changed by itself, beside the errors of steps.
 pub(crate) fn altered(
     alloc: Global,
     change: Change,
     scalars: &[Option<Value>],
-    steps: StepCells,
+    columns: &[Column],
+    bads: Vec<Option<ErrorKind>>,
     len: u32,
 ) -> Result<StepCells, OutOfMemory>
-    ensures { IfOk result (λ s. (k : ℕ) → k < len → step_at s k ≡ unless_bad (bad_in steps.bads k) (cell_of (altered change (value_in scalars.now k) (cell_at steps.columns k)))) }
+    ensures { IfOk result (λ s. (k : ℕ) → k < len → step_at s k ≡ unless_bad (bad_in bads.items k) (cell_of (altered change (value_in scalars.now k) (cell_at columns.now k)))) }
 {
-    let columns = changed_columns(alloc, change, scalars, &steps.columns, len)?;
+    let columns = changed_columns(alloc, change, scalars, columns, len)?;
+    let found = normalised(alloc, columns, bads, len)?;
+    Ok(found)
+}
+
+/// A vector with its signs turned.
+fn negated_steps(alloc: Global, steps: StepCells, len: u32) -> Result<StepCells, OutOfMemory>
+    ensures { IfOk result (λ s. (k : ℕ) → k < len → of_cell (step_at s k) ≡ negated (of_cell (step_at steps k))) }
+{
+    let columns = changed_columns(alloc, Change::Negation, &[], &steps.columns, len)?;
     let found = normalised(alloc, columns, steps.bads, len)?;
     Ok(found)
 }
 
+/// A scalar with its sign turned.
+fn negated_scalars(alloc: Global, scalars: Scalars, len: u32) -> Result<Scalars, OutOfMemory>
+    ensures { IfOk result (λ s. (k : ℕ) → k < len → node_at (node.Scalar s) k ≡ negated (node_at (node.Scalar scalars) k)) }
+{
+    let values = changed_values(alloc, Change::Negation, &[], &scalars.values, len)?;
+    Ok(Scalars {
+        values,
+        bads: scalars.bads,
+    })
+}
+
 /// A node with its sign turned.
 fn negation(alloc: Global, arg: Node, len: u32) -> Result<Node, OutOfMemory>
-    ensures { IfOk result (λ n. (k : ℕ) → k < len → node_at n k ≡ negated (node_at arg k)) }
+    ensures value { IfOk result (λ n. (k : ℕ) → k < len → node_at n k ≡ negated (node_at arg k)) }
+    ensures kind { IfOk result (λ n. is_text n ≡ is_text arg) }
 {
     match arg {
         Node::Scalar(scalars) => {
-            let found = changed_values(alloc, Change::Negation, &[], &scalars, len)?;
+            let found = negated_scalars(alloc, scalars, len)?;
             Ok(Node::Scalar(found))
         }
         Node::Vector(steps) => {
-            let found = altered(alloc, Change::Negation, &[], steps, len)?;
+            let found = negated_steps(alloc, steps, len)?;
             Ok(Node::Vector(found))
         }
+        Node::Text(text) => Ok(Node::Text(text)),
     }
 }
 
 /// A signed node. A plus changes nothing.
 pub(crate) fn signed(alloc: Global, minus: bool, arg: Node, len: u32) -> Result<Node, OutOfMemory>
-    ensures { IfOk result (λ n. (k : ℕ) → k < len → node_at n k ≡ signed minus (node_at arg k)) }
+    ensures value { IfOk result (λ n. (k : ℕ) → k < len → node_at n k ≡ signed minus (node_at arg k)) }
+    ensures kind { IfOk result (λ n. is_text n ≡ is_text arg) }
 {
     if !minus {
         return Ok(arg);

@@ -1,33 +1,46 @@
 //! What a node of a query is over a run of steps.
 
-ghost use Rattle.std.specs.Prelude.{◌≡◌, ◌<◌, ℕ, Some, IfOk};
+ghost use Rattle.std.specs.Prelude.{◌≡◌, ◌<◌, ℕ, Some, false, [], IfOk};
 ghost use Rattle.pf_model.specs.Merging.{below};
 ghost use Rattle.pf_model.specs.Outcomes.{scalar};
 ghost use Rattle.pf_columns.specs.Columns.{value_in};
 ghost use Rattle.pf_columns.specs.Steps.{bad_in};
-ghost use Rattle.pf_eval.specs.Nodes.{first_of, node_at};
+ghost use Rattle.pf_eval.specs.Nodes.{first_of, is_text, node_at};
 
-use pf_base::{OutOfMemory, Value};
+use pf_base::{Labels, OutOfMemory, Text, Value};
 use pf_columns::StepCells;
 use pf_model::ErrorKind;
 use std::alloc::Global;
 
-/// A scalar's value at each step, where it has one, or the steps of a vector.
+/// A scalar at each step: its value, where it has one, or an error. A step behind the last error has none, and where no
+/// step has one, `bads` is empty.
+#[derive(Debug, Drop)]
+pub(crate) struct Scalars {
+    pub(crate) values: Vec<Option<Value>>,
+    pub(crate) bads: Vec<Option<ErrorKind>>,
+}
+
+/// What a node is at each step of a run. A text is the same at each of them.
 #[derive(Debug, Drop)]
 pub(crate) enum Node {
-    Scalar(Vec<Option<Value>>),
+    Scalar(Scalars),
     Vector(StepCells),
+    Text(Text),
 }
 
 /// A number at each step.
 pub(crate) fn number(alloc: Global, value: Value, len: u32) -> Result<Node, OutOfMemory>
-    ensures { IfOk result (λ n. (k : ℕ) → k < len → node_at n k ≡ scalar (Some value)) }
+    ensures value { IfOk result (λ n. (k : ℕ) → k < len → node_at n k ≡ scalar (Some value)) }
+    ensures kind { IfOk result (λ n. is_text n ≡ false) }
 {
-    let mut found = Vec::new(alloc);
+    let mut values = Vec::new(alloc);
     for _ in 0..len {
-        found.push(Some(value))?;
+        values.push(Some(value))?;
     }
-    Ok(Node::Scalar(found))
+    Ok(Node::Scalar(Scalars {
+        values,
+        bads: Vec::new(alloc),
+    }))
 }
 
 /// The value of a step, if it has one.
@@ -91,4 +104,11 @@ pub(crate) fn first_bads(
     }
     let found = all_first(alloc, &a, &b, len)?;
     Ok(found)
+}
+
+/// No labels.
+pub(crate) fn no_labels(alloc: Global) -> Result<Labels, OutOfMemory>
+    ensures { IfOk result (λ l. l ≡ []) }
+{
+    Labels::build(alloc, Vec::new(alloc)).map_err(|_| OutOfMemory)
 }

@@ -1,28 +1,27 @@
 //! What selectors read over a run of steps.
 
-ghost use Rattle.std.specs.Prelude.{◌≡◌, ◌<◌, ◌≤◌, ◌∷◌, ◌-ℤ◌, ℕ, ℤ, pos, true, List, [], Some, length, map, IfOk, MatchOption};
+ghost use Rattle.std.specs.Prelude.{◌≡◌, ◌<◌, ◌≤◌, ◌∷◌, ◌-ℤ◌, ℕ, ℤ, pos, true, false, List, [], Some, length, map, IfOk, MatchOption};
 ghost use Rattle.std.specs.List.{All, list_all};
 ghost use Rattle.pf_base.specs.declared.plain.Row.{Row};
 ghost use Rattle.pf_base.specs.LabelSets.{is_label_name};
 ghost use Rattle.pf_model.specs.declared.expr.Matcher.{Matcher};
 ghost use Rattle.pf_model.specs.Binding.{accepted_ids};
-ghost use Rattle.pf_model.specs.Built.{are_near, is_distance, is_of_selector, name_labels};
+ghost use Rattle.pf_model.specs.Built.{are_near, is_distance, name_labels};
 ghost use Rattle.pf_model.specs.Cells.{cell_of};
 ghost use Rattle.pf_model.specs.Evaluation.{fixed_time, read_time, selected, selection, timed};
 ghost use Rattle.pf_model.specs.InstantFunctions.{absent_labels, each_value};
 ghost use Rattle.pf_model.specs.Log.{AreApart};
 ghost use Rattle.pf_model.specs.Outcomes.{elements, of_cell, range_call};
-ghost use Rattle.pf_model.specs.Trees.{call, more, none, select};
 ghost use Rattle.pf_store.specs.Standing.{StandsFor};
 ghost use Rattle.pf_selectors.specs.Times.{AreStarts, AreTimes, time_at};
-ghost use Rattle.pf_eval.specs.Bound.{IsMoment, IsRun};
-ghost use Rattle.pf_eval.specs.Nodes.{meant, node_at};
+ghost use Rattle.pf_eval.specs.Bound.{HasLevels, HasRoom};
+ghost use Rattle.pf_eval.specs.Nodes.{is_text, node_at};
 
 use crate::node::Node;
 use pf_base::OutOfMemory;
 use pf_block::Snap;
 use pf_math::absent_labels;
-use pf_model::{At, Function, InstantFn, Mods, RangeFn, Selector};
+use pf_model::{At, Mods, RangeFn, Selector};
 use pf_selectors::{Times, ranged, sample_times, selected};
 use std::alloc::Global;
 
@@ -56,7 +55,7 @@ fn fixed_times(mods: Mods, millis: u64, len: u32) -> Times
 #[tactic(auto, using(crate::proofs::ReadTimes::offset_within))]
 fn moved_times(mods: Mods, times: &Times) -> Times
     requires near { are_near mods ≡ true }
-    requires start { IsMoment times.now.start }
+    requires start { HasLevels 1 times.now.start }
     ensures start { result.start ≡ times.now.start -ℤ mods.offset }
     ensures step { result.step ≡ times.now.step }
     ensures len { result.len ≡ times.now.len }
@@ -68,12 +67,13 @@ fn moved_times(mods: Mods, times: &Times) -> Times
     }
 }
 
-/// The times that a selector reads at.
+/// The times that a selector or a subquery reads at.
 #[tactic(auto, using(crate::proofs::ReadTimes::millis_within))]
-fn read_times(mods: Mods, times: &Times) -> Times
+pub(crate) fn read_times(mods: Mods, times: &Times) -> Times
     requires near { are_near mods ≡ true }
-    requires run { IsRun times.now }
+    requires room { HasRoom 1 times.now }
     ensures len { result.len ≡ times.now.len }
+    ensures start { result.start ≡ read_time mods times.now.start }
     ensures times { (k : ℕ) → k < times.now.len → time_at result k ≡ read_time mods (time_at times.now k) }
     ensures within { AreTimes result }
 {
@@ -93,8 +93,9 @@ pub(crate) fn selection(
 ) -> Result<Node, OutOfMemory>
     requires inside { All (λ id. id < length snap.now.labels) ids.now }
     requires near { are_near mods ≡ true }
-    requires run { IsRun times.now }
-    ensures { IfOk result (λ n. (samples : List Row) (ms : List Matcher) → StandsFor snap.now samples → ids.now ≡ accepted_ids ms snap.now.labels → (k : ℕ) → k < times.now.len
+    requires room { HasRoom 1 times.now }
+    ensures kind { IfOk result (λ n. is_text n ≡ false) }
+    ensures value { IfOk result (λ n. (samples : List Row) (ms : List Matcher) → StandsFor snap.now samples → ids.now ≡ accepted_ids ms snap.now.labels → (k : ℕ) → k < times.now.len
         → node_at n k ≡ elements (selected samples ms (read_time mods (time_at times.now k)))) }
 {
     let read = read_times(mods, times);
@@ -116,7 +117,8 @@ fn over_windows(
     requires names { list_all (λ m. is_label_name m.label) selector.now ≡ true }
     requires times { AreTimes read.now }
     requires starts { AreStarts range read.now }
-    ensures { IfOk result (λ n. (samples : List Row) → StandsFor snap.now samples → AreApart samples → ids.now ≡ accepted_ids selector.now snap.now.labels → (k : ℕ) → k < read.now.len
+    ensures kind { IfOk result (λ n. is_text n ≡ false) }
+    ensures value { IfOk result (λ n. (samples : List Row) → StandsFor snap.now samples → AreApart samples → ids.now ≡ accepted_ids selector.now snap.now.labels → (k : ℕ) → k < read.now.len
         → node_at n k ≡ range_call f (absent_labels selector.now) (selection samples selector.now (Some range) (time_at read.now k) ∷ [])) }
 {
     let absent = absent_labels(alloc, selector)?;
@@ -128,7 +130,8 @@ fn over_windows(
 fn times_read(alloc: Global, snap: &Snap, ids: &[u32], read: &Times) -> Result<Node, OutOfMemory>
     requires inside { All (λ id. id < length snap.now.labels) ids.now }
     requires times { AreTimes read.now }
-    ensures { IfOk result (λ n. (samples : List Row) (ms : List Matcher) → StandsFor snap.now samples → ids.now ≡ accepted_ids ms snap.now.labels → (k : ℕ) → k < read.now.len
+    ensures kind { IfOk result (λ n. is_text n ≡ false) }
+    ensures value { IfOk result (λ n. (samples : List Row) (ms : List Matcher) → StandsFor snap.now samples → ids.now ≡ accepted_ids ms snap.now.labels → (k : ℕ) → k < read.now.len
         → node_at n k ≡ of_cell (cell_of (each_value Some (selected (map timed samples) ms (time_at read.now k))))) }
 {
     let found = sample_times(alloc, snap, ids, read)?;
@@ -136,7 +139,7 @@ fn times_read(alloc: Global, snap: &Snap, ids: &[u32], read: &Times) -> Result<N
 }
 
 /// A function of a range selector.
-fn over_range(
+pub(crate) fn over_range(
     alloc: Global,
     f: RangeFn,
     selector: &Selector,
@@ -150,8 +153,9 @@ fn over_range(
     requires names { name_labels selector.now ≡ true }
     requires range { is_distance range ≡ true }
     requires near { are_near mods ≡ true }
-    requires run { IsRun times.now }
-    ensures { IfOk result (λ n. (samples : List Row) → StandsFor snap.now samples → AreApart samples → ids.now ≡ accepted_ids selector.now snap.now.labels → (k : ℕ) → k < times.now.len
+    requires room { HasRoom 1 times.now }
+    ensures kind { IfOk result (λ n. is_text n ≡ false) }
+    ensures value { IfOk result (λ n. (samples : List Row) → StandsFor snap.now samples → AreApart samples → ids.now ≡ accepted_ids selector.now snap.now.labels → (k : ℕ) → k < times.now.len
         → node_at n k ≡ range_call f (absent_labels selector.now) (selection samples selector.now (Some range) (read_time mods (time_at times.now k)) ∷ [])) }
 {
     let read = read_times(mods, times);
@@ -160,7 +164,7 @@ fn over_range(
 }
 
 /// `timestamp` of an instant selector.
-fn timestamps(
+pub(crate) fn timestamps(
     alloc: Global,
     snap: &Snap,
     ids: &[u32],
@@ -169,41 +173,12 @@ fn timestamps(
 ) -> Result<Node, OutOfMemory>
     requires inside { All (λ id. id < length snap.now.labels) ids.now }
     requires near { are_near mods ≡ true }
-    requires run { IsRun times.now }
-    ensures { IfOk result (λ n. (samples : List Row) (ms : List Matcher) → StandsFor snap.now samples → ids.now ≡ accepted_ids ms snap.now.labels → (k : ℕ) → k < times.now.len
+    requires room { HasRoom 1 times.now }
+    ensures kind { IfOk result (λ n. is_text n ≡ false) }
+    ensures value { IfOk result (λ n. (samples : List Row) (ms : List Matcher) → StandsFor snap.now samples → ids.now ≡ accepted_ids ms snap.now.labels → (k : ℕ) → k < times.now.len
         → node_at n k ≡ of_cell (cell_of (each_value Some (selected (map timed samples) ms (read_time mods (time_at times.now k)))))) }
 {
     let read = read_times(mods, times);
     let found = times_read(alloc, snap, ids, &read)?;
     Ok(found)
-}
-
-/// A function of a selector.
-pub(crate) fn over_selector(
-    alloc: Global,
-    function: Function,
-    selector: &Selector,
-    range: Option<u64>,
-    snap: &Snap,
-    ids: &[u32],
-    mods: Mods,
-    times: &Times,
-) -> Result<Node, OutOfMemory>
-    requires inside { All (λ id. id < length snap.now.labels) ids.now }
-    requires evaluated { is_of_selector function selector.now range mods ≡ true }
-    requires run { IsRun times.now }
-    ensures { IfOk result (λ n. (samples : List Row) → StandsFor snap.now samples → AreApart samples → ids.now ≡ accepted_ids selector.now snap.now.labels → (k : ℕ) → k < times.now.len
-        → node_at n k ≡ meant samples (call function (more (select selector.now range mods) none)) (time_at times.now k)) }
-{
-    match (function, range) {
-        (Function::Range(f), Some(range)) => {
-            let found = over_range(alloc, f, selector, range, snap, ids, mods, times)?;
-            Ok(found)
-        }
-        (Function::Instant(InstantFn::Timestamp), None) => {
-            let found = timestamps(alloc, snap, ids, mods, times)?;
-            Ok(found)
-        }
-        _ => unreachable!(),
-    }
 }

@@ -1,57 +1,68 @@
-use Rattle.std.proofs.Common.{◌<◌, ◌+◌, ◌++◌, drop, length, map, subst, sym, ap, ◌∙◌}
-use Rattle.std.specs.List.{All}
+use Rattle.std.proofs.Common.{◌+◌, ◌++◌, drop, map, ap, ◌∙◌}
 use Rattle.pf_model.specs.Trees.{tree_of, trees_of}
 use Rattle.pf_selectors.specs.Times.{time_at}
-use Rattle.pf_index.proofs.Entries.{ids_within}
-use Rattle.pf_eval.specs.Nodes.{all_meant, meant, node_at}
-use Rattle.pf_eval.proofs.BoundNodes.{aggregate_is, args_more, behind_first, first_asked, first_is, first_listed, of_one, one_operand, pushed_outcome, rest_begins, rest_evaluated, select_is, selector_begins, some_first}
+use Rattle.pf_eval.specs.Nodes.{all_meant, node_at, nodes_at, texts_in}
+use Rattle.pf_eval.specs.Strings.{strings_in}
+use Rattle.pf_eval.specs.declared.node.Node.TheVariants as node
+use Rattle.pf_eval.proofs.BoundNodes.{args_more, behind_first, pushed_outcome, string_behind, string_outcome}
+use Rattle.pf_eval.proofs.CalledParts.{called_meant}
+use Rattle.pf_eval.proofs.GivenParts.{arguments_evaluated, first_given, rest_given}
+use Rattle.pf_eval.proofs.NodeTexts.{query_pushed, string_pushed}
 use Rattle.pf_eval.proofs.bound.+nodes.Goals as goal
-
-pub node_of-take_first-list-requires : goal.node_of-take_first-list-requires
-node_of-take_first-list-requires t c =
-    let is = select_is _ _ _ _ c.in-Select-default-None-default.is in
-    some_first (λ v. v.items) _ c.args.series.now (selector_begins _ _ _ _ _ _ is c.requires.bound)
-
-pub node_of-selection-requires-clause-inside : goal.node_of-selection-requires-clause-inside
-node_of-selection-requires-clause-inside t c =
-    let ms = c.in-Select-default-None-default.selector in
-    let ls = c.args.snap.now.labels in
-    let is = select_is _ _ _ _ c.in-Select-default-None-default.is in
-    subst (All (λ id. id < length ls))
-    (sym (first_is _ _ _ _ (selector_begins _ _ _ _ _ _ is c.requires.bound) c.take_first-list.ensures))
-    (ids_within ms ls)
 
 pub node_of-returns-in_ok-node-in-Binary-clause-rest : goal.node_of-returns-in_ok-node-in-Binary-clause-rest
 node_of-returns-in_ok-node-in-Binary-clause-rest t c =
     c.asks_right.ensures.behind _ c.in_ok-right-in-Binary.ensures.rest
 
-pub node_of-returns-in_ok-node-in-Aggregate-clause-node : goal.node_of-returns-in_ok-node-in-Aggregate-clause-node
-node_of-returns-in_ok-node-in-Aggregate-clause-node t c =
-    let is = aggregate_is _ _ _ _ _ c.in-Aggregate.is c.deref-in-Aggregate.ensures.value in
-    λ samples stands apart k h.
-    of_one samples _ _ _ (time_at c.args.times.now k) (node_at c.in_ok-node-in-Aggregate.node k) (one_operand _ _ _ _ is c.requires.evaluated)
-    (λ o e. c.in_ok-node-in-Aggregate.ensures k h o (c.in_ok-found-in-Aggregate.ensures.nodes samples stands apart k h ∙ e))
-    ∙ ap (λ q. meant samples q (time_at c.args.times.now k)) (sym is)
+pub node_of-returns-in_ok-node-in-Call-Instant-default-clause-node : goal.node_of-returns-in_ok-node-in-Call-Instant-default-clause-node
+node_of-returns-in_ok-node-in-Call-Instant-default-clause-node t c = λ samples stands apart k h.
+    called_meant samples _ _ _ (time_at c.args.times.now k) (node_at c.in_ok-node-in-Call-Instant-default.node k) (nodes_at c.in_ok-found-in-Call-Instant-default-2.found.nodes.items k)
+    c.asks_called.ensures.tree (c.in_ok-node-in-Call-Instant-default.ensures.value samples k h) (c.in_ok-found-in-Call-Instant-default-2.ensures.nodes samples stands apart k h)
+    (c.in_default-timed_selector.ensures samples)
 
-pub nodes_of-asks-requires-clause-evaluated : goal.nodes_of-asks-requires-clause-evaluated
-nodes_of-asks-requires-clause-evaluated t c =
-    first_asked _ _ _ c.arg-item.is c.loop-arg-test.true c.loop-arg.invariant.evaluated
+pub nodes_of-asks_argument-requires-clause-given : goal.nodes_of-asks_argument-requires-clause-given
+nodes_of-asks_argument-requires-clause-given t c =
+    first_given _ _ _ _ _ _ _ (args_more _ _ _ c.loop-arg-test.true c.arg-item.is) c.loop-arg.invariant.given
 
-pub nodes_of-asks-requires-clause-bound : goal.nodes_of-asks-requires-clause-bound
-nodes_of-asks-requires-clause-bound t c =
-    first_listed _ _ _ _ _ c.arg-item.is c.loop-arg-test.true c.loop-arg.invariant.bound
+pub nodes_of-loop-arg-preserved-in-Some : goal.nodes_of-loop-arg-preserved-in-Some
+nodes_of-loop-arg-preserved-in-Some u c =
+    let is = args_more _ _ _ c.loop-arg-test.true c.arg-item.is in
+    let ls = c.args.snap.now.labels in
+    let lists = map (λ v. v.items) c.loop-arg.rest.now in
+    let a = tree_of c.arg-item.result in
+    let here = string_behind ls lists a c.in-Some.string.now c.in-Some.ensures in
+    let left = trees_of (map tree_of (drop (c.loop-arg.arg-index + 1) c.args.args.now)) in
+    let n = node.Text c.in_ok-clone.field-0 in
+    record {
+      evaluated = arguments_evaluated _ _ _ is c.loop-arg.invariant.evaluated;
+      given = rest_given _ _ _ _ _ _ _ is c.loop-arg.invariant.given _ here;
+      rest = behind_first ls lists _ _ _ is _ here ∙ c.loop-arg.invariant.rest;
+      strings = ap (λ ns. texts_in ns ++ strings_in left) c.in_ok-push.ensures.items
+          ∙ string_pushed c.loop-arg.nodes.items _ left a is n c.in-Some.string.now (ap node.Text c.in_ok-clone.ensures) c.in-Some.ensures
+          ∙ c.loop-arg.invariant.strings;
+      nodes = λ samples stands apart k h.
+          let t = time_at c.args.times.now k in
+          ap (λ ns. map (λ m. node_at m k) ns ++ all_meant samples left t) c.in_ok-push.ensures.items
+          ∙ pushed_outcome samples t (λ m. node_at m k) c.loop-arg.nodes.items n _ left _ is (string_outcome samples t a c.in-Some.string.now c.in_ok-clone.field-0 c.in-Some.ensures c.in_ok-clone.ensures)
+          ∙ c.loop-arg.invariant.nodes samples stands apart k h;
+    }
 
 pub nodes_of-loop-arg-preserved : goal.nodes_of-loop-arg-preserved
 nodes_of-loop-arg-preserved u c =
     let is = args_more _ _ _ c.loop-arg-test.true c.arg-item.is in
+    let ls = c.args.snap.now.labels in
+    let lists = map (λ v. v.items) c.loop-arg.rest.now in
+    let left = trees_of (map tree_of (drop (c.loop-arg.arg-index + 1) c.args.args.now)) in
     record {
-      evaluated = rest_evaluated _ _ _ is c.loop-arg.invariant.evaluated;
-      bound = rest_begins _ _ _ _ _ is _ c.in_ok-found.ensures.rest c.loop-arg.invariant.bound;
-      rest = behind_first _ _ _ _ _ is _ c.in_ok-found.ensures.rest ∙ c.loop-arg.invariant.rest;
+      evaluated = arguments_evaluated _ _ _ is c.loop-arg.invariant.evaluated;
+      given = rest_given _ _ _ _ _ _ _ is c.loop-arg.invariant.given _ c.in_ok-found.ensures.rest;
+      rest = behind_first ls lists _ _ _ is _ c.in_ok-found.ensures.rest ∙ c.loop-arg.invariant.rest;
+      strings = ap (λ ns. texts_in ns ++ strings_in left) c.in_ok-push-2.ensures.items
+          ∙ query_pushed c.loop-arg.nodes.items _ left _ is c.in_ok-found.found.node c.in_ok-found.ensures.kind c.in_default.ensures
+          ∙ c.loop-arg.invariant.strings;
       nodes = λ samples stands apart k h.
           let t = time_at c.args.times.now k in
-          let left = trees_of (map tree_of (drop (c.loop-arg.arg-index + 1) c.args.args.now)) in
-          ap (λ ns. map (λ n. node_at n k) ns ++ all_meant samples left t) c.in_ok-push.ensures.items
-          ∙ pushed_outcome samples t (λ n. node_at n k) c.loop-arg.nodes.items c.in_ok-found.found.node _ left _ is (c.in_ok-found.ensures.node samples stands apart k h)
+          ap (λ ns. map (λ m. node_at m k) ns ++ all_meant samples left t) c.in_ok-push-2.ensures.items
+          ∙ pushed_outcome samples t (λ m. node_at m k) c.loop-arg.nodes.items c.in_ok-found.found.node _ left _ is (c.in_ok-found.ensures.node samples stands apart k h)
           ∙ c.loop-arg.invariant.nodes samples stands apart k h;
     }

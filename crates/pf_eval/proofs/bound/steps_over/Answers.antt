@@ -2,15 +2,7 @@ use Rattle.std.proofs.Common.{◌<◌, subst, sym, ap, ◌∙◌}
 use Rattle.pf_model.specs.Evaluation.{eval}
 use Rattle.pf_model.specs.Outcomes.{step_cell}
 use Rattle.pf_model.specs.Trees.{tree_of}
-use Rattle.pf_eval.specs.Bound.{Begins, series_in}
-use Rattle.pf_eval.proofs.BoundLists.{begins_all, bound_is}
 use Rattle.pf_eval.proofs.bound.steps_over.Goals as goal
-
-pub node_of-requires-clause-bound : goal.node_of-requires-clause-bound
-node_of-requires-clause-bound c =
-    let t = tree_of c.args.expr.now in
-    let ls = c.args.snap.now.labels in
-    subst (Begins (series_in t ls)) (sym (c.requires.bound ∙ bound_is ls t)) (begins_all (series_in t ls))
 
 pub returns : goal.returns
 returns c = λ samples stands apart k h.

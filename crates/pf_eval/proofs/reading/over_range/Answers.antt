@@ -7,10 +7,10 @@ use Rattle.pf_eval.proofs.reading.over_range.Goals as goal
 
 pub over_windows-requires-clause-starts : goal.over_windows-requires-clause-starts
 over_windows-requires-clause-starts c =
-    starts_within c.args.mods c.read_times-read.result c.args.times.now c.args.range c.requires.near c.requires.run c.requires.range
+    starts_within c.args.mods c.read_times-read.result c.args.times.now c.args.range c.requires.near c.requires.room c.requires.range
     c.read_times-read.ensures.len c.read_times-read.ensures.times
 
-pub returns : goal.returns
-returns c = λ samples stands apart ids k h.
-    c.in_ok-found.ensures samples stands apart ids k (subst (λ n. k < n) (sym c.read_times-read.ensures.len) h)
+pub returns-clause-value : goal.returns-clause-value
+returns-clause-value c = λ samples stands apart ids k h.
+    c.in_ok-found.ensures.value samples stands apart ids k (subst (λ n. k < n) (sym c.read_times-read.ensures.len) h)
     ∙ ap (λ t. range_call c.args.f (absent_labels c.args.selector.now) (selection samples c.args.selector.now (Some c.args.range) t ∷ [])) (c.read_times-read.ensures.times k h)

@@ -5,7 +5,7 @@ use Rattle.pf_model.specs.InstantFunctions.{each_value}
 use Rattle.pf_model.specs.Outcomes.{of_cell}
 use Rattle.pf_eval.proofs.reading.timestamps.Goals as goal
 
-pub returns : goal.returns
-returns c = λ samples ms stands ids k h.
-    c.in_ok-found.ensures samples ms stands ids k (subst (λ n. k < n) (sym c.read_times-read.ensures.len) h)
+pub returns-clause-value : goal.returns-clause-value
+returns-clause-value c = λ samples ms stands ids k h.
+    c.in_ok-found.ensures.value samples ms stands ids k (subst (λ n. k < n) (sym c.read_times-read.ensures.len) h)
     ∙ ap (λ t. of_cell (cell_of (each_value Some (selected (map timed samples) ms t)))) (c.read_times-read.ensures.times k h)
