@@ -1,10 +1,13 @@
 pub mod Asked
+pub mod BindSteps
+pub mod CountedNodes
 pub mod Exact
 pub mod Faults
+mod LawfulKinds
+pub mod LawfulQueries
+mod LawfulTexts
 pub mod Names
 pub mod NodeFaults
-pub mod Obstacles
 pub mod Operands
 pub mod Utf8
 pub mod Variants
-pub mod Walks

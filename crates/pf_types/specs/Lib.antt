@@ -1,4 +1,4 @@
+pub mod Counted
 pub mod Errors
 pub mod Faults
-pub mod Obstacles
 pub mod Rules

@@ -1,8 +1,9 @@
 //! Queries read from texts, with their kinds.
 
-ghost use Rattle.std.specs.Prelude.{◌≡◌, ◌≤◌, IfErr, IfOk};
+ghost use Rattle.std.specs.Prelude.{◌≡◌, ◌≤◌, true, IfErr, IfOk};
+ghost use Rattle.pf_model.specs.Built.{is_evaluated};
 ghost use Rattle.pf_model.specs.Queries.{IsQuery};
-ghost use Rattle.pf_model.specs.Trees.{Tree, size, tree_of};
+ghost use Rattle.pf_model.specs.Trees.{Tree, height, size, tree_of};
 ghost use Rattle.pf_model.specs.Typing.{asked_fault, scalar_or_instant};
 ghost use Rattle.pf_types.specs.Errors.{IsAnsweredWith, IsFaultFor, query_fault};
 ghost use Rattle.pf_types.specs.Faults.{fault_in};
@@ -80,10 +81,13 @@ fn asked(expr: &Expr) -> Result<(), TypeError>
 /// The tree of a query's text, where its kinds are lawful and its value is a scalar or an instant vector. Prometheus, Querying
 /// basics: Expression language data types. Else the first error: the grammar's refusal; then the fault of the first node,
 /// children before their node, that breaks a rule; then `Wrong` at node 0 for a range vector or a string. It recurses as deep
-/// as the tree is high, at most 64 levels.
+/// as the tree is high, at most 64 levels. The evaluator does every query that is lawful.
+#[tactic(auto, using(crate::proofs::LawfulQueries::query_is_evaluated))]
 pub fn read_query(alloc: Global, text: &str) -> Result<Expr, QueryError>
     ensures query { IfOk result (λ e. IsQuery text.now (tree_of e)) }
     ensures small { IfOk result (λ e. size (tree_of e) ≤ 65536) }
+    ensures low { IfOk result (λ e. height (tree_of e) ≤ 64) }
+    ensures evaluated { IfOk result (λ e. is_evaluated (tree_of e) ≡ true) }
     ensures refused { IfErr result (λ e. IsFaultFor text.now (query_fault e)) }
     ensures exact { (t : Tree) → IsQuery text.now t → IsAnsweredWith t result }
 {
