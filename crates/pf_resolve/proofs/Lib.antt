@@ -1,3 +1,4 @@
+pub mod Kept
 pub mod Levels
 pub mod Multiples
 pub mod Resolved

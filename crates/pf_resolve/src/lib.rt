@@ -4,9 +4,11 @@
 mod bounds;
 mod reading;
 mod resolution;
+mod settled;
 mod sharding;
 
 pub use bounds::is_readable;
 pub use reading::{lowest, reach};
-pub use resolution::resolve;
+pub use resolution::{resolve, resolved_over};
+pub use settled::is_settled;
 pub use sharding::shardable;

@@ -1,11 +1,13 @@
 //! `start()`, `end()` and absent resolutions put in.
 
-ghost use Rattle.std.specs.Prelude.{◌≡◌, true};
-ghost use Rattle.pf_model.specs.Resolving.{resolved, resolved_at, resolved_mods};
-ghost use Rattle.pf_model.specs.Trees.{tree_of};
+ghost use Rattle.std.specs.Prelude.{◌≡◌, IfOk, true};
+ghost use Rattle.pf_model.specs.Binding.{patterns_of, selectors_of};
+ghost use Rattle.pf_model.specs.Built.{is_evaluated};
+ghost use Rattle.pf_model.specs.Resolving.{resolved, resolved_at, resolved_mods, resolved_over};
+ghost use Rattle.pf_model.specs.Trees.{height, tree_of};
 ghost use Rattle.pf_resolve.specs.Settled.{is_settled};
 
-use pf_base::Value;
+use pf_base::{Grid, OutOfMemory, Value};
 use pf_model::{At, Expr, Mods};
 use std::mem;
 
@@ -48,6 +50,20 @@ pub fn resolve(expr: Expr, start: u64, end: u64) -> Expr
     ensures same { is_settled (tree_of expr) ≡ true → tree_of result ≡ tree_of expr }
 {
     put_in(expr, start, end)
+}
+
+/// A copy of a query with the range of a grid put in: its first and its last time for `start()` and `end()`, and one minute for
+/// an absent resolution. What is selected, and whether it is evaluated, stays.
+pub fn resolved_over(expr: &Expr, grid: &Grid) -> Result<Expr, OutOfMemory>
+    ensures tree { IfOk result (λ e. tree_of e ≡ resolved_over grid.now (tree_of expr.now)) }
+    ensures evaluated { IfOk result (λ e. is_evaluated (tree_of e) ≡ is_evaluated (tree_of expr.now)) }
+    ensures selectors { IfOk result (λ e. selectors_of (tree_of e) ≡ selectors_of (tree_of expr.now)) }
+    ensures patterns { IfOk result (λ e. patterns_of (tree_of e) ≡ patterns_of (tree_of expr.now)) }
+    ensures height { IfOk result (λ e. height (tree_of e) ≡ height (tree_of expr.now)) }
+{
+    let last = grid.at(grid.len() - 1);
+    let copy = expr.clone()?;
+    Ok(resolve(copy, grid.start(), last))
 }
 
 fn put_in(expr: Expr, start: u64, end: u64) -> Expr
