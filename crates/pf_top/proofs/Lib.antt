@@ -16,7 +16,6 @@ pub mod OpenQueries
 pub mod Printed
 pub mod TextReads
 pub mod Reports
-pub mod SelectorLaws
 pub mod SlotLaws
 pub mod Steps
 pub mod Texts

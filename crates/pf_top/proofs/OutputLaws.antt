@@ -48,7 +48,6 @@ reported_by limits files words name lines full text word read r = record {
   names = r.names;
   rest = r.rest;
   read = scripts_are files (script_word words) name lines word read;
-  built = (r.built, tt);
   legal = r.legal;
   known = r.known;
   woven = r.woven;
@@ -64,10 +63,8 @@ words_by : (limits : Limits) (files : Files) (words : List (List ℕ)) (name : L
     → IsWordsOutput limits files before after words status text
 words_by limits files words name lines before mid after status text word read h (inl (inl (zero, r))) =
     inl (zero, inl (reported_by limits files words name lines false text word read r))
-words_by limits files words name lines before mid after status text word read h (inl (inr (inl (eight, r)))) =
+words_by limits files words name lines before mid after status text word read h (inl (inr (eight, r))) =
     inr (inl (eight, reported_by limits files words name lines true text word read r))
-words_by limits files words name lines before mid after status text word read h (inl (inr (inr (nine, (has, whole))))) =
-    inr (inr (inr (inl (nine, record { unbuilt = unbuilt_is files (evaluation_words words) (script_word words) name word (inr (lines, (read, has))); whole = whole }))))
 words_by limits files words name lines before mid after status text word read h (inr (four, (file, (named, (rose, whole))))) =
     inr (inr (inl (
       four,
@@ -104,7 +101,7 @@ can_run script loaded short there queries read following =
 pub run_ended : (limits : Limits) (files : Files) (lines : List Numbered) (full : Bool) (status : ℕ) (text : List ℕ)
     → status ≡ cond full 8 0 → IsReport limits files lines full text → IsRun limits files lines status text
 run_ended limits files lines false status text is r = inl (is, r)
-run_ended limits files lines true status text is r = inr (inl (is, r))
+run_ended limits files lines true status text is r = inr (is, r)
 
 past : (n most : ℕ) → most < n → nat_le n most ≡ false
 past n most h = grind (arith, nat_tests)
@@ -126,7 +123,7 @@ pub long_output : (limits : Limits) (files : Files) (words : List (List ℕ)) (n
     → script_word words ≡ Some name → LongerThan (files name) most_bytes → (status ≡ 9) × (text ≡ refused_not_built)
     → IsWordsOutput limits files before after words status text
 long_output limits files words name before after status text word long p =
-    inr (inr (inr (inl (p.0, record { unbuilt = unbuilt_is files (evaluation_words words) (script_word words) name word (inl (script_too_long (files name) long)); whole = p.1 }))))
+    inr (inr (inr (inl (p.0, record { unbuilt = unbuilt_is files (evaluation_words words) (script_word words) name word (script_too_long (files name) long); whole = p.1 }))))
 
 -- a script that was not read
 pub unread_output : (limits : Limits) (files : Files) (words : List (List ℕ)) (name : List ℕ) (before after status : ℕ) (text : List ℕ)

@@ -17,6 +17,7 @@ use Rattle.pf_model.specs.Log.{batch_samples}
 use Rattle.pf_model.specs.Machine.{code_of}
 use Rattle.pf_model.specs.Queries.{Reading, asked_with, lawful, refused}
 use Rattle.pf_model.specs.Report.{evaluated_text, evaluation_text}
+use Rattle.pf_model.specs.Resolving.{resolved_over}
 use Rattle.pf_model.specs.Scripts.{Evaluation, evaluation_words, script_word}
 use Rattle.pf_model.specs.Trees.{Tree}
 use Rattle.pf_model.specs.Weave.{Files}
@@ -28,6 +29,7 @@ use Rattle.pf_top.specs.Outputs.{IsWordsOutput}
 use Rattle.pf_top.specs.Queries.{IsQueryRead}
 use Rattle.pf_top.specs.Refusals.{refused_not_built}
 use Rattle.pf_top.specs.declared.bound.BoundQuery.{BoundQuery}
+use Rattle.pf_top.specs.declared.queries.QueryRead.{QueryRead}
 use Rattle.pf_top.specs.declared.queries.QueryRead.TheVariants as query
 
 -- an answer over samples
@@ -38,21 +40,13 @@ answer_printed samples t g wanted a text same is told =
     told ∙ ap (λ (x : Answer). evaluation_text (decimal (code_of x)) (answer_text x)) (sym is)
     ∙ ap (λ (x : Asked). evaluated_text samples (Some (Ok x))) same
 
--- a query that is built, and one that is refused, over a grid
+-- a lawful query, and one that is refused, over a grid
 pub query_printed : (batch : BatchData) (words : List ℕ) (start end step : ℕ) (grid : GridData) (q : Arc BoundQuery Global) (text : List ℕ)
-    → text ≡ evaluated_text (batch_samples batch.rows) (Some (Ok (record { tree = arc_value q; grid = grid })))
-    → IsQueryRead words (query.Built q) → grid_of start end step ≡ Ok grid → IsText batch words start end step text
+    → text ≡ evaluated_text (batch_samples batch.rows) (Some (Ok (record { tree = resolved_over grid (arc_value q); grid = grid })))
+    → IsQueryRead words (query.Lawful q) → grid_of start end step ≡ Ok grid → IsText batch words start end step text
 query_printed batch words start end step grid q text told h gridded =
-    let reading : Reading = lawful (arc_value q) in (
-      reading,
-      (
-        h.0,
-        (
-          h.1,
-          told ∙ ap (λ (g : Result GridData GridError). evaluated_text (batch_samples batch.rows) (asked_with g (Some reading))) (sym gridded),
-        ),
-      ),
-    )
+    let reading : Reading = lawful (arc_value q) in
+    (reading, (h, told ∙ ap (λ (g : Result GridData GridError). evaluated_text (batch_samples batch.rows) (asked_with g (Some reading))) (sym gridded)))
 
 pub refusal_printed : (batch : BatchData) (words : List ℕ) (start end step : ℕ) (grid : GridData) (e : QueryError) (text : List ℕ)
     → text ≡ evaluation_text (codes "400") (error_text (codes "bad_data") (words_of_error e))
@@ -62,45 +56,22 @@ refusal_printed batch words start end step grid e text told h gridded =
       reading,
       (
         h.1.1,
-        (
-          refl,
-          told
-              ∙ ap (λ (o : Option QueryFault). evaluation_text (codes "400") (error_text (codes "bad_data") (option_map_or query_text o memory_text))) h.1.0
-              ∙ ap (λ (g : Result GridData GridError). evaluated_text (batch_samples batch.rows) (asked_with g (Some reading))) (sym gridded),
-        ),
+        told
+            ∙ ap (λ (o : Option QueryFault). evaluation_text (codes "400") (error_text (codes "bad_data") (option_map_or query_text o memory_text))) h.1.0
+            ∙ ap (λ (g : Result GridData GridError). evaluated_text (batch_samples batch.rows) (asked_with g (Some reading))) (sym gridded),
       ),
     )
 
--- where the times are refused
-pub times_printed : (batch : BatchData) (words : List ℕ) (start end step : ℕ) (error : GridError) (q : Arc BoundQuery Global) (text : List ℕ)
+-- where the times are refused, however the query is read
+pub times_printed : (batch : BatchData) (words : List ℕ) (start end step : ℕ) (error : GridError) (q : QueryRead) (text : List ℕ)
     → text ≡ evaluation_text (codes "400") (error_text (codes "bad_data") (grid_text error))
-    → IsQueryRead words (query.Built q) → grid_of start end step ≡ Err error → IsText batch words start end step text
-times_printed batch words start end step error q text told h gridded =
-    let reading : Reading = lawful (arc_value q) in (
-      reading,
-      (
-        h.0,
-        (
-          h.1,
-          told ∙ ap (λ (g : Result GridData GridError). evaluated_text (batch_samples batch.rows) (asked_with g (Some reading))) (sym gridded),
-        ),
-      ),
-    )
-
-pub refused_times_printed : (batch : BatchData) (words : List ℕ) (start end step : ℕ) (error : GridError) (e : QueryError) (text : List ℕ)
-    → text ≡ evaluation_text (codes "400") (error_text (codes "bad_data") (grid_text error))
-    → IsQueryRead words (query.Refused e) → grid_of start end step ≡ Err error → IsText batch words start end step text
-refused_times_printed batch words start end step error e text told h gridded =
-    let reading : Reading = refused h.0 in (
-      reading,
-      (
-        h.1.1,
-        (
-          refl,
-          told ∙ ap (λ (g : Result GridData GridError). evaluated_text (batch_samples batch.rows) (asked_with g (Some reading))) (sym gridded),
-        ),
-      ),
-    )
+    → IsQueryRead words q → grid_of start end step ≡ Err error → IsText batch words start end step text
+times_printed batch words start end step error (query.Lawful q) text told h gridded =
+    let reading : Reading = lawful (arc_value q) in
+    (reading, (h, told ∙ ap (λ (g : Result GridData GridError). evaluated_text (batch_samples batch.rows) (asked_with g (Some reading))) (sym gridded)))
+times_printed batch words start end step error (query.Refused e) text told h gridded =
+    let reading : Reading = refused h.0 in
+    (reading, (h.1.1, told ∙ ap (λ (g : Result GridData GridError). evaluated_text (batch_samples batch.rows) (asked_with g (Some reading))) (sym gridded)))
 
 -- ---- by the words
 
@@ -117,10 +88,8 @@ other_words limits files words before after status text none neither p =
 file_printed : (limits : Limits) (files : Files) (words : List (List ℕ)) (named : Evaluation) (before after status : ℕ) (text : List ℕ)
     → script_word words ≡ None → evaluation_words words ≡ Some named → IsFileOutput (files named.file) named status text
     → IsWordsOutput limits files before after words status text
-file_printed limits files words named before after status text none is (inl (batch, (gives, inl (zero, (reading, (read, (built, whole))))))) =
-    inl (zero, inr (record { named = named; by_words = is; batch = batch; gives = gives; reading = reading; read = read; built = built; whole = whole }))
-file_printed limits files words named before after status text none is (inl (batch, (gives, inr (nine, (unbuilt, whole))))) =
-    inr (inr (inr (inl (nine, record { unbuilt = unbuilt_words files _ None _ (Some named) none is unbuilt; whole = whole }))))
+file_printed limits files words named before after status text none is (inl (batch, (gives, (zero, (reading, (read, whole)))))) =
+    inl (zero, inr (record { named = named; by_words = is; batch = batch; gives = gives; reading = reading; read = read; whole = whole }))
 file_printed limits files words named before after status text none is (inr (three, (refusal, (is_refused, whole)))) =
     inr (inr (inr (inr (three, record { named = named; by_words = is; refusal = refusal; refused = is_refused; whole = whole }))))
 

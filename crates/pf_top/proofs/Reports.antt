@@ -11,7 +11,7 @@ use Rattle.pf_model.specs.Report.{journal_text, line_text, reply_of, stop_reply}
 use Rattle.pf_model.specs.Scripts.{Numbered}
 use Rattle.pf_model.specs.Weave.{Files, Known, IsLineOf, MetFull, Rest, Stop, StopsAt, Woven, turn_of}
 use Rattle.pf_top.specs.Clients.{IsStopped}
-use Rattle.pf_top.specs.Correct.{HaveMetFull, IsBuiltLine}
+use Rattle.pf_top.specs.Correct.{HaveMetFull}
 use Rattle.pf_top.specs.Drives.{IsEnd, IsReport, RanTo}
 use Rattle.pf_top.specs.Files.{AreHeld}
 use Rattle.pf_top.specs.Queries.{AreReadAs, IsTold, readings_in}
@@ -53,11 +53,11 @@ met_by false stop e = (e, tt)
 met_by true stop e = λ h. let f = h.0 in let g : true ≡ false = sym e ∙ f in cc
 
 pub reported : (limits : Limits) (loaded : Loaded) (lines : List Numbered) (n : ℕ) (c : Client) (full : Bool) (text : List ℕ) (told : Files)
-    → AreHeld told loaded.files → AreReadAs loaded.queries → Each (λ l. IsBuiltLine l.line) lines → RanTo limits loaded lines n c
+    → AreHeld told loaded.files → AreReadAs loaded.queries → RanTo limits loaded lines n c
     → full ≡ is_some (slice_get lines n)
     → text ≡ c.out.items ++ (stop_reply full (slice_get lines n) ++ journal_text c.session.names.items (journal_of c.session))
     → IsReport limits told lines full text
-reported limits loaded lines n c full text told files_held right built r met printed =
+reported limits loaded lines n c full text told files_held right r met printed =
     let known : Known = record { files = told; readings = readings_in loaded.queries } in
     let held : IsTold known loaded = record { held = files_held; readings = refl } in
     let g = r.going known held in
@@ -78,7 +78,6 @@ reported limits loaded lines n c full text told files_held right built r met pri
       journal = J;
       names = names;
       rest = rest;
-      built = built;
       legal = subst (λ (l : Limits). Legal l names J) g.limited g.stands.legal;
       known = record { many = g.stands.many; different = g.stands.tenants.apart };
       woven = record {

@@ -1,10 +1,10 @@
 -- Queries and selectors that were read.
 use Rattle.std.proofs.Common.{◌≡◌, ◌≢◌, ℕ, ℤ, zero, suc, ◌+◌, ◌<◌, pos, inl, inr, Bool, true, false, Option, Some, None, Result, Ok, Err, cond, get_or, map, take, List, [], ◌∷◌, ◌++◌, length, refl, sym, ap, ◌∙◌, arith, subst, is_some, true≢false}
 use Rattle.std.specs.BTreeMap.{get_by_text}
-use Rattle.std.specs.List.{list_all}
 use Rattle.std.specs.Prelude.{◌&&◌, ◌||◌, not, Box, Vec, option_and_then, option_map}
-use Rattle.std.specs.Option.{is_none, option_map_or, option_or}
+use Rattle.std.specs.Option.{is_none, option_map_or}
 use Rattle.std.specs.Ordering.{int_eq}
+use Rattle.std.proofs.Math.Bool.{and-false}
 use Rattle.std.proofs.lemmas.Bool.Decides.{Decides-int_eq}
 use Rattle.std.specs.Str.{bytes_eq}
 use Rattle.std.specs.declared.alloc.Global.{Global}
@@ -16,8 +16,6 @@ use Rattle.pf_base.specs.GridLists.{GridData}
 use Rattle.pf_base.specs.Grids.{grid_of}
 use Rattle.pf_base.specs.declared.grid.GridError.{GridError}
 use Rattle.pf_model.specs.declared.expr.Matcher.{Matcher}
-use Rattle.pf_model.specs.declared.expr.MatchSign.{MatchSign}
-use Rattle.pf_model.specs.declared.expr.MatchSign.TheVariants.{Equal, NotEqual, Like, NotLike}
 use Rattle.pf_model.specs.declared.expr.Mods.{Mods}
 use Rattle.pf_model.specs.declared.expr.At.{At}
 use Rattle.pf_model.specs.declared.expr.BinaryOp.{BinaryOp}
@@ -30,23 +28,20 @@ use Rattle.pf_model.proofs.TreeOf.{number_tree, text_tree, unary_tree, binary_tr
 use Rattle.pf_model.specs.declared.matchers.Matchers.{Matchers}
 use Rattle.pf_model.specs.Direct.{Asked}
 use Rattle.pf_model.specs.ErrorTexts.{QueryFault, of_grammar, of_kinds, refused_pattern, empty_selector, memory_text, query_text}
-use Rattle.pf_model.specs.Lists.{Each}
-use Rattle.pf_model.specs.Queries.{IsBuiltQuery, IsBuiltSelector, Readings, asked_of, asked_with, first_obstacle, is_counted, IsFaultOf, IsNoSelector, IsQuery, IsReading, IsSelector, IsUnbuiltQuery, IsUnbuiltSelector, Obstacle, Reading, empty, has_pattern, is_built_tree, is_pattern, is_plain, is_unbuilt, is_unmodified, lawful, no_selector, obstacle_at, obstacle_of, pattern, refused, selecting, selecting_by, selector, selector_obstacle, with_pattern}
+use Rattle.pf_model.specs.Lists.{Each, at}
+use Rattle.pf_model.specs.Queries.{CanRefuse, Readings, asked_of, asked_with, first_empty, IsFaultOf, IsNoSelector, IsQuery, IsReading, IsSelector, Reading, is_plain, is_unmodified, lawful, may_be_no_selector, may_be_refused, no_selector, refused, selecting, selector}
 use Rattle.pf_model.specs.Scripts.{Line, Numbered, ingest, delete, ask, answer}
-use Rattle.pf_model.specs.Selection.{accepts_empty, all_compared, is_compared}
-use Rattle.pf_model.specs.Tokens.{only_if}
-use Rattle.pf_model.specs.Binding.{matchers_in, selectors_of}
-use Rattle.pf_model.specs.Trees.{Tree, number, text, unary, binary, call, aggregate, select, subquery, instant, no_mods, preorder, tree_of}
+use Rattle.pf_model.specs.Resolving.{resolved_over}
+use Rattle.pf_model.specs.Selection.{accepts_empty, all_compared}
+use Rattle.pf_model.specs.Trees.{Tree, number, text, unary, binary, call, aggregate, select, subquery, instant, no_mods, tree_of}
 use Rattle.pf_model.specs.Typing.{Fault, asked_fault}
 use Rattle.pf_script.specs.Lines.{numbered_of}
 use Rattle.pf_script.specs.declared.script.NumberedLine.{NumberedLine}
 use Rattle.pf_types.specs.Errors.{IsFaultFor, query_fault, words_of_error}
 use Rattle.pf_types.specs.declared.query.QueryError.{QueryError}
 use Rattle.pf_types.specs.declared.query.QueryError.TheVariants as query_error
-use Rattle.pf_top.specs.Correct.{HasUnbuilt, IsBuiltLine, IsUnbuiltLine}
-use Rattle.pf_top.specs.BoundQueries.{gives_matchers}
 use Rattle.pf_top.specs.declared.bound.BoundQuery.{BoundQuery}
-use Rattle.pf_top.specs.Queries.{AreReadAs, IsKeptFor, IsLineRead, IsQueryRead, IsReadAs, IsSelectorRead, IsTextRead, Queries, StayRead, built_query, built_selector, is_query_built, is_selector_built, query_reading, reading_in, readings_in, selects_as}
+use Rattle.pf_top.specs.Queries.{AreReadAs, IsKeptFor, IsLineRead, IsQueryRead, IsReadAs, IsSelectorRead, IsTextRead, Queries, SelectsAs, StayRead, query_reading, reading_in, readings_in}
 use Rattle.pf_top.specs.declared.queries.QueryRead.{QueryRead}
 use Rattle.pf_top.specs.declared.queries.QueryRead.TheVariants as query
 use Rattle.pf_top.specs.declared.queries.SelectorRead.{SelectorRead}
@@ -56,17 +51,6 @@ use Rattle.pf_top.proofs.Lists.{each_push, map_push, some_is}
 use Rattle.pf_top.proofs.Machines.{bool_cases}
 
 -- ---- trees as selectors
-
-or_none : {X : Type 0} (o : Option X) → option_or o None ≡ o
-or_none None = refl
-or_none (Some x) = refl
-
--- an instant selector without modifiers has only itself in its way
-own_obstacle : (ms : List Matcher) → obstacle_of (instant ms) ≡ selector_obstacle 0 ms
-own_obstacle ms = or_none (selector_obstacle 0 ms)
-
-own_selecting : (ms : List Matcher) → selecting (instant ms) ≡ selecting_by ms (obstacle_of (instant ms))
-own_selecting ms = ap (selecting_by ms) (sym (own_obstacle ms))
 
 -- a tree that is no instant selector without modifiers is no selector
 pub other_tree : (t : Tree) → is_plain t ≡ false → selecting t ≡ no_selector
@@ -94,20 +78,37 @@ ill_typed (select ms None mods) f h = absurd (none_is f h) where
 ill_typed (select ms (Some range) mods) f h = refl
 ill_typed (subquery e range resolution mods) f h = refl
 
--- one with an empty selector in its way neither
-empty_tree : (t : Tree) (n : ℕ) → obstacle_of t ≡ Some (empty n) → selecting t ≡ no_selector
+-- one whose first counted node is an empty selector neither
+empty_tree : (t : Tree) (n : ℕ) → first_empty t ≡ Some n → selecting t ≡ no_selector
 empty_tree (number v) n h = refl
 empty_tree (text b) n h = refl
 empty_tree (unary m e) n h = refl
 empty_tree (binary op m a b) n h = refl
 empty_tree (call f args) n h = refl
 empty_tree (aggregate op g args) n h = refl
-empty_tree (select ms None mods) n h = elim (bool_cases (is_unmodified mods)) [
-  | inl t ↦ rw t (ap (selecting_by ms) (sym (or_none (selector_obstacle 0 ms)) ∙ h))
-  | inr t ↦ rw t refl
-]
+empty_tree (select ms None mods) n h = by (is_unmodified mods) (accepts_empty ms) h where
+  by : (u e : Bool) → cond e (Some 0) None ≡ Some n → cond (u && not e) (selector ms) no_selector ≡ no_selector
+  by u true g = ap (λ b. cond b (selector ms) no_selector) (and-false u)
+  by u false g = cc
 empty_tree (select ms (Some range) mods) n h = refl
 empty_tree (subquery e range resolution mods) n h = refl
+
+-- the pattern of an instant selector is refused where a pattern of its tree is
+own_pattern : (t : Tree) (n : ℕ) → is_plain t ≡ true → CanRefuse n t → may_be_refused t ≡ true
+own_pattern (number v) n h c = absurd (true≢false (sym h))
+own_pattern (text b) n h c = absurd (true≢false (sym h))
+own_pattern (unary m e) n h c = absurd (true≢false (sym h))
+own_pattern (binary op m a b) n h c = absurd (true≢false (sym h))
+own_pattern (call f args) n h c = absurd (true≢false (sym h))
+own_pattern (aggregate op g args) n h c = absurd (true≢false (sym h))
+own_pattern (select ms None mods) n h c = by n c.node c.there c.pattern where
+  by : (k : ℕ) (node : Tree) → at (select ms None mods ∷ []) k ≡ Some node → may_be_refused node ≡ true → may_be_refused (select ms None mods) ≡ true
+  by zero node is p = ap may_be_refused (some_is (select ms None mods) node is) ∙ p
+  by (suc k) node is p = absurd (none_is is) where
+    none_is : None ≡ Some node → ⊥
+    none_is g = cc
+own_pattern (select ms (Some range) mods) n h c = absurd (true≢false (sym h))
+own_pattern (subquery e range resolution mods) n h c = absurd (true≢false (sym h))
 
 -- ---- instant selectors among trees, by their variants
 
@@ -155,63 +156,55 @@ select_plain e s range mods is h = (ap tree_of is ∙ select_tree s range mods) 
 
 -- ---- what a text is read as
 
--- a query with a pattern is not built
-pub pattern_unbuilt : (words : List ℕ) (t : Tree) → obstacle_of t ≡ Some pattern → IsQuery words t → IsUnbuiltQuery words
-pattern_unbuilt words t some q = (t, (q, ap (λ (x : Option Obstacle). is_unbuilt x t) some))
+-- a query that is lawful
+pub lawful_right : (words : List ℕ) (t : Tree) (q : Arc BoundQuery Global) → arc_value q ≡ t → first_empty t ≡ None → IsQuery words t
+    → IsQueryRead words (query.Lawful q)
+lawful_right words t q is none h = subst (λ (u : Tree). IsReading words (lawful u)) (sym is) (h, none)
 
--- a query that the evaluator does not do
-pub other_unbuilt : (words : List ℕ) (t : Tree) → is_built_tree t ≡ false → obstacle_of t ≡ None → IsQuery words t → IsUnbuiltQuery words
-other_unbuilt words t other none q = (t, (q, ap (λ (x : Option Obstacle). is_unbuilt x t) none ∙ ap not other))
+-- a query that was bound
+pub bound_right : (words : List ℕ) (t u : Tree) (q : QueryRead) → u ≡ t → ((w : List ℕ) → IsQuery w u → IsQueryRead w q) → IsQuery words t → IsQueryRead words q
+bound_right words t u q is h g = h words (subst (IsQuery words) (sym is) g)
 
--- a query that the evaluator does
-pub built_right : (words : List ℕ) (t : Tree) (q : Arc BoundQuery Global) → arc_value q ≡ t → is_built_tree t ≡ true → obstacle_of t ≡ None → IsQuery words t
-    → IsQueryRead words (query.Built q)
-built_right words t q is built none h =
-    subst (λ (u : Tree). IsReading words (lawful u) × (is_built_tree u ≡ true)) (sym is) ((h, none), built)
+-- a refused pattern, and an empty selector
+pub refused_pattern_right : (words : List ℕ) (t : Tree) (n : ℕ) → CanRefuse n t → IsQuery words t → IsQueryRead words (query.Refused (query_error.Pattern n))
+refused_pattern_right words t n c q = (refused_pattern n, (refl, (t, (q, c))))
+
+pub empty_selector_right : (words : List ℕ) (t : Tree) (n : ℕ) → first_empty t ≡ Some n → IsQuery words t → IsQueryRead words (query.Refused (query_error.Empty n))
+empty_selector_right words t n some q = (empty_selector n, (refl, (t, (q, some))))
 
 -- what trees say as selectors
-pub other_selects : (t : Tree) → is_plain t ≡ false → no_selector ≡ selecting t
-other_selects t h = sym (other_tree t h)
+pub other_refused : (t : Tree) → is_plain t ≡ false → SelectsAs t chosen.Refused
+other_refused t h = inl (other_tree t h)
 
-pub pattern_selects : (t : Tree) (ms : List Matcher) → t ≡ instant ms → obstacle_of t ≡ Some pattern → with_pattern ≡ selecting t
-pattern_selects t ms is some =
-    let own : obstacle_of (instant ms) ≡ Some pattern = subst (λ (x : Tree). obstacle_of x ≡ Some pattern) is some in
-    sym (ap selecting is ∙ own_selecting ms ∙ ap (selecting_by ms) own)
+pub plain_selects : (t : Tree) (s : List Matcher) (m : Arc Matchers Global) → t ≡ instant s → arc_value m ≡ s → accepts_empty s ≡ false → SelectsAs t (chosen.Built m)
+plain_selects t s m is same some =
+    ap selecting is ∙ ap (λ b. cond (not b) (selector s) no_selector) some ∙ ap selector (sym same)
 
-pub plain_selects : (t : Tree) (s ms : List Matcher) → t ≡ instant s → ms ≡ s → obstacle_of t ≡ None → selector ms ≡ selecting t
-plain_selects t s ms is same none =
-    let own : obstacle_of (instant s) ≡ None = subst (λ (x : Tree). obstacle_of x ≡ None) is none in
-    ap selector same ∙ sym (ap selecting is ∙ own_selecting s ∙ ap (selecting_by s) own)
+pub pattern_refused : (t : Tree) (s : List Matcher) → t ≡ instant s → all_compared s ≡ false → SelectsAs t chosen.Refused
+pattern_refused t s is bad = inr (ap may_be_no_selector is ∙ ap not bad)
 
-selector_read : (words : List ℕ) (t : Tree) (s : SelectorRead) → selects_as s ≡ selecting t → IsQuery words t → IsSelectorRead words s
-selector_read words t (chosen.Built ms) h q = (t, (q.parses, sym h))
-selector_read words t chosen.Refused h q = inr (t, (q.parses, sym h))
-selector_read words t chosen.NotBuilt h q = (t, (q.parses, sym h))
+pub empty_refused : (t : Tree) (s : List Matcher) → t ≡ instant s → accepts_empty s ≡ true → SelectsAs t chosen.Refused
+empty_refused t s is none = inl (ap selecting is ∙ ap (λ b. cond (not b) (selector s) no_selector) none)
+
+selector_read : (words : List ℕ) (t : Tree) (s : SelectorRead) → SelectsAs t s → IsQuery words t → IsSelectorRead words s
+selector_read words t (chosen.Built ms) h q = (t, (q.parses, h))
+selector_read words t chosen.Refused (inl h) q = inr (inl (t, (q.parses, h)))
+selector_read words t chosen.Refused (inr h) q = inr (inr (t, (q.parses, h)))
 
 -- both together
-pub lawful_read : (words : List ℕ) (t : Tree) (q : QueryRead) (s : SelectorRead) → ((w : List ℕ) → IsQuery w t → IsQueryRead w q) → selects_as s ≡ selecting t
+pub lawful_read : (words : List ℕ) (t : Tree) (q : QueryRead) (s : SelectorRead) → ((w : List ℕ) → IsQuery w t → IsQueryRead w q) → SelectsAs t s
     → IsQuery words t → IsReadAs words (record { query = q; selector = s })
 lawful_read words t q s h g is = (h words is, selector_read words t s g is)
-
-pub pattern_read : (words : List ℕ) (t : Tree) (s : SelectorRead) → Some pattern ≡ obstacle_of t → selects_as s ≡ selecting t
-    → IsQuery words t → IsReadAs words (record { query = query.NotBuilt; selector = s })
-pattern_read words t s some g is = (pattern_unbuilt words t (sym some) is, selector_read words t s g is)
-
--- an empty selector
-pub empty_right : (words : List ℕ) (t : Tree) (n : ℕ) → obstacle_of t ≡ Some (empty n) → IsQuery words t
-    → IsFaultOf words (empty_selector n) × IsNoSelector words
-empty_right words t n some q = ((t, (q, some)), inr (t, (q.parses, empty_tree t n some)))
-
-pub empty_read : (words : List ℕ) (t : Tree) (n : ℕ) → Some (empty n) ≡ obstacle_of t → IsQuery words t
-    → IsReadAs words (record { query = query.Refused (query_error.Empty n); selector = chosen.Refused })
-empty_read words t n some q = let r = empty_right words t n (sym some) q in ((empty_selector n, (refl, r.0)), r.1)
 
 -- what is no query is no selector
 pub fault_selects_none : (words : List ℕ) (fault : QueryFault) → IsFaultOf words fault → IsNoSelector words
 fault_selects_none words (of_grammar refusal) h = inl (refusal, h)
-fault_selects_none words (of_kinds f) h = inr (h.0, (h.1.0, ill_typed h.0 f h.1.1))
-fault_selects_none words (refused_pattern n) h = absurd h
-fault_selects_none words (empty_selector n) h = inr (h.0, (h.1.0.parses, empty_tree h.0 n h.1.1))
+fault_selects_none words (of_kinds f) h = inr (inl (h.0, (h.1.0, ill_typed h.0 f h.1.1)))
+fault_selects_none words (refused_pattern n) h = elim (bool_cases (is_plain h.0)) [
+  | inl p ↦ inr (inr (h.0, (h.1.0.parses, ap (λ b. b && may_be_refused h.0) p ∙ own_pattern h.0 n p h.1.1)))
+  | inr p ↦ inr (inl (h.0, (h.1.0.parses, other_tree h.0 p)))
+]
+fault_selects_none words (empty_selector n) h = inr (inl (h.0, (h.1.0.parses, empty_tree h.0 n h.1.1)))
 
 pub refused_right : (words : List ℕ) (e : QueryError) → is_some (query_fault e) ≡ true → IsFaultFor words (query_fault e)
     → IsReadAs words (record { query = query.Refused e; selector = chosen.Refused })
@@ -220,64 +213,6 @@ refused_right words e some h = by_fault (query_fault e) refl some h where
       → IsReadAs words (record { query = query.Refused e; selector = chosen.Refused })
   by_fault None is s f = absurd (true≢false (sym s))
   by_fault (Some fault) is s f = ((fault, (is, f)), fault_selects_none words fault f)
-
--- a selector without patterns in its way has plain matchers
-all_meant : (n : ℕ) (ms : List Matcher) → selector_obstacle n ms ≡ None → (all_compared ms ≡ true) × (accepts_empty ms ≡ false)
-all_meant n ms h = (plain ms (no_pattern (has_pattern ms) (accepts_empty ms) h), no_empty (has_pattern ms) (accepts_empty ms) h) where
-  no_pattern : (p e : Bool) → cond p (Some pattern) (only_if e (empty n)) ≡ None → p ≡ false
-  no_pattern true e g = cc
-  no_pattern false e g = refl
-
-  no_empty : (p e : Bool) → cond p (Some pattern) (only_if e (empty n)) ≡ None → e ≡ false
-  no_empty true e g = cc
-  no_empty false true g = cc
-  no_empty false false g = refl
-
-  plain : (xs : List Matcher) → has_pattern xs ≡ false → all_compared xs ≡ true
-  plain [] g = refl
-  plain (x ∷ xs) g = meant x.sign x.text xs (has_pattern xs) g (plain xs) where
-    meant : (s : MatchSign) (t : List ℕ) (ys : List Matcher) (any : Bool) → (is_pattern s || any) ≡ false → (any ≡ false → all_compared ys ≡ true)
-        → (is_compared s t && all_compared ys) ≡ true
-    meant Equal t ys any i rest = rest i
-    meant NotEqual t ys any i rest = rest i
-    meant Like t ys any i rest = absurd (true≢false i)
-    meant NotLike t ys any i rest = absurd (true≢false i)
-
-pub no_bad_pattern : (t : Tree) (ms : List Matcher) → t ≡ instant ms → obstacle_of t ≡ None → all_compared ms ≡ false → ⊥
-no_bad_pattern t ms is none bad =
-    let m = all_meant 0 ms (sym (own_obstacle ms) ∙ subst (λ (x : Tree). obstacle_of x ≡ None) is none) in true≢false (sym m.0 ∙ bad)
-
-pub no_empty_selector : (t : Tree) (ms : List Matcher) → t ≡ instant ms → obstacle_of t ≡ None → accepts_empty ms ≡ true → ⊥
-no_empty_selector t ms is none bad =
-    let m = all_meant 0 ms (sym (own_obstacle ms) ∙ subst (λ (x : Tree). obstacle_of x ≡ None) is none) in true≢false (sym bad ∙ m.1)
-
--- where nothing stands in a query's way its selectors give matchers
-both_none : {X : Type 0} (o p : Option X) → option_or o p ≡ None → (o ≡ None) × (p ≡ None)
-both_none None p h = (refl, h)
-both_none (Some x) p h = cc
-
-given_by : (p e r : Bool) → p ≡ true → e ≡ false → r ≡ true → ((p && not e) && r) ≡ true
-given_by true false r x y h = h
-given_by true true r x y h = absurd (true≢false y)
-given_by false e r x y h = absurd (true≢false (sym x))
-
-given_from : (n : ℕ) (ts : List Tree) → first_obstacle n ts ≡ None → list_all gives_matchers (matchers_in ts) ≡ true
-given_from n [] h = refl
-given_from n (number v ∷ ts) h = given_from n ts h
-given_from n (text b ∷ ts) h = given_from n ts h
-given_from n (unary m e ∷ ts) h = given_from n ts h
-given_from n (binary op m a b ∷ ts) h = given_from n ts h
-given_from n (call f args ∷ ts) h =
-    given_from _ ts (both_none (obstacle_at n (call f args)) (first_obstacle (cond (is_counted (call f args)) (n + 1) n) ts) h).1
-given_from n (aggregate op g args ∷ ts) h = given_from n ts h
-given_from n (select ms range mods ∷ ts) h =
-    let both = both_none (selector_obstacle n ms) (first_obstacle (n + 1) ts) h in
-    let meant = all_meant n ms both.0 in
-    given_by (all_compared ms) (accepts_empty ms) (list_all gives_matchers (matchers_in ts)) meant.0 meant.1 (given_from (n + 1) ts both.1)
-given_from n (subquery e range resolution mods ∷ ts) h = given_from n ts h
-
-pub all_given : (t : Tree) → obstacle_of t ≡ None → list_all gives_matchers (selectors_of t) ≡ false → ⊥
-all_given t none bad = true≢false (sym (given_from 0 (preorder t) none) ∙ bad)
 
 -- ---- readings
 
@@ -290,41 +225,14 @@ reading_right kept right words r h = by_read (get_by_text kept words) refl h whe
       subst (IsReading words) same fault
 
   of_read : (q : QueryRead) → IsQueryRead words q → query_reading q ≡ Some r → IsReading words r
-  of_read (query.Built t) h g = subst (IsReading words) (some_is (lawful (arc_value t)) r g) h.0
+  of_read (query.Lawful t) h g = subst (IsReading words) (some_is (lawful (arc_value t)) r g) h
   of_read (query.Refused e) h g = of_fault e h.0 h.1.0 g h.1.1
-  of_read query.NotBuilt h g = cc
 
   by_read : (o : Option TextRead) → get_by_text kept words ≡ o → option_and_then reading_in o ≡ Some r → IsReading words r
   by_read None is g = cc
   by_read (Some q) is g = of_read q.query (right words q is).0 g
 
--- ---- lines
-
-query_built : (words : List ℕ) (q : QueryRead) → IsQueryRead words q → built_query q ≡ true → IsBuiltQuery words
-query_built words (query.Built t) h b = (lawful (arc_value t), (h.0, h.1))
-query_built words (query.Refused e) h b = (refused h.0, (h.1.1, refl))
-query_built words query.NotBuilt h b = absurd (true≢false (sym b))
-
-selector_built : (words : List ℕ) (s : SelectorRead) → IsSelectorRead words s → built_selector s ≡ true → IsBuiltSelector words
-selector_built words (chosen.Built ms) h b = inl (arc_value ms, h)
-selector_built words chosen.Refused h b = inr h
-selector_built words chosen.NotBuilt h b = absurd (true≢false (sym b))
-
-query_unbuilt_by : (words : List ℕ) (q : QueryRead) → IsQueryRead words q → built_query q ≡ false → IsUnbuiltQuery words
-query_unbuilt_by words (query.Built t) h b = absurd (true≢false b)
-query_unbuilt_by words (query.Refused e) h b = absurd (true≢false b)
-query_unbuilt_by words query.NotBuilt h b = h
-
-selector_unbuilt_by : (words : List ℕ) (s : SelectorRead) → IsSelectorRead words s → built_selector s ≡ false → IsUnbuiltSelector words
-selector_unbuilt_by words (chosen.Built ms) h b = absurd (true≢false b)
-selector_unbuilt_by words chosen.Refused h b = absurd (true≢false b)
-selector_unbuilt_by words chosen.NotBuilt h b = h
-
-pub query_unbuilt : (words : List ℕ) (r : TextRead) → IsReadAs words r → is_query_built r ≡ false → IsUnbuiltQuery words
-query_unbuilt words r h b = query_unbuilt_by words r.query h.0 b
-
-pub selector_unbuilt : (words : List ℕ) (r : TextRead) → IsReadAs words r → is_selector_built r ≡ false → IsUnbuiltSelector words
-selector_unbuilt words r h b = selector_unbuilt_by words r.selector h.1 b
+-- ---- what is found
 
 -- what a deletion finds
 pub selects_found : (kept : Queries) (words : List ℕ) (r : TextRead) (m : Arc Matchers Global) (ms : List Matcher) → AreReadAs kept → get_by_text kept words ≡ Some r
@@ -337,13 +245,13 @@ selects_refused kept words r right there is = subst (IsSelectorRead words) is (r
 
 -- an ask finds a query
 pub asked_found : (kept : Queries) (words : List ℕ) (r : TextRead) (q : Arc BoundQuery Global) (wanted : Asked) (read : Readings) (start end step : ℕ) (grid : GridData)
-    → get_by_text kept words ≡ Some r → r.query ≡ query.Built q → wanted.tree ≡ arc_value q → wanted.grid ≡ grid → read ≡ readings_in kept → grid_of start end step ≡ Ok grid
+    → get_by_text kept words ≡ Some r → r.query ≡ query.Lawful q → wanted ≡ record { tree = resolved_over grid (arc_value q); grid = grid } → read ≡ readings_in kept → grid_of start end step ≡ Ok grid
     → asked_of read start end step words ≡ Some (Ok wanted)
-asked_found kept words r q wanted read start end step grid there is same over reads gridded =
-    let reading : read words ≡ Some (lawful wanted.tree) =
-    ap (λ (f : Readings). f words) reads ∙ ap (option_and_then reading_in) there ∙ ap query_reading is ∙ ap (λ (x : Tree). Some (lawful x)) (sym same) in
+asked_found kept words r q wanted read start end step grid there is same reads gridded =
+    let reading : read words ≡ Some (lawful (arc_value q)) =
+    ap (λ (f : Readings). f words) reads ∙ ap (option_and_then reading_in) there ∙ ap query_reading is in
     ap (λ (g : Result GridData GridError). asked_with g (read words)) gridded ∙ ap (asked_with (Ok grid)) reading
-    ∙ ap (λ (g : GridData). Some (Ok (record { tree = wanted.tree; grid = g }))) (sym over)
+    ∙ ap (λ (x : Asked). Some (Ok x)) (sym same)
 
 -- or a refused one
 pub asked_refused : (kept : Queries) (words : List ℕ) (r : TextRead) (e : QueryError) (read : Readings) (start end step : ℕ) (grid : GridData)
@@ -356,16 +264,6 @@ asked_refused kept words r e read start end step grid right there is reads gridd
     ap (λ (g : Result GridData GridError). asked_with g (read words)) gridded
     ∙ ap (asked_with (Ok grid)) reading
     ∙ ap (λ (t : List ℕ). Some (Err t)) (sym (ap (λ (o : Option QueryFault). option_map_or query_text o memory_text) h.1.0))
-
-line_built : (kept : Queries) → AreReadAs kept → (l : Line) → IsKeptFor kept l → IsBuiltLine l
-line_built kept right (ingest tenant file time) k = tt
-line_built kept right (delete tenant from to words) k = selector_built words k.read.selector (right words k.read k.there).1 k.built
-line_built kept right (ask id tenant start end step words) k = query_built words k.read.query (right words k.read k.there).0 k.built
-line_built kept right (answer id asked) k = tt
-
-pub lines_built : (kept : Queries) → AreReadAs kept → (ls : List Numbered) → Each (λ l. IsKeptFor kept l.line) ls → Each (λ l. IsBuiltLine l.line) ls
-lines_built kept right [] h = tt
-lines_built kept right (l ∷ ls) h = (line_built kept right l.line h.0, lines_built kept right ls h.1)
 
 -- ---- texts that are read one by one
 
@@ -399,8 +297,8 @@ read_before kept words q right there = record { right = right; read = q; there =
 
 kept_still : (old new : Queries) → StayRead old new → (l : Line) → IsKeptFor old l → IsKeptFor new l
 kept_still old new still (ingest tenant file time) k = tt
-kept_still old new still (delete tenant from to words) k = record { read = k.read; there = still words k.read k.there; built = k.built }
-kept_still old new still (ask id tenant start end step words) k = record { read = k.read; there = still words k.read k.there; built = k.built }
+kept_still old new still (delete tenant from to words) k = record { read = k.read; there = still words k.read k.there }
+kept_still old new still (ask id tenant start end step words) k = record { read = k.read; there = still words k.read k.there }
 kept_still old new still (answer id asked) k = tt
 
 lines_still : (old new : Queries) → StayRead old new → (ls : List Numbered) → Each (λ l. IsKeptFor old l.line) ls → Each (λ l. IsKeptFor new l.line) ls
@@ -418,12 +316,3 @@ read_more ls i l old new p is h r =
     subst (Each (λ (x : Numbered). IsKeptFor new x.line)) (sym more)
     (each_push (λ (x : Numbered). IsKeptFor new x.line) (map numbered_of (take i ls)) (numbered_of l)
     (lines_still old new r.still (map numbered_of (take i ls)) h) r.kept)
-
--- a line that is not built is one of the script's
-pub unbuilt_by : (ls : List NumberedLine) (i : ℕ) (l : NumberedLine) → i < length ls → l ≡ get_or ls i l
-    → IsUnbuiltLine (numbered_of l).line → HasUnbuilt (map numbered_of ls)
-unbuilt_by ls i l p is h = at ls i p (subst (λ (x : NumberedLine). IsUnbuiltLine (numbered_of x).line) is h) where
-  at : (xs : List NumberedLine) (j : ℕ) → j < length xs → IsUnbuiltLine (numbered_of (get_or xs j l)).line → HasUnbuilt (map numbered_of xs)
-  at [] j q u = absurd (omega (arith, q))
-  at (x ∷ xs) zero q u = inl u
-  at (x ∷ xs) (suc j) q u = inr (at xs j (omega (arith, q)) u)

@@ -8,7 +8,7 @@ use Rattle.pf_model.specs.Legal.{Legal, AreNames}
 use Rattle.pf_model.specs.Lists.{Each}
 use Rattle.pf_model.specs.Log.{batch_samples}
 use Rattle.pf_model.specs.Machine.{Entry}
-use Rattle.pf_model.specs.Queries.{IsBuiltQuery, IsBuiltSelector, IsReading, IsUnbuiltQuery, IsUnbuiltSelector, Reading, asked_with, is_built}
+use Rattle.pf_model.specs.Queries.{IsReading, Reading, asked_with}
 use Rattle.pf_model.specs.Report.{evaluated_text, report}
 use Rattle.pf_model.specs.Scripts.{Evaluation, Line, Numbered, ingest, delete, ask, answer, evaluation_words, script_of, script_word}
 use Rattle.pf_model.specs.Weave.{Gives, IsRefusedAs, IsUncached, Refusal, Rest, Stop, Weave}
@@ -40,23 +40,6 @@ abbrev pub NamesFile : List Numbered → List ℕ → Type 0
 NamesFile [] name = ⊥
 NamesFile (l ∷ ls) name = LineNames l.line name ⊎ NamesFile ls name
 
--- a line's query or selector is of a form that is built, or of one that is not
-abbrev pub IsBuiltLine : Line → Type 0
-IsBuiltLine (ingest tenant file time) = Unit {0}
-IsBuiltLine (delete tenant from to selector) = IsBuiltSelector selector
-IsBuiltLine (ask id tenant start end step query) = IsBuiltQuery query
-IsBuiltLine (answer id asked) = Unit {0}
-
-abbrev pub IsUnbuiltLine : Line → Type 0
-IsUnbuiltLine (ingest tenant file time) = ⊥
-IsUnbuiltLine (delete tenant from to selector) = IsUnbuiltSelector selector
-IsUnbuiltLine (ask id tenant start end step query) = IsUnbuiltQuery query
-IsUnbuiltLine (answer id asked) = ⊥
-
-abbrev pub HasUnbuilt : List Numbered → Type 0
-HasUnbuilt [] = ⊥
-HasUnbuilt (l ∷ ls) = IsUnbuiltLine l.line ⊎ HasUnbuilt ls
-
 -- a client met the full journal, or none did
 abbrev pub HaveMetFull : Bool → List Stop → Type 0
 HaveMetFull false stops = Each (λ s. s.full ≡ false) stops
@@ -69,7 +52,6 @@ pub record Reported (limits : Limits) (files : List ℕ → Option (List ℕ)) (
   pub names : List (List ℕ)
   pub rest : Rest
   pub read : AreScripts files (script_word words) scripts
-  pub built : Each (Each (λ l. IsBuiltLine l.line)) scripts
   pub legal : Legal limits names journal
   pub known : AreNames names journal
   pub woven : Weave files limits names journal scripts rest
@@ -85,7 +67,6 @@ pub record Evaluated (files : List ℕ → Option (List ℕ)) (words : List (Lis
   pub gives : Gives (files named.file) 0 batch
   pub reading : Reading
   pub read : IsReading named.query reading
-  pub built : is_built reading ≡ true
   pub whole : text ≡ evaluated_text (batch_samples batch.rows) (asked_with (grid_of named.start named.end named.step) (Some reading))
 
 -- text says at which line an evaluation's file is refused
@@ -114,13 +95,11 @@ pub record Unread (files : List ℕ → Option (List ℕ)) (before after : ℕ) 
   pub rose : Rose before after
   pub whole : text ≡ refused_read name
 
--- the words, the script that they name, or a query of it or of an evaluation are of no form that is built
+-- the words, or the script that they name, are of no form that is built
 abbrev pub IsUnbuilt : (List ℕ → Option (List ℕ)) → Option (List ℕ) → Option Evaluation → Type 0
 IsUnbuilt files None None = Unit {0}
-IsUnbuilt files None (Some named) = IsUnbuiltQuery named.query
-IsUnbuilt files (Some name) _ =
-    ReadsAsNone script_of (files name)
-    ⊎ ((lines : List Numbered) × (ReadsAs script_of (files name) lines × HasUnbuilt lines))
+IsUnbuilt files None (Some named) = ⊥
+IsUnbuilt files (Some name) _ = ReadsAsNone script_of (files name)
 
 pub record Unbuilt (files : List ℕ → Option (List ℕ)) (words : List (List ℕ)) (text : List ℕ) : Type 0 where
   pub unbuilt : IsUnbuilt files (script_word words) (evaluation_words words)

@@ -11,7 +11,7 @@ use Rattle.pf_model.specs.Weave.{Files, IsUncached, Known, Rest, Weave}
 use Rattle.pf_script.specs.Lines.{AllFollow, IsRead, lines_of}
 use Rattle.pf_script.specs.declared.script.Script.{Script}
 use Rattle.pf_top.specs.Clients.{IsStopped}
-use Rattle.pf_top.specs.Correct.{HaveMetFull, IsBuiltLine, NamesFile}
+use Rattle.pf_top.specs.Correct.{HaveMetFull, NamesFile}
 use Rattle.pf_top.specs.Files.{Contents, IsKept, IsShort}
 use Rattle.pf_top.specs.Going.{Going}
 use Rattle.pf_top.specs.Queries.{AreReadAs, IsKeptFor, IsTold}
@@ -52,7 +52,6 @@ pub record IsReport (limits : Limits) (files : Files) (lines : List Numbered) (f
   pub journal : List Entry
   pub names : List (List ℕ)
   pub rest : Rest
-  pub built : Each (λ l. IsBuiltLine l.line) lines
   pub legal : Legal limits names journal
   pub known : AreNames names journal
   pub woven : Weave files limits names journal (lines ∷ []) rest

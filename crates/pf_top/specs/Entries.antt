@@ -2,13 +2,15 @@
 use Rattle.std.specs.Arc.{arc_value}
 use Rattle.pf_model.specs.Machine as machine
 use Rattle.pf_model.specs.Direct as direct
+use Rattle.pf_model.specs.Resolving.{resolved_over}
 use Rattle.pf_top.specs.declared.entry.Asked.{Asked}
 use Rattle.pf_top.specs.declared.entry.Entry.{Entry}
 use Rattle.pf_top.specs.declared.entry.What.{What}
 use Rattle.pf_top.specs.declared.entry.What.TheVariants.{Append, Delete, Ask, Full, NoTenant, Answer}
 
+-- the grid's ends are put in where the query is evaluated
 abbrev pub asked_in : Asked → direct.Asked
-asked_in a = record { tree = arc_value a.query; grid = a.grid }
+asked_in a = record { tree = resolved_over a.grid (arc_value a.query); grid = a.grid }
 
 abbrev pub what_of : What → machine.What
 what_of (Append tenant batch verdicts) =

@@ -1,5 +1,4 @@
 pub mod Asks
-pub mod BoundQueries
 pub mod Clients
 pub mod Correct
 pub mod Drives

@@ -4,9 +4,9 @@ use Rattle.pf_base.specs.declared.plain.Limits.{Limits}
 use Rattle.pf_io.specs.Outside.{Rose}
 use Rattle.pf_model.specs.Scripts.{Numbered}
 use Rattle.pf_model.specs.Weave.{Files}
-use Rattle.pf_top.specs.Correct.{Ended, FileRefused, HasUnbuilt, NamesFile, Reported, Unread, Unbuilt}
+use Rattle.pf_top.specs.Correct.{Ended, FileRefused, NamesFile, Reported, Unread, Unbuilt}
 use Rattle.pf_top.specs.Drives.{IsReport}
-use Rattle.pf_top.specs.Refusals.{refused_not_built, refused_read}
+use Rattle.pf_top.specs.Refusals.{refused_read}
 
 -- a run without options: ten minutes of window, a day of interval
 abbrev pub default_limits : Limits
@@ -25,9 +25,7 @@ IsWordsOutput limits files before after words status text =
 -- a text with its status, once the script and the files are read
 abbrev pub IsRun : Limits → Files → List Numbered → ℕ → List ℕ → Type 0
 IsRun limits files lines status text =
-    ((status ≡ 0) × IsReport limits files lines false text)
-    ⊎ (((status ≡ 8) × IsReport limits files lines true text)
-    ⊎ ((status ≡ 9) × (HasUnbuilt lines × (text ≡ refused_not_built))))
+    ((status ≡ 0) × IsReport limits files lines false text) ⊎ ((status ≡ 8) × IsReport limits files lines true text)
 
 -- a text with its status, once the script is read
 abbrev pub IsScriptOutput : Limits → Files → ℕ → ℕ → List Numbered → ℕ → List ℕ → Type 0

@@ -1,12 +1,13 @@
 -- Queries and selectors that were read: this project's own.
 use Rattle.std.specs.Arc.{arc_value}
 use Rattle.std.specs.BTreeMap.{BTreeMap, get_by_text}
-use Rattle.std.specs.Prelude.{◌≡◌, ℕ, Bool, true, false, Option, Some, None, option_and_then, option_map, List}
+use Rattle.std.specs.Prelude.{◌≡◌, ℕ, ◌⊎◌, true, Option, Some, None, option_and_then, option_map, List}
 use Rattle.std.specs.declared.alloc.Global.{Global}
 use Rattle.std.specs.declared.string.String.{String}
 use Rattle.pf_model.specs.ErrorTexts.{QueryFault}
-use Rattle.pf_model.specs.Queries.{IsFaultOf, IsNoSelector, IsReading, IsSelector, IsUnbuiltQuery, IsUnbuiltSelector, Reading, Readings, Selecting, is_built_tree, lawful, no_selector, refused, selector, with_pattern}
+use Rattle.pf_model.specs.Queries.{IsFaultOf, IsNoSelector, IsReading, IsSelector, Reading, Readings, lawful, may_be_no_selector, no_selector, refused, selecting, selector}
 use Rattle.pf_model.specs.Scripts.{Line, ingest, delete, ask, answer}
+use Rattle.pf_model.specs.Trees.{Tree}
 use Rattle.pf_model.specs.Weave.{Known}
 use Rattle.pf_types.specs.Errors.{query_fault}
 use Rattle.pf_top.specs.Files.{AreHeld}
@@ -23,21 +24,18 @@ Queries = BTreeMap (String Global) TextRead
 
 -- what a text is read as where a query stands is right
 abbrev pub IsQueryRead : List ℕ → QueryRead → Type 0
-IsQueryRead text (query.Built q) = IsReading text (lawful (arc_value q)) × (is_built_tree (arc_value q) ≡ true)
+IsQueryRead text (query.Lawful q) = IsReading text (lawful (arc_value q))
 IsQueryRead text (query.Refused e) = (fault : QueryFault) × ((query_fault e ≡ Some fault) × IsFaultOf text fault)
-IsQueryRead text query.NotBuilt = IsUnbuiltQuery text
 
--- what a tree says as a deletion's selector
-abbrev pub selects_as : SelectorRead → Selecting
-selects_as (chosen.Built ms) = selector (arc_value ms)
-selects_as chosen.Refused = no_selector
-selects_as chosen.NotBuilt = with_pattern
+-- what a tree is read as, as a deletion's selector, where a pattern may be refused
+abbrev pub SelectsAs : Tree → SelectorRead → Type 0
+SelectsAs tree (chosen.Built ms) = selecting tree ≡ selector (arc_value ms)
+SelectsAs tree chosen.Refused = (selecting tree ≡ no_selector) ⊎ (may_be_no_selector tree ≡ true)
 
 -- what a text is read as where a deletion's selector stands is right
 abbrev pub IsSelectorRead : List ℕ → SelectorRead → Type 0
 IsSelectorRead text (chosen.Built ms) = IsSelector text (arc_value ms)
 IsSelectorRead text chosen.Refused = IsNoSelector text
-IsSelectorRead text chosen.NotBuilt = IsUnbuiltSelector text
 
 abbrev pub IsReadAs : List ℕ → TextRead → Type 0
 IsReadAs text read = IsQueryRead text read.query × IsSelectorRead text read.selector
@@ -45,11 +43,10 @@ IsReadAs text read = IsQueryRead text read.query × IsSelectorRead text read.sel
 abbrev pub AreReadAs : Queries → Type 0
 AreReadAs kept = (text : List ℕ) (q : TextRead) → get_by_text kept text ≡ Some q → IsReadAs text q
 
--- how a query is read, if it is built
+-- how a query is read
 abbrev pub query_reading : QueryRead → Option Reading
-query_reading (query.Built q) = Some (lawful (arc_value q))
+query_reading (query.Lawful q) = Some (lawful (arc_value q))
 query_reading (query.Refused e) = option_map refused (query_fault e)
-query_reading query.NotBuilt = None
 
 abbrev pub reading_in : TextRead → Option Reading
 reading_in read = query_reading read.query
@@ -57,33 +54,16 @@ reading_in read = query_reading read.query
 abbrev pub readings_in : Queries → Readings
 readings_in kept text = option_and_then reading_in (get_by_text kept text)
 
-abbrev pub built_query : QueryRead → Bool
-built_query (query.Built q) = true
-built_query (query.Refused e) = true
-built_query query.NotBuilt = false
-
-abbrev pub is_query_built : TextRead → Bool
-is_query_built read = built_query read.query
-
-abbrev pub built_selector : SelectorRead → Bool
-built_selector (chosen.Built ms) = true
-built_selector chosen.Refused = true
-built_selector chosen.NotBuilt = false
-
-abbrev pub is_selector_built : TextRead → Bool
-is_selector_built read = built_selector read.selector
-
--- a text was read, as what is built where it stands
-pub record IsKeptAs (is_built : TextRead → Bool) (kept : Queries) (text : List ℕ) : Type 0 where
+-- a text was read
+pub record IsTextKept (kept : Queries) (text : List ℕ) : Type 0 where
   pub read : TextRead
   pub there : get_by_text kept text ≡ Some read
-  pub built : is_built read ≡ true
 
--- the query or the selector of a line was read, and is built
+-- the query or the selector of a line was read
 abbrev pub IsKeptFor : Queries → Line → Type 0
 IsKeptFor kept (ingest tenant file time) = Unit {0}
-IsKeptFor kept (delete tenant from to words) = IsKeptAs is_selector_built kept words
-IsKeptFor kept (ask id tenant start end step words) = IsKeptAs is_query_built kept words
+IsKeptFor kept (delete tenant from to words) = IsTextKept kept words
+IsKeptFor kept (ask id tenant start end step words) = IsTextKept kept words
 IsKeptFor kept (answer id asked) = Unit {0}
 
 -- what was read stays
@@ -95,12 +75,6 @@ pub record IsTextRead (old : Queries) (text : List ℕ) (new : Queries) : Type 0
   pub right : AreReadAs new
   pub read : TextRead
   pub there : get_by_text new text ≡ Some read
-  pub still : StayRead old new
-
--- a text was read, as what is built where it stands
-pub record IsReadIn (is_built : TextRead → Bool) (old : Queries) (text : List ℕ) (new : Queries) : Type 0 where
-  pub right : AreReadAs new
-  pub kept : IsKeptAs is_built new text
   pub still : StayRead old new
 
 -- the text of a line was read

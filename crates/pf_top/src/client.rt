@@ -21,7 +21,7 @@ ghost use Rattle.pf_top.specs.declared.session.Query.{Query};
 ghost use Rattle.pf_top.specs.declared.slots.Slot.TheVariants.{Open};
 ghost use Rattle.pf_top.specs.Clients.{AskRuns, IsFileRead, IsStep, IsTimed, Runs, SameQueries, refusal_in};
 ghost use Rattle.pf_top.specs.Files.{AreHeld, HoldsContent, IsKept, IsShort};
-ghost use Rattle.pf_top.specs.Queries.{AreReadAs, IsKeptAs, is_query_built, is_selector_built, readings_in};
+ghost use Rattle.pf_top.specs.Queries.{AreReadAs, IsTextKept, readings_in};
 ghost use Rattle.pf_types.specs.Errors.{words_of_error};
 ghost use Rattle.pf_model.specs.ErrorTexts.{grid_text};
 ghost use Rattle.pf_model.specs.Json.{error_text};
@@ -436,7 +436,7 @@ impl Client {
     ) -> Result<Ran, OutOfMemory>
         requires stands { Stands self.old.session }
         requires right { AreReadAs queries.now }
-        requires kept { IsKeptAs is_selector_built queries.now selector.now }
+        requires kept { IsTextKept queries.now selector.now }
         ensures runs { IfOk result (λ r. (told : Known) → Runs told self.old (record { number = number; line = delete tenant.now from to selector.now }) None None r self.new) }
         ensures same { OnOk result (SameQueries self.old self.new) }
     {
@@ -455,7 +455,6 @@ impl Client {
                 self.refuse_delete(number, tenant, from, to)?;
                 Ok(Ran::On)
             }
-            SelectorRead::NotBuilt => Ok(Ran::On),
         }
     }
 
@@ -520,14 +519,14 @@ impl Client {
     ) -> Result<Ran, OutOfMemory>
         requires stands { Stands self.old.session }
         requires right { AreReadAs queries.now }
-        requires kept { IsKeptAs is_query_built queries.now query.now }
+        requires kept { IsTextKept queries.now query.now }
         ensures runs { IfOk result (λ r. (told : Known) (start end step : ℕ) → told.readings ≡ readings_in queries.now → grid_of start end step ≡ Ok grid → AskRuns (IsAskStep told self.old (record { number = number; line = ask id.now tenant.now start end step query.now })) told self.old (record { number = number; line = ask id.now tenant.now start end step query.now }) r self.new) }
     {
         let Some(read) = query_of(queries, query.as_str()) else {
             return Ok(Ran::On);
         };
         match &read.query {
-            QueryRead::Built(query) => {
+            QueryRead::Lawful(query) => {
                 let query = Arc::try_clone(query)?;
                 let asked = Arc::new(self.alloc, Asked { query, grid })?;
                 self.ask_over(number, id, tenant, asked)
@@ -536,7 +535,6 @@ impl Client {
                 self.refuse_ask(number, id.as_str(), Slot::BadQuery(*error))?;
                 Ok(Ran::On)
             }
-            QueryRead::NotBuilt => Ok(Ran::On),
         }
     }
 
@@ -554,7 +552,7 @@ impl Client {
     ) -> Result<Ran, OutOfMemory>
         requires stands { Stands self.old.session }
         requires right { AreReadAs queries.now }
-        requires kept { IsKeptAs is_query_built queries.now query.now }
+        requires kept { IsTextKept queries.now query.now }
         ensures runs { IfOk result (λ r. (told : Known) → told.readings ≡ readings_in queries.now → AskRuns (IsAskStep told self.old (record { number = number; line = ask id.now tenant.now start end step query.now })) told self.old (record { number = number; line = ask id.now tenant.now start end step query.now }) r self.new) }
     {
         match Grid::aligned(start, end, step) {

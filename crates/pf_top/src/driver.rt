@@ -18,7 +18,7 @@ use crate::client::{FileFault, FileRead, read_content};
 use crate::drive::run_script;
 use crate::evaluation::evaluation_of;
 use crate::loaded::{Content, Contents, LoadError, Loaded, load_all, read_file};
-use crate::queries::{QueriesError, read_queries};
+use crate::queries::read_queries;
 use crate::words::{Evaluation, evaluation_words, script_name};
 use pf_base::{Batch, Limits, OutOfMemory, Text};
 use pf_io::{Doors, Files, Gate, Hop, ReadError, Sink, put_all};
@@ -85,19 +85,14 @@ fn run_loaded(
     requires following { AllFollow [] (lines_of script.now) }
     ensures { IfOk result (λ o. (told : Files) → AreHeld told files → IsRun limits told (lines_of script.now) o.status o.text.items) }
 {
-    match read_queries(alloc, script) {
-        Ok(queries) => {
-            let loaded = Loaded { files, queries };
-            let report = run_script(alloc, limits, script, &loaded)?;
-            let status = if report.full { 8 } else { 0 };
-            Ok(Output {
-                status,
-                text: report.text,
-            })
-        }
-        Err(QueriesError::NotBuilt) => unbuilt(alloc),
-        Err(QueriesError::OutOfMemory) => Err(OutOfMemory),
-    }
+    let queries = read_queries(alloc, script)?;
+    let loaded = Loaded { files, queries };
+    let report = run_script(alloc, limits, script, &loaded)?;
+    let status = if report.full { 8 } else { 0 };
+    Ok(Output {
+        status,
+        text: report.text,
+    })
 }
 
 /// Reads the files that a script names, and then its queries, and runs it.
@@ -157,10 +152,8 @@ fn evaluate_batch(
     requires { are_timed batch.now.rows ≡ true }
     ensures { IfOk result (λ o. IsBatchOutput batch.now (evaluation_in named.now) o.status o.text.items) }
 {
-    match evaluation_of(alloc, batch, named)? {
-        Some(text) => Ok(Output { status: 0, text }),
-        None => unbuilt(alloc),
-    }
+    let text = evaluation_of(alloc, batch, named)?;
+    Ok(Output { status: 0, text })
 }
 
 /// Evaluates a query over what a file holds.
@@ -267,11 +260,10 @@ pub fn run_within<F: Files, O: Sink>(
 ///
 /// Built are the words `replay SCRIPT`, and scripts of `ingest`, `delete`, `ask`, `answer`, empty and comment lines; and the
 /// words `eval FILE QUERY START END STEP`, which print the code and the body of a query over one file. Any text is read as a
-/// query or a selector: one that is refused is answered so, and of those that are lawful the queries that the evaluator does
-/// are built, and the selectors without patterns. The hops, the gate and the doors are of no use to these. The statuses are
-/// 0 for a report or an evaluation, 3 for an evaluation's file that is refused, 4 for a file that was not read, 5 for output
-/// that was not taken, 6 for want of memory, 8 for a report of a client that met the full journal, and 9 for all that is not
-/// built.
+/// query or a selector, and one that is refused is answered so. The hops, the gate and the doors are of no use to these. The
+/// statuses are 0 for a report or an evaluation, 3 for an evaluation's file that is refused, 4 for a file that was not read, 5
+/// for output that was not taken, 6 for want of memory, 8 for a report of a client that met the full journal, and 9 for words
+/// and scripts that are not built.
 pub fn run<R, F: Files, O: Sink, H: Hop + Send + Drop, G: Gate + Sync, D: Doors>(
     rt: &R,
     alloc: Global,

@@ -6,7 +6,7 @@ use pf_model::Matchers;
 use pf_store::{Deleted, Verdicts};
 use std::sync::Arc;
 
-/// What is asked: a query over a grid.
+/// What is asked: a query over a grid, whose ends are still to be put in.
 #[derive(Drop)]
 pub struct Asked {
     pub query: Arc<BoundQuery>,

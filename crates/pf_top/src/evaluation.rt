@@ -9,9 +9,10 @@ ghost use Rattle.pf_model.specs.ErrorTexts.{grid_text};
 ghost use Rattle.pf_model.specs.Json.{error_text};
 ghost use Rattle.pf_model.specs.Log.{AreApart, batch_samples};
 ghost use Rattle.pf_model.specs.Report.{evaluated_text, evaluation_text};
+ghost use Rattle.pf_model.specs.Resolving.{resolved_over};
 ghost use Rattle.pf_store.specs.Standing.{StandsFor};
 ghost use Rattle.pf_top.specs.Entries.{asked_in};
-ghost use Rattle.pf_top.specs.Evaluations.{IsEvaluationText, IsGridText, evaluation_in};
+ghost use Rattle.pf_top.specs.Evaluations.{IsEvaluationText, IsText, evaluation_in};
 ghost use Rattle.pf_top.specs.Queries.{IsQueryRead};
 ghost use Rattle.pf_types.specs.Errors.{words_of_error};
 
@@ -40,7 +41,7 @@ fn pinned(alloc: Global, batch: &Batch) -> Result<Pin, OutOfMemory>
 
 /// A query over a grid.
 fn asked_over(query: &Arc<BoundQuery>, grid: Grid) -> Result<Asked, OutOfMemory>
-    ensures { IfOk result (λ a. asked_in a ≡ record { tree = arc_value query.now; grid = grid }) }
+    ensures { IfOk result (λ a. asked_in a ≡ record { tree = resolved_over grid (arc_value query.now); grid = grid }) }
 {
     Ok(Asked {
         query: Arc::try_clone(query)?,
@@ -56,7 +57,7 @@ fn evaluated(
     grid: Grid,
 ) -> Result<Vec<u8>, OutOfMemory>
     requires { are_timed batch.now.rows ≡ true }
-    ensures { IfOk result (λ v. v.items ≡ evaluated_text (batch_samples batch.now.rows) (Some (Ok (record { tree = arc_value query.now; grid = grid })))) }
+    ensures { IfOk result (λ v. v.items ≡ evaluated_text (batch_samples batch.now.rows) (Some (Ok (record { tree = resolved_over grid (arc_value query.now); grid = grid })))) }
 {
     let pin = pinned(alloc, batch)?;
     let asked = asked_over(query, grid)?;
@@ -91,62 +92,40 @@ fn refused_grid(alloc: Global, error: GridError) -> Result<Vec<u8>, OutOfMemory>
     Ok(text)
 }
 
-/// What is printed over a grid. None of a query that is not built.
+/// What is printed over a grid.
 fn text_over(
     alloc: Global,
     batch: &Batch,
     read: &QueryRead,
     grid: Grid,
-) -> Result<Option<Vec<u8>>, OutOfMemory>
+) -> Result<Vec<u8>, OutOfMemory>
     requires { are_timed batch.now.rows ≡ true }
-    ensures { IfOk result (λ t. (query : List ℕ) (start end step : ℕ) → IsQueryRead query read.now → grid_of start end step ≡ Ok grid → IsGridText batch.now query start end step t) }
+    ensures { IfOk result (λ t. (query : List ℕ) (start end step : ℕ) → IsQueryRead query read.now → grid_of start end step ≡ Ok grid → IsText batch.now query start end step t.items) }
 {
     match read {
-        QueryRead::Built(query) => {
+        QueryRead::Lawful(query) => {
             let text = evaluated(alloc, batch, query, grid)?;
-            Ok(Some(text))
+            Ok(text)
         }
         QueryRead::Refused(error) => {
             let text = refused_query(alloc, error)?;
-            Ok(Some(text))
-        }
-        QueryRead::NotBuilt => Ok(None),
-    }
-}
-
-/// What is printed where the times are refused. None of a query that is not built.
-fn refused_times(
-    alloc: Global,
-    read: &QueryRead,
-    error: GridError,
-) -> Result<Option<Vec<u8>>, OutOfMemory>
-    ensures { IfOk result (λ t. (batch : BatchData) (query : List ℕ) (start end step : ℕ) → IsQueryRead query read.now → grid_of start end step ≡ Err error → IsGridText batch query start end step t) }
-{
-    match read {
-        QueryRead::NotBuilt => Ok(None),
-        QueryRead::Built(_) => {
-            let text = refused_grid(alloc, error)?;
-            Ok(Some(text))
-        }
-        QueryRead::Refused(_) => {
-            let text = refused_grid(alloc, error)?;
-            Ok(Some(text))
+            Ok(text)
         }
     }
 }
 
-/// What the evaluation of a query prints over the samples of a batch. None of a query that is not built.
+/// What the evaluation of a query prints over the samples of a batch. Refused times come before a refused query.
 pub fn evaluation_of(
     alloc: Global,
     batch: &Batch,
     named: &Evaluation<'_>,
-) -> Result<Option<Vec<u8>>, OutOfMemory>
+) -> Result<Vec<u8>, OutOfMemory>
     requires { are_timed batch.now.rows ≡ true }
-    ensures { IfOk result (IsEvaluationText batch.now (evaluation_in named.now)) }
+    ensures { IfOk result (λ t. IsEvaluationText batch.now (evaluation_in named.now) t.items) }
 {
     let read = read_text(alloc, named.query)?;
     match Grid::aligned(named.start, named.end, named.step) {
         Ok(grid) => text_over(alloc, batch, &read.query, grid),
-        Err(error) => refused_times(alloc, &read.query, error),
+        Err(error) => refused_grid(alloc, error),
     }
 }

@@ -17,7 +17,6 @@ mod journal;
 mod loaded;
 mod queries;
 mod session;
-mod settled;
 mod slots;
 mod stop;
 mod tenants;

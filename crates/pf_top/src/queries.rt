@@ -1,23 +1,21 @@
 //! The queries and the selectors of a script.
 
-ghost use Rattle.std.specs.Prelude.{◌≡◌, ◌≢◌, ◌≤◌, ℕ, Err, IfOk, List, MatchOption, None, OnOk, Some, [], false, is_some, true};
+ghost use Rattle.std.specs.Prelude.{◌≡◌, ◌≢◌, ◌≤◌, ℕ, true, IfOk, List, MatchOption, None, OnOk, Some, false, is_some};
 ghost use Rattle.std.specs.BTreeMap.{get_by_text};
+ghost use Rattle.pf_model.specs.Built.{is_evaluated};
 ghost use Rattle.pf_model.specs.Lists.{Each};
-ghost use Rattle.pf_model.specs.Queries.{IsQuery, IsUnbuiltQuery, IsUnbuiltSelector, is_plain, is_unmodified, obstacle_of, pattern, selecting};
-ghost use Rattle.pf_model.specs.Trees.{instant, size, tree_of};
+ghost use Rattle.pf_model.specs.Queries.{IsQuery, first_empty, is_plain, is_unmodified};
+ghost use Rattle.pf_model.specs.Trees.{height, instant, size, tree_of};
 ghost use Rattle.pf_script.specs.Lines.{lines_of, numbered_of};
-ghost use Rattle.pf_top.specs.Correct.{HasUnbuilt, IsUnbuiltLine};
-ghost use Rattle.pf_top.specs.Queries.{AreReadAs, IsKeptFor, IsLineRead, IsQueryRead, IsReadAs, IsReadIn, IsTextRead, is_query_built, is_selector_built, selects_as};
-ghost use Rattle.pf_top.specs.declared.queries.QueriesError.{QueriesError};
+ghost use Rattle.pf_top.specs.Queries.{AreReadAs, IsKeptFor, IsLineRead, IsQueryRead, IsReadAs, IsTextRead, SelectsAs};
 ghost use Rattle.pf_types.specs.Errors.{query_fault};
 
-use crate::bound::{BindError, BoundQuery, bind};
-use crate::settled::is_built;
+use crate::bound::{BoundQuery, evaluable};
 use pf_base::{OutOfMemory, Text};
 use pf_model::{Expr, MatchError, Matchers, Mods, Selector};
 use pf_parse::ParseError;
 use pf_script::{Line, NumberedLine, Script};
-use pf_types::{Obstacle, QueryError, first_obstacle, read_query};
+use pf_types::{BindError, QueryError, bind, read_query};
 use std::alloc::Global;
 use std::collections::BTreeMap;
 use std::sync::Arc;
@@ -25,10 +23,8 @@ use std::sync::Arc;
 /// What a text is read as where a query stands.
 #[derive(Drop)]
 pub enum QueryRead {
-    Built(Arc<BoundQuery>),
+    Lawful(Arc<BoundQuery>),
     Refused(QueryError),
-    /// A lawful query that is not built.
-    NotBuilt,
 }
 
 /// What a text is read as where a deletion's selector stands.
@@ -36,8 +32,6 @@ pub enum QueryRead {
 pub enum SelectorRead {
     Built(Arc<Matchers>),
     Refused,
-    /// An instant selector with patterns.
-    NotBuilt,
 }
 
 /// What a text is read as.
@@ -49,24 +43,6 @@ pub struct TextRead {
 
 /// What texts are read as, by text.
 pub type Queries = BTreeMap<String, TextRead>;
-
-/// A query or a selector is not built, or memory ran out.
-#[derive(Clone, Copy)]
-pub enum QueriesError {
-    NotBuilt,
-    OutOfMemory,
-}
-
-impl From<OutOfMemory> for QueriesError {
-    ghost use Rattle.std.specs.Prelude.{◌≡◌};
-    ghost use Rattle.pf_top.specs.declared.queries.QueriesError.TheVariants.{OutOfMemory};
-
-    ghost from_gives = { λ _ e. e ≡ OutOfMemory };
-
-    fn from(_error: OutOfMemory) -> QueriesError {
-        QueriesError::OutOfMemory
-    }
-}
 
 /// Whether an error says more than that memory ran out.
 fn is_fault(error: &QueryError) -> bool
@@ -111,72 +87,62 @@ fn plain_selector(expr: &Expr) -> Option<&Selector>
     }
 }
 
-/// What a query without an obstacle is read as, as a deletion's selector.
-#[tactic(auto, using(crate::proofs::TextReads::other_selects, crate::proofs::TextReads::plain_selects))]
-fn read_matchers(alloc: Global, expr: &Expr) -> Result<SelectorRead, OutOfMemory>
-    requires { obstacle_of (tree_of expr.now) ≡ None }
-    ensures { IfOk result (λ s. selects_as s ≡ selecting (tree_of expr.now)) }
+/// What a tree is read as, as a deletion's selector. One whose pattern is refused is none.
+#[tactic(auto, using(crate::proofs::TextReads::other_refused, crate::proofs::TextReads::plain_selects, crate::proofs::TextReads::pattern_refused, crate::proofs::TextReads::empty_refused))]
+fn read_selector(alloc: Global, expr: &Expr) -> Result<SelectorRead, OutOfMemory>
+    ensures { IfOk result (SelectsAs (tree_of expr.now)) }
 {
     let Some(selector) = plain_selector(expr) else {
         return Ok(SelectorRead::Refused);
     };
     match Matchers::build(selector) {
         Ok(matchers) => Ok(SelectorRead::Built(Arc::new(alloc, matchers)?)),
-        Err(MatchError::OutOfMemory) => Err(OutOfMemory),
-        Err(MatchError::BadPattern) => Ok(SelectorRead::NotBuilt),
+        Err(MatchError::BadPattern) => Ok(SelectorRead::Refused),
         Err(MatchError::EmptySelector) => Ok(SelectorRead::Refused),
+        Err(MatchError::OutOfMemory) => Err(OutOfMemory),
     }
 }
 
-/// What a query with a pattern is read as, as a deletion's selector.
-#[tactic(auto, using(crate::proofs::TextReads::other_selects, crate::proofs::TextReads::pattern_selects))]
-fn read_pattern(expr: &Expr) -> SelectorRead
-    requires { obstacle_of (tree_of expr.now) ≡ Some pattern }
-    ensures { selects_as result ≡ selecting (tree_of expr.now) }
+/// What a query with its matchers and patterns is read as.
+#[tactic(auto, using(crate::proofs::TextReads::lawful_right))]
+fn read_bound(alloc: Global, query: pf_types::BoundQuery) -> Result<QueryRead, OutOfMemory>
+    requires selects { first_empty query ≡ None }
+    requires low { height query ≤ 64 }
+    requires evaluated { is_evaluated query ≡ true }
+    ensures { IfOk result (λ q. (text : List ℕ) → IsQuery text query → IsQueryRead text q) }
 {
-    match plain_selector(expr) {
-        Some(_) => SelectorRead::NotBuilt,
-        None => SelectorRead::Refused,
-    }
-}
-
-/// What a query without an obstacle is read as.
-#[tactic(auto, using(crate::proofs::TextReads::built_right, crate::proofs::TextReads::other_unbuilt))]
-fn read_lawful(alloc: Global, expr: Expr) -> Result<QueryRead, OutOfMemory>
-    requires { obstacle_of (tree_of expr) ≡ None }
-    ensures { IfOk result (λ q. (text : List ℕ) → IsQuery text (tree_of expr) → IsQueryRead text q) }
-{
-    if !is_built(&expr) {
-        return Ok(QueryRead::NotBuilt);
-    }
-    match bind(alloc, expr) {
-        Ok(query) => Ok(QueryRead::Built(Arc::new(alloc, query)?)),
-        Err(BindError::OutOfMemory) => Err(OutOfMemory),
-        Err(BindError::NoMatchers) => Ok(QueryRead::NotBuilt),
-    }
+    Ok(QueryRead::Lawful(Arc::new(alloc, evaluable(query))?))
 }
 
 /// What a query whose kinds are lawful is read as.
-#[tactic(auto, using(crate::proofs::TextReads::lawful_read, crate::proofs::TextReads::pattern_read))]
+#[tactic(auto, using(crate::proofs::TextReads::bound_right, crate::proofs::TextReads::refused_pattern_right, crate::proofs::TextReads::empty_selector_right))]
+fn read_lawful(alloc: Global, expr: Expr) -> Result<QueryRead, OutOfMemory>
+    requires small { size (tree_of expr) ≤ 65536 }
+    requires low { height (tree_of expr) ≤ 64 }
+    requires evaluated { is_evaluated (tree_of expr) ≡ true }
+    ensures { IfOk result (λ q. (text : List ℕ) → IsQuery text (tree_of expr) → IsQueryRead text q) }
+{
+    match bind(alloc, expr) {
+        Ok(query) => read_bound(alloc, query),
+        Err(BindError::Pattern { which }) => {
+            Ok(QueryRead::Refused(QueryError::Pattern { which }))
+        }
+        Err(BindError::Empty { which }) => Ok(QueryRead::Refused(QueryError::Empty { which })),
+        Err(BindError::OutOfMemory) => Err(OutOfMemory),
+    }
+}
+
+/// What a tree whose kinds are lawful is read as, as a query and as a deletion's selector.
+#[tactic(auto, using(crate::proofs::TextReads::lawful_read))]
 fn read_tree(alloc: Global, expr: Expr) -> Result<TextRead, OutOfMemory>
-    requires { size (tree_of expr) ≤ 65536 }
+    requires small { size (tree_of expr) ≤ 65536 }
+    requires low { height (tree_of expr) ≤ 64 }
+    requires evaluated { is_evaluated (tree_of expr) ≡ true }
     ensures { IfOk result (λ r. (text : List ℕ) → IsQuery text (tree_of expr) → IsReadAs text r) }
 {
-    match first_obstacle(&expr) {
-        Some(Obstacle::Empty { which }) => Ok(TextRead {
-            query: QueryRead::Refused(QueryError::Empty { which }),
-            selector: SelectorRead::Refused,
-        }),
-        Some(Obstacle::Pattern) => Ok(TextRead {
-            query: QueryRead::NotBuilt,
-            selector: read_pattern(&expr),
-        }),
-        None => {
-            let selector = read_matchers(alloc, &expr)?;
-            let query = read_lawful(alloc, expr)?;
-            Ok(TextRead { query, selector })
-        }
-    }
+    let selector = read_selector(alloc, &expr)?;
+    let query = read_lawful(alloc, expr)?;
+    Ok(TextRead { query, selector })
 }
 
 /// Reads a text as a query and as a selector.
@@ -232,89 +198,25 @@ fn read_one(alloc: Global, queries: &mut Queries, text: &Text) -> Result<(), Out
     Ok(())
 }
 
-impl TextRead {
-    /// Whether it is built as a query.
-    fn is_query_built(&self) -> bool
-        ensures { result ≡ is_query_built self.now }
-    {
-        match self.query {
-            QueryRead::Built(_) | QueryRead::Refused(_) => true,
-            QueryRead::NotBuilt => false,
-        }
-    }
-
-    /// Whether it is built as a selector.
-    fn is_selector_built(&self) -> bool
-        ensures { result ≡ is_selector_built self.now }
-    {
-        match self.selector {
-            SelectorRead::Built(_) | SelectorRead::Refused => true,
-            SelectorRead::NotBuilt => false,
-        }
-    }
-}
-
-/// Reads the query of an `ask`.
-fn read_asked(alloc: Global, queries: &mut Queries, query: &Text) -> Result<(), QueriesError>
-    requires { AreReadAs queries.old }
-    ensures ok { OnOk result (IsReadIn is_query_built queries.old query.now queries.new) }
-    ensures unbuilt { result ≡ Err QueriesError.NotBuilt → IsUnbuiltQuery query.now }
-{
-    read_one(alloc, queries, query)?;
-    match query_of(queries, query.as_str()) {
-        Some(read) => {
-            if read.is_query_built() {
-                Ok(())
-            } else {
-                Err(QueriesError::NotBuilt)
-            }
-        }
-        None => Ok(()),
-    }
-}
-
-/// Reads the selector of a `delete`.
-fn read_selector(alloc: Global, queries: &mut Queries, selector: &Text) -> Result<(), QueriesError>
-    requires { AreReadAs queries.old }
-    ensures ok { OnOk result (IsReadIn is_selector_built queries.old selector.now queries.new) }
-    ensures unbuilt { result ≡ Err QueriesError.NotBuilt → IsUnbuiltSelector selector.now }
-{
-    read_one(alloc, queries, selector)?;
-    match query_of(queries, selector.as_str()) {
-        Some(read) => {
-            if read.is_selector_built() {
-                Ok(())
-            } else {
-                Err(QueriesError::NotBuilt)
-            }
-        }
-        None => Ok(()),
-    }
-}
-
 /// Reads the query or the selector of a line.
-fn read_line(alloc: Global, queries: &mut Queries, line: &NumberedLine) -> Result<(), QueriesError>
+fn read_line(alloc: Global, queries: &mut Queries, line: &NumberedLine) -> Result<(), OutOfMemory>
     requires { AreReadAs queries.old }
-    ensures ok { OnOk result (IsLineRead queries.old (numbered_of line.now).line queries.new) }
-    ensures unbuilt { result ≡ Err QueriesError.NotBuilt → IsUnbuiltLine (numbered_of line.now).line }
+    ensures { OnOk result (IsLineRead queries.old (numbered_of line.now).line queries.new) }
 {
     match &line.line {
-        Line::Ask { query, .. } => read_asked(alloc, queries, query),
-        Line::Delete { selector, .. } => read_selector(alloc, queries, selector),
+        Line::Ask { query, .. } => read_one(alloc, queries, query),
+        Line::Delete { selector, .. } => read_one(alloc, queries, selector),
         _ => Ok(()),
     }
 }
 
 /// Reads each query and each selector of a script, once.
-pub fn read_queries(alloc: Global, script: &Script) -> Result<Queries, QueriesError>
-    ensures ok { IfOk result (λ q. AreReadAs q × Each (λ l. IsKeptFor q l.line) (lines_of script.now)) }
-    ensures unbuilt { result ≡ Err QueriesError.NotBuilt → HasUnbuilt (lines_of script.now) }
+pub fn read_queries(alloc: Global, script: &Script) -> Result<Queries, OutOfMemory>
+    ensures { IfOk result (λ q. AreReadAs q × Each (λ l. IsKeptFor q l.line) (lines_of script.now)) }
 {
     let mut queries = BTreeMap::new(alloc);
     for line in &script.lines {
-        if let Err(error) = read_line(alloc, &mut queries, line) {
-            return Err(error);
-        }
+        read_line(alloc, &mut queries, line)?;
     }
     Ok(queries)
 }

@@ -5,7 +5,6 @@ use Rattle.pf_script.specs.Lines.{lines_of}
 use Rattle.pf_top.specs.Drives.{RanTo}
 use Rattle.pf_top.specs.Going.{Going}
 use Rattle.pf_top.specs.Queries.{readings_in}
-use Rattle.pf_top.proofs.TextReads.{lines_built}
 use Rattle.pf_top.proofs.Reports.{reported}
 use Rattle.pf_top.proofs.drive.run_script.Goals as goal
 
@@ -20,6 +19,6 @@ returns c told held =
     let going : Going known c.args.limits (lines_of c.args.script.now) [] c.in_ok-client.client = c.in_ok-client.ensures known (lines_of c.args.script.now) in
     let right = c.requires.can_run.right in
     reported c.args.limits c.args.loaded.now (lines_of c.args.script.now) c.in_ok-ran.ran c.run_lines.new.client c.in_ok-report_of.field-0.full c.in_ok-report_of.field-0.text.items told held
-    right (lines_built c.args.loaded.now.queries right (lines_of c.args.script.now) c.requires.can_run.texts)
+    right
     (subst (λ (l : Limits). RanTo l c.args.loaded.now (lines_of c.args.script.now) c.in_ok-ran.ran c.run_lines.new.client) going.limited (search rules))
     (search rules) (search rules)

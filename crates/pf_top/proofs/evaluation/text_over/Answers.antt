@@ -3,10 +3,10 @@ use Rattle.pf_top.specs.Queries.{IsQueryRead}
 use Rattle.pf_top.proofs.Printed.{query_printed, refusal_printed}
 use Rattle.pf_top.proofs.evaluation.text_over.Goals as goal
 
-pub returns-in_ok-text-in-Built : goal.returns-in_ok-text-in-Built
-returns-in_ok-text-in-Built c query start end step h gridded =
-    query_printed c.args.batch.now query start end step c.args.grid c.in-Built.query _ c.in_ok-text-in-Built.ensures
-    (subst (IsQueryRead query) c.in-Built.is h) gridded
+pub returns-in_ok-text-in-Lawful : goal.returns-in_ok-text-in-Lawful
+returns-in_ok-text-in-Lawful c query start end step h gridded =
+    query_printed c.args.batch.now query start end step c.args.grid c.in-Lawful.query _ c.in_ok-text-in-Lawful.ensures
+    (subst (IsQueryRead query) c.in-Lawful.is h) gridded
 
 pub returns-in_ok-text-in-Refused : goal.returns-in_ok-text-in-Refused
 returns-in_ok-text-in-Refused c query start end step h gridded =

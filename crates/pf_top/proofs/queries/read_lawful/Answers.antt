@@ -1,7 +1,10 @@
 use Rattle.std.proofs.Common.{rules}
 use Rattle.pf_model.specs.Trees.{tree_of}
-use Rattle.pf_top.proofs.TextReads.{all_given}
+use Rattle.pf_top.proofs.TextReads.{empty_selector_right, refused_pattern_right}
 use Rattle.pf_top.proofs.queries.read_lawful.Goals as goal
 
-pub returns-in-Err-NoMatchers : goal.returns-in-Err-NoMatchers
-returns-in-Err-NoMatchers c = absurd (all_given (tree_of c.args.expr) c.requires (c.bind.ensures.refused (search rules)))
+pub returns-in-Err-Pattern : goal.returns-in-Err-Pattern
+returns-in-Err-Pattern c text query = refused_pattern_right text (tree_of c.args.expr) _ (search rules) query
+
+pub returns-in-Err-Empty : goal.returns-in-Err-Empty
+returns-in-Err-Empty c text query = empty_selector_right text (tree_of c.args.expr) _ (search rules) query

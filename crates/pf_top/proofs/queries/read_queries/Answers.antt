@@ -1,11 +1,6 @@
 use Rattle.std.proofs.Common.{rules}
-use Rattle.pf_top.proofs.TextReads.{read_more, unbuilt_by}
+use Rattle.pf_top.proofs.TextReads.{read_more}
 use Rattle.pf_top.proofs.queries.read_queries.Goals as goal
-
-pub returns-in-Err-clause-unbuilt : goal.returns-in-Err-clause-unbuilt
-returns-in-Err-clause-unbuilt c same =
-    unbuilt_by c.args.script.now.lines.items c.loop-line.line-index c.line-item.result (search rules) (search rules)
-    (c.read_line.ensures.unbuilt (search rules))
 
 pub loop-line-preserved : goal.loop-line-preserved
 loop-line-preserved c = record {

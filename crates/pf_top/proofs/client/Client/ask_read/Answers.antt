@@ -14,11 +14,11 @@ returns-in_ok-refuse_ask-in-Refused c = record {
       (search rules) (search rules);
 }
 
-pub returns-in_ok-asked-in-Built : goal.returns-in_ok-asked-in-Built
-returns-in_ok-asked-in-Built c = record {
+pub returns-in_ok-asked-in-Lawful : goal.returns-in_ok-asked-in-Lawful
+returns-in_ok-asked-in-Lawful c = record {
   runs = if_ok_map _ _ c.ask_over.result
       (λ r run told start end step readings gridded. run told start end step c.args.query.now
-      (asked_found c.args.queries.now c.args.query.now c.in-Some.read.now c.in-Built.query (asked_in (arc_value c.in_ok-asked-in-Built.asked)) told.readings start end step c.args.grid
-      (search rules) (search rules) (search rules) (search rules) readings gridded))
+      (asked_found c.args.queries.now c.args.query.now c.in-Some.read.now c.in-Lawful.query (asked_in (arc_value c.in_ok-asked-in-Lawful.asked)) told.readings start end step c.args.grid
+      (search rules) (search rules) (search rules) readings gridded))
       c.ask_over.ensures.runs;
 }
