@@ -1,6 +1,8 @@
-//! Rows of tokens, canonical texts, kinds, queries, what stands in their way, and errors.
+//! Rows of tokens, canonical texts, kinds, queries, what they are bound to, and errors.
 
+ghost use Rattle.std.specs.Prelude.{◌≤◌};
 ghost use Rattle.pf_lex.specs.Seen.{IsTokenOf};
+ghost use Rattle.pf_model.specs.Trees.{size, tree_of};
 
 use crate::resolution::resolving;
 use cases_rows::output::Output;
@@ -8,9 +10,7 @@ use pf_lex::{LexError, Token, TokenSort, string_value, token_text, tokens};
 use pf_model::{Expr, Kind};
 use pf_parse::{ParseError, parse};
 use pf_print::print;
-use pf_types::{
-    Obstacle, QueryError, TypeError, check, error_text, first_obstacle, has_pattern, read_query,
-};
+use pf_types::{BindError, QueryError, TypeError, bind, check, error_text, read_query};
 use std::alloc::Global;
 
 /// A form of rows.
@@ -26,10 +26,10 @@ pub enum Form {
     Kind,
     /// `query`: `TEXT => lawful`, or the text of the first error.
     Query,
-    /// `obstacle`: `QUERY => none`, `pattern` or `empty WHICH`.
-    Obstacle,
-    /// `pattern`: `SELECTOR => true` where it has a pattern, and `false` else.
-    Pattern,
+    /// `bind`: `QUERY => lawful`, or the text of the first refused pattern or empty selector.
+    Bind,
+    /// `compared`: `SELECTOR => true` where no pattern is compiled for it, and `false` else.
+    Compared,
     /// `resolving`: `resolve START END QUERY => CANONICAL`, the query with its range put in, and `shardable QUERY => true`.
     Resolving,
     /// `error`: `ERROR => TEXT`.
@@ -45,8 +45,8 @@ impl Form {
             "canonical" => Form::Canonical,
             "kind" => Form::Kind,
             "query" => Form::Query,
-            "obstacle" => Form::Obstacle,
-            "pattern" => Form::Pattern,
+            "bind" => Form::Bind,
+            "compared" => Form::Compared,
             "resolving" => Form::Resolving,
             "error" => Form::Error,
             _ => return None,
@@ -63,8 +63,8 @@ impl Form {
             Form::Canonical => canonical(out, text),
             Form::Kind => kind(out, text),
             Form::Query => query(out, text),
-            Form::Obstacle => obstacle(out, text),
-            Form::Pattern => pattern(out, text),
+            Form::Bind => bound(out, text),
+            Form::Compared => compared(out, text),
             Form::Resolving => resolving(out, text),
             Form::Error => error(out, text),
         }
@@ -177,27 +177,27 @@ fn query(out: &mut Output, text: &str) {
     }
 }
 
-fn push_obstacle(out: &mut Output, obstacle: Option<Obstacle>) {
-    match obstacle {
-        None => out.text("none"),
-        Some(Obstacle::Pattern) => out.text("pattern"),
-        Some(Obstacle::Empty { which }) => {
-            out.text("empty ");
-            out.show(which);
-        }
+fn push_bound(out: &mut Output, tree: Expr)
+    requires { size (tree_of tree) ≤ 65536 }
+{
+    match bind(out.alloc(), tree) {
+        Ok(_) => out.text("lawful"),
+        Err(BindError::Pattern { which }) => push_refusal(out, &QueryError::Pattern { which }),
+        Err(BindError::Empty { which }) => push_refusal(out, &QueryError::Empty { which }),
+        Err(BindError::OutOfMemory) => out.lose(),
     }
 }
 
-fn obstacle(out: &mut Output, text: &str) {
-    match &read_query(out.alloc(), text) {
-        Ok(tree) => push_obstacle(out, first_obstacle(tree)),
-        Err(error) => push_refusal(out, error),
+fn bound(out: &mut Output, text: &str) {
+    match read_query(out.alloc(), text) {
+        Ok(tree) => push_bound(out, tree),
+        Err(error) => push_refusal(out, &error),
     }
 }
 
-fn pattern(out: &mut Output, text: &str) {
+fn compared(out: &mut Output, text: &str) {
     match &read_query(out.alloc(), text) {
-        Ok(Expr::Select { selector, .. }) => out.show(has_pattern(selector)),
+        Ok(Expr::Select { selector, .. }) => out.show(selector.is_compared()),
         Ok(_) => out.refuse(),
         Err(error) => push_refusal(out, error),
     }

@@ -17,13 +17,14 @@ use pf_block::Snap;
 use pf_columns::{Column, StepCells};
 use pf_index::select;
 use pf_model::Matchers;
-use pf_selectors::{Times, ranged, sample_times, selected};
+use pf_selectors::{Times, multiples_over, over_moments, ranged, sample_times, selected};
 
 /// A form of rows.
 #[derive(Clone, Copy)]
 pub enum Form {
     /// `selector over a run`: `selected 0 SELECTOR`, `sample_times 0 SELECTOR` or `FUNCTION RANGE SELECTOR => COLUMNS`, with `!` at
-    /// the steps that have an error; or `too far`, where times are too large.
+    /// the steps that have an error; or `too far`, where times are too large. `subquery FUNCTION RANGE RESOLUTION SELECTOR` is a
+    /// function of a subquery of an instant selector; it may be `too many`, where it has more multiples than a run.
     OverRun,
 }
 
@@ -126,6 +127,39 @@ fn push_read(out: &mut Output, asked: &Asked, snap: &Snap, ids: &[u32])
     }
 }
 
+/// Appends what a function gives of a subquery of an instant selector of the series of these ids.
+fn push_subquery(out: &mut Output, asked: &Asked, resolution: u64, snap: &Snap, ids: &[u32])
+    requires { All (λ id. id < length snap.now.labels) ids.now }
+{
+    let Some(function) = function_of(asked.name.as_str()) else {
+        return out.refuse();
+    };
+    let times = &asked.times;
+    if resolution == 0 || !times.are_bounded(asked.range) {
+        return out.text("too far");
+    }
+    let Some(at) = &multiples_over(asked.range, resolution, times) else {
+        return out.text("too many");
+    };
+    let alloc = out.alloc();
+    match &selected(alloc, snap, ids, at) {
+        Ok(moments) => {
+            let steps = over_moments(
+                alloc,
+                function,
+                &asked.absent,
+                asked.range,
+                resolution,
+                moments,
+                at,
+                times,
+            );
+            push_columns(out, &steps, times.len);
+        }
+        Err(_) => out.lose(),
+    }
+}
+
 fn push_asked(out: &mut Output, asked: &Asked, snap: &Snap, matchers: &Matchers) {
     match &select(out.alloc(), snap, matchers) {
         Ok(ids) => push_read(out, asked, snap, ids),
@@ -164,8 +198,40 @@ fn asked_of(out: &mut Output, setting: &Setting, name: &str, range: &str) -> Opt
     })
 }
 
+fn push_subquery_asked(
+    out: &mut Output,
+    asked: &Asked,
+    resolution: u64,
+    snap: &Snap,
+    matchers: &Matchers,
+) {
+    match &select(out.alloc(), snap, matchers) {
+        Ok(ids) => push_subquery(out, asked, resolution, snap, ids),
+        Err(_) => out.lose(),
+    }
+}
+
+fn subquery_over_run(out: &mut Output, setting: &Setting, text: &str) {
+    let (name, rest) = cut(text);
+    let (range, rest) = cut(rest);
+    let (resolution, selector) = cut(rest);
+    let resolution = out.number(resolution);
+    let Some(asked) = &asked_of(out, setting, name, range) else {
+        return;
+    };
+    let Some(matchers) = &matchers_of(out, selector) else {
+        return;
+    };
+    if let Some(pin) = &last_pin(out, setting) {
+        push_subquery_asked(out, asked, resolution, &pin.snap, matchers);
+    }
+}
+
 fn over_run(out: &mut Output, setting: &Setting, text: &str) {
     let (name, rest) = cut(text);
+    if name == "subquery" {
+        return subquery_over_run(out, setting, rest);
+    }
     let (range, selector) = cut(rest);
     let Some(asked) = &asked_of(out, setting, name, range) else {
         return;
