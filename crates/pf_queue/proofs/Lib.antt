@@ -1,0 +1,4 @@
+mod Chains
+mod Lists
+pub mod Rings
+mod Worked

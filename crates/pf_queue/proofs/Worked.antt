@@ -1,0 +1,34 @@
+-- Rings, worked by hand: of four places the last is that of the ends.
+use Rattle.std.proofs.Common.{◌≡◌, ◌∷◌, [], true, false, refl}
+use Rattle.pf_queue.specs.Links.{next_with, next_without, previous_with, previous_without, waiting_of}
+use Rattle.pf_queue.specs.Rings.{waits, without}
+
+nobody : waiting_of (0 ∷ 1 ∷ 2 ∷ 3 ∷ []) 3 ≡ []
+nobody = refl
+
+two_and_none : waiting_of (3 ∷ 1 ∷ 0 ∷ 2 ∷ []) 3 ≡ 2 ∷ 0 ∷ []
+two_and_none = refl
+
+one_put_last : next_with (3 ∷ 1 ∷ 0 ∷ 2 ∷ []) (2 ∷ 1 ∷ 3 ∷ 0 ∷ []) 3 1 ≡ 1 ∷ 3 ∷ 0 ∷ 2 ∷ []
+one_put_last = refl
+
+all_wait : waiting_of (1 ∷ 3 ∷ 0 ∷ 2 ∷ []) 3 ≡ 2 ∷ 0 ∷ 1 ∷ []
+all_wait = refl
+
+before_them : previous_with (2 ∷ 1 ∷ 3 ∷ 0 ∷ []) 3 1 ≡ 2 ∷ 0 ∷ 3 ∷ 1 ∷ []
+before_them = refl
+
+middle_out : waiting_of (next_without (1 ∷ 3 ∷ 0 ∷ 2 ∷ []) (2 ∷ 0 ∷ 3 ∷ 1 ∷ []) 0) 3 ≡ 2 ∷ 1 ∷ []
+middle_out = refl
+
+before_the_last : previous_without (1 ∷ 3 ∷ 0 ∷ 2 ∷ []) (2 ∷ 0 ∷ 3 ∷ 1 ∷ []) 0 ≡ 2 ∷ 2 ∷ 3 ∷ 1 ∷ []
+before_the_last = refl
+
+the_others : without 0 (2 ∷ 0 ∷ 1 ∷ []) ≡ 2 ∷ 1 ∷ []
+the_others = refl
+
+is_there : waits 0 (2 ∷ 0 ∷ 1 ∷ []) ≡ true
+is_there = refl
+
+is_gone : waits 0 (2 ∷ 1 ∷ []) ≡ false
+is_gone = refl
