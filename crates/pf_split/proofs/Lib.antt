@@ -1,0 +1,3 @@
+mod Intervals
+pub mod Runs
+mod Worked
