@@ -42,12 +42,21 @@ impl Model for PieceIter {
 }
 
 /// The pieces of a grid, by intervals of a length in milliseconds. Mimir, query frontend: Splitting queries by interval.
-#[tactic(auto, using(crate::proofs::Intervals::laws))]
 pub fn pieces(grid: &Grid, interval: u64) -> PieceIter
-    requires length { 1000 ≤ interval }
-    requires grid { IsGrid grid.now }
+    requires { 1000 ≤ interval }
     ensures pieces { result ≡ pieces_of interval grid.now.step (points grid.now) }
     ensures all { steps_of result ≡ points grid.now }
+    ensures own { AreIntervals interval result }
+{
+    all_pieces(*grid, interval)
+}
+
+/// The same of a grid at hand.
+#[tactic(auto, using(crate::proofs::Intervals::laws))]
+fn all_pieces(grid: Grid, interval: u64) -> PieceIter
+    requires { 1000 ≤ interval }
+    ensures pieces { result ≡ pieces_of interval grid.step (points grid) }
+    ensures all { steps_of result ≡ points grid }
     ensures own { AreIntervals interval result }
 {
     PieceIter {
