@@ -11,7 +11,7 @@
 //! - `GroupIds` are the groups of columns, found once for all steps, `aggregated` the aggregations that have one value for
 //!   each group and no parameter, and `aggregated_by` those with one.
 //!
-//! Nothing uses it yet. A node that drops the metric name would go so:
+//! A node that drops the metric name goes so:
 //!
 //! ```text
 //! let mut changed = Vec::new(alloc);
