@@ -1,3 +1,4 @@
 pub mod GroupElements
+pub mod KnownGroups
 pub mod Planned
 pub mod RankOrder

@@ -1,7 +1,7 @@
 -- The orders of ranks are total, and a list that is sorted by what its elements stand for stands for a sorted list.
-use Rattle.std.proofs.Common.{◌≡◌, ℤ, Bool, true, false, cond, List, [], ◌∷◌, map, refl, sym, ap, ◌∙◌, subst}
+use Rattle.std.proofs.Common.{◌≡◌, Bool, true, false, cond, List, [], ◌∷◌, map, refl, sym, ap, ◌∙◌, subst}
 use Rattle.std.specs.Cmp.{IsTotalOrder, IsStrictWeakOrder}
-use Rattle.std.specs.Ordering.{int_cmp, is_gt, is_lt, ordering_reverse, then_cmp}
+use Rattle.std.specs.Ordering.{int_cmp, is_gt, is_lt, ordering_reverse}
 use Rattle.std.specs.declared.cmp.Ordering.{Ordering}
 use Rattle.std.specs.declared.cmp.Ordering.TheVariants.{Less, Equal, Greater}
 use Rattle.std.proofs.lemmas.Cmp.{int_cmp_total, then_total}
@@ -12,7 +12,7 @@ use Rattle.pf_model.specs.declared.cell.Element.{Element}
 use Rattle.pf_model.specs.Cells.{element_cmp}
 use Rattle.pf_agg.specs.declared.rank.Rank.{Rank}
 use Rattle.pf_agg.specs.declared.rank.Rank.TheVariants as rank
-use Rattle.pf_agg.specs.Ranks.{by_value, order_of}
+use Rattle.pf_agg.specs.Ranks.{order_of}
 
 pub element_total : IsTotalOrder element_cmp
 element_total = record {

@@ -1,3 +1,4 @@
 pub mod Buckets
+pub mod Partials
 pub mod Plans
 pub mod Ranks
