@@ -1,3 +1,4 @@
+pub mod Grids
 mod Intervals
 pub mod Runs
 mod Worked
