@@ -1,0 +1,3 @@
+pub mod Uses
+pub mod Steps
+pub mod Combining
