@@ -2,6 +2,7 @@ pub mod Searches
 pub mod Postings
 pub mod Ids
 pub mod Keeping
+pub mod LabelOrdering
 mod Merging
 mod Numbering
 mod Runs

@@ -1,5 +1,6 @@
 pub mod Blocks
 pub mod Indexes
+pub mod LabelOrders
 pub mod Runs
 pub mod Samples
 pub mod SeriesIds

@@ -2,11 +2,13 @@
 
 ghost use Rattle.std.specs.Prelude.{◌≡◌, ℕ, ◌<◌, ◌^◌, ◌++◌, ◌∷◌, [], None, IfOk, List, length, slice_index_or, true, cond, ◌&&◌};
 ghost use Rattle.std.specs.Str.{bytes_eq};
+ghost use Rattle.std.specs.List.{All};
 ghost use Rattle.pf_base.specs.LabelSets.{IsLabels};
 ghost use Rattle.pf_block.specs.SeriesIds.{id_of, ids_with, has_pair};
 ghost use Rattle.pf_block.specs.Snaps.{are_apart};
 ghost use Rattle.pf_block.specs.Indexes.{listed, listed_by};
-ghost use Rattle.std.specs.BTreeMap.{get_by_text};
+ghost use Rattle.pf_block.specs.LabelOrders.{ids_by_label};
+ghost use Rattle.std.specs.BTreeMap.{get_by_text, values};
 
 use pf_base::{Labels, OutOfMemory};
 use std::alloc::Global;
@@ -78,12 +80,24 @@ fn note_all(
     labels: &Labels,
     id: u32,
 ) -> Result<(), OutOfMemory>
-    ensures { IfOk result (λ _. (q r : List ℕ) → listed names.new q r ≡ listed names.old q r ++ cond (has_pair q r labels.now) (id ∷ []) []) }
+    ensures listed { IfOk result (λ _. (q r : List ℕ) → listed names.new q r ≡ listed names.old q r ++ cond (has_pair q r labels.now) (id ∷ []) []) }
+    ensures lawful { IsLabels labels.now }
 {
     for i in 0..labels.count() {
         note(alloc, names, labels.name(i), labels.value(i), id)?;
     }
     Ok(())
+}
+
+/// The values of a map in the order of its keys.
+fn values(alloc: Global, map: &BTreeMap<Labels, u32>) -> Result<Vec<u32>, OutOfMemory>
+    ensures { IfOk result (λ v. v.items ≡ values map.now) }
+{
+    let mut list = Vec::with_capacity(alloc, map.len())?;
+    for value in map.values() {
+        list.push(*value)?;
+    }
+    Ok(list)
 }
 
 impl Index {
@@ -135,11 +149,19 @@ impl Index {
         Ok(index)
     }
 
+    /// The ids of the series in label order: the map from label sets to ids has them so.
+    pub fn by_label(&self) -> Result<Vec<u32>, OutOfMemory>
+        ensures { IfOk result (λ v. v.items ≡ ids_by_label self.now) }
+    {
+        values(*self.labels.allocator(), &self.ids)
+    }
+
     /// The number of series, fewer than 2^32.
     pub fn count(&self) -> u32
         ensures value { result ≡ length self.now }
         ensures few { length self.now < 2 ^ 32 }
         ensures apart { are_apart self.now ≡ true }
+        ensures lawful { All IsLabels self.now }
     {
         self.labels.len() as u32
     }

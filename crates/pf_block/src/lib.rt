@@ -11,6 +11,7 @@
 
 mod block;
 mod index;
+mod ranked;
 mod samples;
 mod sizes;
 mod snap;

@@ -1,16 +1,19 @@
 //! A tenant's series and samples at a point of its log.
 
 ghost use Rattle.std.specs.Prelude.{◌≡◌, ℕ, ◌<◌, ◌≤◌, ◌++◌, true, false, [], IfOk, length, vec_len, slice_index_or, nat_eq, nat_le, map, drop};
-ghost use Rattle.std.specs.List.{list_any};
+ghost use Rattle.std.specs.List.{All, list_any};
 ghost use Rattle.std.specs.Arc.{arc_value};
 ghost use Rattle.pf_block.specs.Blocks.{entries_of, entry_of, labels_with, noted, number_of};
 ghost use Rattle.pf_block.specs.Samples.{window_of, last_of};
+ghost use Rattle.pf_base.specs.LabelSets.{IsLabels};
+ghost use Rattle.pf_block.specs.LabelOrders.{ids_by_label};
 ghost use Rattle.pf_block.specs.SeriesIds.{id_of, ids_with};
 ghost use Rattle.pf_block.specs.Stacks.{doubles, total};
 ghost use Rattle.pf_block.specs.Snaps.{IsSnap, empty_snap, labels_of, samples_of, held_at, with_rows, are_new, are_timed, without_rows, sample_of};
 
 use crate::block::{Block, Entry};
 use crate::index::Index;
+use crate::ranked::Ranked;
 use crate::sizes::BlockSizes;
 use crate::stack::{clear_of, cut, last_within, stacked};
 use crate::window::Window;
@@ -23,7 +26,7 @@ use std::sync::Arc;
 #[derive(Drop)]
 pub struct Snap {
     alloc: Global,
-    index: Arc<Index>,
+    index: Arc<Ranked>,
     blocks: Vec<Arc<Block>>,
 }
 
@@ -99,20 +102,20 @@ fn noted(
 /// The rows as entries, and the index with their labels: the same one where no series is new.
 fn numbered(
     alloc: Global,
-    index: &Arc<Index>,
+    index: &Arc<Ranked>,
     rows: &[Row],
-) -> Result<(Arc<Index>, Vec<Entry>), OutOfMemory>
+) -> Result<(Arc<Ranked>, Vec<Entry>), OutOfMemory>
     requires { are_timed rows.now ≡ true }
     ensures entries { IfOk result (λ p. map entry_of p.1.items ≡ entries_of (arc_value index.now) rows.now) }
     ensures labels { IfOk result (λ p. arc_value p.0 ≡ labels_with (arc_value index.now) rows.now) }
 {
-    let entries = known(alloc, index, rows)?;
+    let entries = known(alloc, index.index(), rows)?;
     let place = entries.len();
     if place == rows.len() {
         return Ok((Arc::try_clone(index)?, entries));
     }
-    let (index, entries) = noted(index.copied()?, entries, &rows[place..])?;
-    Ok((Arc::new(alloc, index)?, entries))
+    let (index, entries) = noted(index.index().copied()?, entries, &rows[place..])?;
+    Ok((Arc::new(alloc, Ranked::of(alloc, index)?)?, entries))
 }
 
 /// Which ids below a number are in a list.
@@ -136,7 +139,7 @@ impl Snap {
     {
         let snap = Snap {
             alloc,
-            index: Arc::new(alloc, Index::new(alloc))?,
+            index: Arc::new(alloc, Ranked::of(alloc, Index::new(alloc))?)?,
             blocks: Vec::new(alloc),
         };
         Ok(Arc::new(alloc, snap)?)
@@ -150,7 +153,7 @@ impl Snap {
         ensures { IfOk result (λ s. arc_value s ≡ with_rows self.now rows.now) }
     {
         let (index, entries) = numbered(self.alloc, &self.index, rows)?;
-        let _few = index.count();
+        let _few = index.index().count();
         let block = Block::of(self.alloc, entries)?;
         let clear = clear_of(&self.blocks, &block);
         let blocks = stacked(self.alloc, &self.blocks, clear, block)?;
@@ -166,7 +169,7 @@ impl Snap {
     pub fn without(&self, series: &[u32], from: u64, to: u64) -> Result<Arc<Snap>, OutOfMemory>
         ensures { IfOk result (λ s. arc_value s ≡ without_rows self.now series.now from to) }
     {
-        let marks = marks(self.alloc, series, self.index.count() as usize)?;
+        let marks = marks(self.alloc, series, self.index.index().count() as usize)?;
         let from = from.min(MAXT + 1) as i64;
         let to = to.min(MAXT) as i64;
         let snap = Snap {
@@ -183,21 +186,39 @@ impl Snap {
         ensures snap { IsSnap self.now }
     {
         let _blocks = &self.blocks;
-        self.index.count()
+        self.index.index().count()
     }
 
     /// The series with these labels.
     pub fn find(&self, labels: &Labels) -> Option<u32>
         ensures { result ≡ id_of labels.now self.now.labels }
     {
-        self.index.find(labels)
+        self.index.index().find(labels)
     }
 
     /// The series whose labels have this pair of a name and a value, by rising id.
     pub fn postings(&self, name: &str, value: &str) -> &[u32]
         ensures { result.now ≡ ids_with name.now value.now self.now.labels }
     {
-        self.index.postings(name, value)
+        self.index.index().postings(name, value)
+    }
+
+    /// The series in label order. What each series' labels are like stands here too.
+    pub fn by_label(&self) -> &[u32]
+        ensures value { result.now ≡ ids_by_label self.now.labels }
+        ensures labels { All IsLabels self.now.labels }
+    {
+        let _count = self.index.index().count();
+        self.index.by_label()
+    }
+
+    /// The place of a series in label order, counted from 0.
+    pub fn rank(&self, id: u32) -> u32
+        requires { id < length self.now.labels }
+        ensures within { result < length self.now.labels }
+        ensures place { slice_index_or (ids_by_label self.now.labels) result 0 ≡ id }
+    {
+        self.index.rank(id)
     }
 
     /// The labels of a series.
@@ -205,7 +226,7 @@ impl Snap {
         requires { id < length self.now.labels }
         ensures { result.now ≡ labels_of self.now id }
     {
-        self.index.labels(id)
+        self.index.index().labels(id)
     }
 
     /// The samples of a series after `after`, up to and with `upto`, in milliseconds.

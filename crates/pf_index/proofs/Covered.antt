@@ -1,12 +1,12 @@
 -- A series that a matcher accepts has one of the values that it asks for, and the accepted ones of the series that have one are
 -- all accepted ones.
-use Rattle.std.proofs.Common.{◌≡◌, ℕ, zero, suc, ◌+◌, ◌<◌, ◌≤◌, Bool, true, false, cond, ◌&&◌, ◌||◌, List, [], ◌∷◌, map, length, get_or, eqb, refl, sym, ap, ◌∙◌, arith, subst, eqb-true, ne_eqb, Bor}
+use Rattle.std.proofs.Common.{◌≡◌, ℕ, zero, suc, ◌+◌, ◌<◌, ◌≤◌, Bool, true, false, cond, ◌&&◌, ◌||◌, List, [], ◌∷◌, ◌++◌, map, length, drop, append_assoc, get_or, eqb, refl, sym, ap, ◌∙◌, arith, subst, eqb-true, ne_eqb, Bor}
 use Rattle.std.proofs.lemmas.Bool.{eqb-false}
 use Rattle.std.specs.List.{All, list_any}
 use Rattle.std.specs.Str.{bytes_eq}
 use Rattle.std.specs.Cmp.{first_so, nat_eq_equiv, second_so}
 use Rattle.std.proofs.lemmas.Map.Views.{list_any-from_Contains}
-use Rattle.std.proofs.lemmas.List.Elements.{All-head, All-nil, All-tail}
+use Rattle.std.proofs.lemmas.List.Elements.{All-cons, All-head, All-nil, All-tail}
 use Rattle.std.proofs.lemmas.Slice.Eq.{bytes_eq-Decides}
 use Rattle.pf_base.specs.LabelSets.{Pairs, is_empty, value_of}
 use Rattle.pf_block.specs.SeriesIds.{has_pair}
@@ -16,7 +16,7 @@ use Rattle.pf_model.specs.declared.expr.MatchSign.TheVariants.{Equal, NotEqual, 
 use Rattle.pf_model.specs.Binding.{accepted_from, accepted_of}
 use Rattle.pf_model.specs.Patterns.{alternatives, is_like, is_plain}
 use Rattle.pf_model.specs.Selection.{accepts, holds}
-use Rattle.pf_index.specs.Listing.{AreListed, RisesFrom, accepted_among, has_one, labels_at, listed_values, unless_empty, values_of}
+use Rattle.pf_index.specs.Listing.{AreListed, RisesFrom, accepted_in, has_one, all_from, ids_of, labels_at, listed_values, unless_empty, values_of}
 
 -- ---- values
 
@@ -106,6 +106,22 @@ accepted_has ms i m values h e v n l a =
 
 -- ---- the accepted ones of some series
 
+-- with their labels
+abbrev accepted_among : List Matcher → List Pairs → List ℕ → List (Pairs × ℕ)
+accepted_among ms ls [] = []
+accepted_among ms ls (id ∷ ids) =
+    cond (accepts ms (labels_at ls id)) ((labels_at ls id, id) ∷ accepted_among ms ls ids) (accepted_among ms ls ids)
+
+ids_by : (id : ℕ) (l : Pairs) (es : List (Pairs × ℕ)) (b : Bool) → cond b (id ∷ ids_of es) (ids_of es) ≡ ids_of (cond b ((l, id) ∷ es) es)
+ids_by id l es true = refl
+ids_by id l es false = refl
+
+ids_among : (ms : List Matcher) (ls : List Pairs) (ids : List ℕ) → accepted_in ms ls ids ≡ ids_of (accepted_among ms ls ids)
+ids_among ms ls [] = refl
+ids_among ms ls (id ∷ ids) =
+    ap (λ l. cond (accepts ms (labels_at ls id)) (id ∷ l) l) (ids_among ms ls ids)
+    ∙ ids_by id (labels_at ls id) (accepted_among ms ls ids) (accepts ms (labels_at ls id))
+
 -- the ids of accepted series are among some ids
 abbrev AreThere : ℕ → List Matcher → List Pairs → List ℕ → Type 0
 AreThere first ms ls ids = (k : ℕ) → k < length ls → accepts ms (labels_at ls k) ≡ true → list_any (eqb (first + k)) ids ≡ true
@@ -188,18 +204,53 @@ module _ (ms : List Matcher) (all : List Pairs) where
       (λ r' w' t'. all_among (first + 1) ls ids (stand_on first l ls s) r' w' t')
       (λ r' w' t'. all_among (first + 1) ls (id ∷ ids) (stand_on first l ls s) r' w' t')
 
+zero_plus : (n : ℕ) → 0 + n ≡ n
+zero_plus n = omega arith
+
 -- the accepted ones of the series that have one of some values
 pub all_listed_accepted : (ms : List Matcher) (all : List Pairs) (name : List ℕ) (values : List (List ℕ)) (ids : List ℕ) → AreListed name values all ids
-    → ((l : Pairs) → accepts ms l ≡ true → has_one name values l ≡ true) → accepted_among ms all ids ≡ accepted_of ms all
+    → ((l : Pairs) → accepts ms l ≡ true → has_one name values l ≡ true) → accepted_in ms all ids ≡ ids_of (accepted_of ms all)
 all_listed_accepted ms all name values ids a h =
-    all_among ms all 0 all ids (λ k l. ap (labels_at all) (zero_plus k)) a.rising
+    ids_among ms all ids
+    ∙ ap ids_of
+    (all_among ms all 0 all ids (λ k l. ap (labels_at all) (zero_plus k)) a.rising
     (λ k d l. subst (λ n. get_or ids k d < n) (sym (zero_plus (length all))) (a.within k d l))
-    (λ k l e. ap (λ i. list_any (eqb i) ids) (zero_plus k) ∙ list_any-from_Contains nat_eq_equiv k ids (a.each k l (h (labels_at all k) e))) where
-      zero_plus : (n : ℕ) → 0 + n ≡ n
-      zero_plus n = omega arith
+    (λ k l e. ap (λ i. list_any (eqb i) ids) (zero_plus k) ∙ list_any-from_Contains nat_eq_equiv k ids (a.each k l (h (labels_at all k) e))))
+
+-- the accepted ones of all series
+accepted_on : (ms : List Matcher) (all : List Pairs) (first : ℕ) (ls : List Pairs) → StandFrom first all ls → accepted_in ms all (all_from first ls) ≡ ids_of (accepted_from first ms ls)
+accepted_on ms all first [] s = refl
+accepted_on ms all first (l ∷ ls) s =
+    let own : labels_at all first ≡ l = ap (labels_at all) (sym (plus_zero first)) ∙ s 0 (omega arith) in
+    (λ i. cond (accepts ms (own i)) (first ∷ accepted_on ms all (first + 1) ls (stand_on ms all first l ls s) i) (accepted_on ms all (first + 1) ls (stand_on ms all first l ls s) i))
+    ∙ ids_by first l (accepted_from (first + 1) ms ls) (accepts ms l)
+
+pub all_accepted : (ms : List Matcher) (ls : List Pairs) → accepted_in ms ls (all_from 0 ls) ≡ ids_of (accepted_of ms ls)
+all_accepted ms ls = accepted_on ms ls 0 ls (λ k l. ap (labels_at ls) (zero_plus k))
+
+within_from : (n first : ℕ) (ls : List Pairs) → first + length ls ≤ n → All (λ id. id < n) (all_from first ls)
+within_from n first [] h = All-nil (λ id. id < n)
+within_from n first (l ∷ ls) h = All-cons (λ id. id < n) first (all_from (first + 1) ls) (omega (arith, h)) (within_from n (first + 1) ls (omega (arith, h)))
+
+pub all_within : (ls : List Pairs) → All (λ id. id < length ls) (all_from 0 ls)
+all_within ls = within_from (length ls) 0 ls (omega arith)
 
 -- the values of a slice of one text
 pub one_value : (values : List (Bor (List ℕ))) (d : Bor (List ℕ)) → 1 ≤ length values → length values < 2 → map (λ x. x.now) values ≡ (get_or values 0 d).now ∷ []
 one_value [] d l h = absurd (omega (arith, l))
 one_value (v ∷ []) d l h = refl
 one_value (v ∷ w ∷ vs) d l h = absurd (omega (arith, h))
+
+-- a loop's step over all ids
+drop_ids : (first i : ℕ) (ls : List Pairs) → i < length ls → all_from first (drop i ls) ≡ first ∷ all_from (first + 1) (drop (suc i) ls)
+drop_ids first i [] h = absurd (omega (arith, h))
+drop_ids first zero (l ∷ ls) h = refl
+drop_ids first (suc i) (l ∷ ls) h = drop_ids first i ls (omega (arith, h))
+
+pub ids_more : (ls : List Pairs) (i : ℕ) (done new whole : List ℕ) → i < length ls → new ≡ done ++ i ∷ [] → done ++ all_from i (drop i ls) ≡ whole → new ++ all_from (i + 1) (drop (i + 1) ls) ≡ whole
+ids_more ls i done new whole h g w =
+    let p : i + 1 ≡ suc i = omega arith in
+    ap (λ l. l ++ all_from (i + 1) (drop (i + 1) ls)) g
+    ∙ ap (λ n. (done ++ i ∷ []) ++ all_from (i + 1) (drop n ls)) p
+    ∙ append_assoc done (i ∷ []) (all_from (i + 1) (drop (suc i) ls))
+    ∙ ap (λ l. done ++ l) (sym (drop_ids i i ls h)) ∙ w

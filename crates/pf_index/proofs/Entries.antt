@@ -1,5 +1,5 @@
 -- Series with their ids: in label order, and each id that of a series.
-use Rattle.std.proofs.Common.{◌≡◌, ℕ, ◌+◌, ◌<◌, ◌≤◌, Bool, true, false, cond, List, [], ◌∷◌, map, length, get_or, ap, ◌∙◌, arith}
+use Rattle.std.proofs.Common.{◌≡◌, ℕ, suc, ◌+◌, ◌<◌, ◌≤◌, Bool, true, false, cond, List, [], ◌∷◌, map, length, get_or, refl, sym, ap, ◌∙◌, arith}
 use Rattle.std.specs.List.{All}
 use Rattle.std.specs.List.Sorted.{IsPermutation, IsSorted}
 use Rattle.std.specs.Cmp.{IsTotalOrder, then_total, on_total, nat_cmp_total}
@@ -16,6 +16,7 @@ use Rattle.pf_base.proofs.Sorting.{All-ins, sorted_is}
 use Rattle.pf_model.specs.declared.expr.Matcher.{Matcher}
 use Rattle.pf_model.specs.Binding.{accepted_from, accepted_ids, accepted_of, series_cmp}
 use Rattle.pf_model.specs.Selection.{accepts}
+use Rattle.pf_index.specs.Listing.{entries_at, ids_of, labels_at}
 
 abbrev Entry : Type 0
 Entry = Pairs × ℕ
@@ -65,3 +66,26 @@ pub ids_within : (ms : List Matcher) (ls : List Pairs) → All (λ id. id < leng
 ids_within ms ls =
     All-map (λ id. id < length ls) (λ (e : Entry). e.1) (isort series_cmp (accepted_of ms ls))
     (within_sorted (length ls) (accepted_of ms ls) (within_from (length ls) 0 ms ls (omega arith)))
+
+pub accepted_within : (ms : List Matcher) (ls : List Pairs) → All (λ id. id < length ls) (ids_of (accepted_of ms ls))
+accepted_within ms ls = All-map (λ id. id < length ls) (λ (e : Entry). e.1) (accepted_of ms ls) (within_from (length ls) 0 ms ls (omega arith))
+
+-- each accepted series stands at its id
+abbrev StandFrom : ℕ → List Pairs → List Pairs → Type 0
+StandFrom first all ls = (k : ℕ) → k < length ls → labels_at all (first + k) ≡ labels_at ls k
+
+stand_on : (all : List Pairs) (first : ℕ) (l : Pairs) (ls : List Pairs) → StandFrom first all (l ∷ ls) → StandFrom (first + 1) all ls
+stand_on all first l ls s k h = ap (labels_at all) (let e : (first + 1) + k ≡ first + suc k = omega arith in e) ∙ s (suc k) (omega (arith, h))
+
+entries_by : (all : List Pairs) (first : ℕ) (l : Pairs) (es : List Entry) (b : Bool) → labels_at all first ≡ l → es ≡ entries_at all (ids_of es) → cond b ((l, first) ∷ es) es ≡ entries_at all (ids_of (cond b ((l, first) ∷ es) es))
+entries_by all first l es true e h = λ i. (sym e i, first) ∷ h i
+entries_by all first l es false e h = h
+
+entries_on : (ms : List Matcher) (all : List Pairs) (first : ℕ) (ls : List Pairs) → StandFrom first all ls → accepted_from first ms ls ≡ entries_at all (ids_of (accepted_from first ms ls))
+entries_on ms all first [] s = refl
+entries_on ms all first (l ∷ ls) s =
+    let own : labels_at all first ≡ l = ap (labels_at all) (let e : first ≡ first + 0 = omega arith in e) ∙ s 0 (omega arith) in
+    entries_by all first l (accepted_from (first + 1) ms ls) (accepts ms l) own (entries_on ms all (first + 1) ls (stand_on all first l ls s))
+
+pub accepted_entries : (ms : List Matcher) (ls : List Pairs) → accepted_of ms ls ≡ entries_at ls (ids_of (accepted_of ms ls))
+accepted_entries ms ls = entries_on ms ls 0 ls (λ k l. ap (labels_at ls) (let e : 0 + k ≡ k = omega arith in e))

@@ -1,3 +1,6 @@
+pub mod Asked
 pub mod Covered
 pub mod Entries
 pub mod Listed
+pub mod Members
+pub mod Ordered

@@ -1,5 +1,5 @@
 -- The values that a matcher asks for, and the series that have one of them. This project's own.
-use Rattle.std.specs.Prelude.{◌≡◌, ℕ, ◌+◌, ◌<◌, ◌≤◌, ◌++◌, true, Bool, cond, List, [], ◌∷◌, map, length, slice_index_or}
+use Rattle.std.specs.Prelude.{◌≡◌, ℕ, ◌+◌, ◌<◌, ◌≤◌, ◌++◌, true, Bool, cond, List, [], ◌∷◌, map, filter, length, slice_index_or}
 use Rattle.std.specs.List.{All, Contains, list_any}
 use Rattle.pf_base.specs.LabelSets.{Pairs, is_empty}
 use Rattle.pf_block.specs.SeriesIds.{has_pair, ids_with}
@@ -47,11 +47,18 @@ pub record AreListed (name : List ℕ) (values : List (List ℕ)) (ls : List Pai
   pub within : All (λ id. id < length ls) ids
   pub each : (id : ℕ) → id < length ls → has_one name values (labels_at ls id) ≡ true → Contains ids id
 
--- the accepted ones of the series with some ids
-abbrev pub accepted_among : List Matcher → List Pairs → List ℕ → List (Pairs × ℕ)
-accepted_among ms ls [] = []
-accepted_among ms ls (id ∷ ids) =
-    cond (accepts ms (labels_at ls id)) ((labels_at ls id, id) ∷ accepted_among ms ls ids) (accepted_among ms ls ids)
+-- the ids of all of some series; the first has the id `first`
+abbrev pub all_from : ℕ → List Pairs → List ℕ
+all_from first [] = []
+all_from first (l ∷ ls) = first ∷ all_from (first + 1) ls
+
+-- those of some series that matchers accept
+abbrev pub accepted_in : List Matcher → List Pairs → List ℕ → List ℕ
+accepted_in ms ls ids = filter (λ id. accepts ms (labels_at ls id)) ids
+
+-- some series with their labels
+abbrev pub entries_at : List Pairs → List ℕ → List (Pairs × ℕ)
+entries_at ls ids = map (λ id. (labels_at ls id, id)) ids
 
 -- the ids of some series
 abbrev pub ids_of : List (Pairs × ℕ) → List ℕ

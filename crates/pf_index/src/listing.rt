@@ -3,7 +3,7 @@
 ghost use Rattle.std.specs.Prelude.{◌≡◌, ◌<◌, IfOk, IfSome, length, map};
 ghost use Rattle.std.specs.List.{list_any};
 ghost use Rattle.pf_base.specs.LabelSets.{is_empty};
-ghost use Rattle.pf_index.specs.Listing.{AreListed, all_listed, listed_values, values_of};
+ghost use Rattle.pf_index.specs.Listing.{AreListed, all_from, all_listed, listed_values, values_of};
 ghost use Rattle.pf_model.specs.Patterns.{alternatives};
 
 use pf_base::OutOfMemory;
@@ -125,6 +125,17 @@ fn all_listed(
     let mut ids = Vec::new(alloc);
     for value in values {
         ids.extend_from_slice(snap.postings(name, value))?;
+    }
+    Ok(ids)
+}
+
+/// The ids of all series, by rising id.
+pub fn all_ids(alloc: Global, snap: &Snap) -> Result<Vec<u32>, OutOfMemory>
+    ensures { IfOk result (λ v. v.items ≡ all_from 0 snap.now.labels) }
+{
+    let mut ids = Vec::new(alloc);
+    for id in 0..snap.series_count() {
+        ids.push(id)?;
     }
     Ok(ids)
 }

@@ -1,4 +1,3 @@
-pub mod AcceptedIds
 pub mod ApartRows
 pub mod Deletions
 pub mod Holding

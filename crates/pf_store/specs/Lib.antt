@@ -1,4 +1,3 @@
-pub mod Candidates
 pub mod Keys
 pub mod Standing
 pub mod Verdicts

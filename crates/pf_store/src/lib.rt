@@ -8,7 +8,6 @@
 #![tactic(auto)]
 
 mod judged;
-mod matched;
 mod taken;
 mod tenant_log;
 mod verdict;

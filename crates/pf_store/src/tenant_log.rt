@@ -3,13 +3,13 @@
 ghost use Rattle.std.specs.Prelude.{◌≡◌, ◌≤◌, ◌+◌, true, [], List, IfOk, OnErr, OnOk};
 ghost use Rattle.pf_block.specs.Snaps.{are_timed};
 ghost use Rattle.pf_model.specs.Log.{Change, floor_below, log_with, log_without, newest_with, verdicts_of};
-ghost use Rattle.pf_store.specs.Standing.{IsLog, IsPin, deleted_after, verdicts_after};
+ghost use Rattle.pf_store.specs.Standing.{AreAccepted, IsLog, IsPin, deleted_after, verdicts_after};
 
 use crate::judged::judge_rows;
-use crate::matched::accepted;
 use crate::verdict::Verdicts;
 use pf_base::{Batch, OutOfMemory, Row};
 use pf_block::Snap;
+use pf_index::select;
 use pf_model::Matchers;
 use std::alloc::Global;
 use std::marker::Model;
@@ -91,6 +91,14 @@ fn with_entry(entries: u64) -> Result<u64, OutOfMemory>
     ensures { IfOk result (λ n. n ≡ entries + 1) }
 {
     entries.checked_add(1).ok_or(OutOfMemory)
+}
+
+/// The series whose labels the matchers accept.
+fn accepted(alloc: Global, snap: &Snap, matchers: &Matchers) -> Result<Vec<u32>, OutOfMemory>
+    ensures { IfOk result (λ v. AreAccepted matchers.now snap.now v.items) }
+{
+    let ids = select(alloc, snap, matchers)?;
+    Ok(ids)
 }
 
 impl TenantLog {

@@ -15,7 +15,7 @@ pub invariant_of-snap : goal.invariant_of-snap
 invariant_of-snap c =
     (with_is (arc_value c.self.inside.index) (arc_value c.in_ok-index.index) (map arc_value c.self.inside.blocks.items) (map arc_value c.in_ok-blocks.blocks.items) c.clear_of-clear.result c.in_ok-block.block c.args.rows.now
     c.self.invariant c.in_ok-block.ensures.ascends (subst (λ s. are_new s c.args.rows.now ≡ true) (sym c.self.view_is) c.requires.fresh) c.requires.timed c.in_ok-index.ensures.labels
-    (subst (λ l. length l < 2 ^ 32) c.deref.ensures c.count-few.ensures.few)
+    (subst (λ l. length l < 2 ^ 32) (c.index.ensures ∙ c.deref.ensures) c.count-few.ensures.few)
     (λ k x. c.in_ok-block.ensures.samples k x ∙ ap (times k x) c.in_ok-index.ensures.entries)
     (subst (λ l. is_clear (take c.clear_of-clear.result (map arc_value l)) c.in_ok-block.block ≡ true) c.deref-2.ensures.value c.clear_of-clear.ensures.clear)
     (subst (λ l. IsStacked (map arc_value l) c.clear_of-clear.result c.in_ok-block.block (map arc_value c.in_ok-blocks.blocks.items)) c.deref-3.ensures.value c.in_ok-blocks.ensures.kept)).1
@@ -25,7 +25,7 @@ returns c =
     c.in_ok-new.ensures.ok
     ∙ (with_is (arc_value c.self.inside.index) (arc_value c.in_ok-index.index) (map arc_value c.self.inside.blocks.items) (map arc_value c.in_ok-blocks.blocks.items) c.clear_of-clear.result c.in_ok-block.block c.args.rows.now
     c.self.invariant c.in_ok-block.ensures.ascends (subst (λ s. are_new s c.args.rows.now ≡ true) (sym c.self.view_is) c.requires.fresh) c.requires.timed c.in_ok-index.ensures.labels
-    (subst (λ l. length l < 2 ^ 32) c.deref.ensures c.count-few.ensures.few)
+    (subst (λ l. length l < 2 ^ 32) (c.index.ensures ∙ c.deref.ensures) c.count-few.ensures.few)
     (λ k x. c.in_ok-block.ensures.samples k x ∙ ap (times k x) c.in_ok-index.ensures.entries)
     (subst (λ l. is_clear (take c.clear_of-clear.result (map arc_value l)) c.in_ok-block.block ≡ true) c.deref-2.ensures.value c.clear_of-clear.ensures.clear)
     (subst (λ l. IsStacked (map arc_value l) c.clear_of-clear.result c.in_ok-block.block (map arc_value c.in_ok-blocks.blocks.items)) c.deref-3.ensures.value c.in_ok-blocks.ensures.kept)).0

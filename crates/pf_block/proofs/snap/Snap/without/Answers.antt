@@ -11,7 +11,7 @@ pub invariant_of-snap : goal.invariant_of-snap
 invariant_of-snap c =
     (cut_made (arc_value c.self.inside.index) (arc_value c.in_ok-try_clone.field-0) (map arc_value c.self.inside.blocks.items) (map arc_value c.deref-2.result.now) (map arc_value c.in_ok-cut.field-0.items) c.args.series.now c.args.from c.args.to
     c.in_ok-marks.marks.items c.deref-3.result.now _ _ c.self.invariant c.in_ok-cut.ensures c.deref-3.ensures.value (ap (map arc_value) c.deref-2.ensures.value)
-    (λ k l. c.in_ok-marks.ensures.1 k (subst (λ n. k < n) (sym (c.count.ensures.value ∙ ap length c.deref.ensures)) l))
+    (λ k l. c.in_ok-marks.ensures.1 k (subst (λ n. k < n) (sym (c.count.ensures.value ∙ ap length (c.index.ensures ∙ c.deref.ensures))) l))
     (omega (arith, ints)) (omega (arith, ints)) c.in_ok-try_clone.ensures).1
 
 pub returns : goal.returns
@@ -19,7 +19,7 @@ returns c =
     c.in_ok-new.ensures.ok
     ∙ (cut_made (arc_value c.self.inside.index) (arc_value c.in_ok-try_clone.field-0) (map arc_value c.self.inside.blocks.items) (map arc_value c.deref-2.result.now) (map arc_value c.in_ok-cut.field-0.items) c.args.series.now c.args.from c.args.to
     c.in_ok-marks.marks.items c.deref-3.result.now _ _ c.self.invariant c.in_ok-cut.ensures c.deref-3.ensures.value (ap (map arc_value) c.deref-2.ensures.value)
-    (λ k l. c.in_ok-marks.ensures.1 k (subst (λ n. k < n) (sym (c.count.ensures.value ∙ ap length c.deref.ensures)) l))
+    (λ k l. c.in_ok-marks.ensures.1 k (subst (λ n. k < n) (sym (c.count.ensures.value ∙ ap length (c.index.ensures ∙ c.deref.ensures))) l))
     (omega (arith, ints)) (omega (arith, ints)) c.in_ok-try_clone.ensures).0
     ∙ ap (λ s. without_rows s c.args.series.now c.args.from c.args.to) c.self.view_is
 
