@@ -11,4 +11,4 @@ pub use bounds::is_readable;
 pub use reading::{lowest, reach};
 pub use resolution::{resolve, resolved_over};
 pub use settled::is_settled;
-pub use sharding::shardable;
+pub use sharding::{is_sharded, shardable};

@@ -1,6 +1,6 @@
 //! Queries whose aggregations are evaluated shard by shard.
 
-ghost use Rattle.std.specs.Prelude.{◌≡◌, ◌<◌, length, map};
+ghost use Rattle.std.specs.Prelude.{◌≡◌, ◌<◌, ◌&&◌, length, map};
 ghost use Rattle.pf_resolve.specs.Forms.{any_has_selector, has_selector, is_number, is_range};
 ghost use Rattle.pf_model.specs.Sharding.{are_covered, are_literals, is_covered, is_elementwise, is_first_plain, is_literal, is_mergeable, is_one_plain, is_over_series, is_plain, is_plain_call, is_range_selector, is_set_operator, is_shardable};
 ghost use Rattle.pf_model.specs.Trees.{tree_of, trees_of};
@@ -189,6 +189,15 @@ fn is_one_plain(args: &[Expr]) -> bool
     args.len() == 1 && is_plain(&args[0])
 }
 
+/// Whether an aggregation is evaluated shard by shard: what shards know of its groups can be merged, and it has one argument,
+/// whose value has one element for each series, found from that series alone. It takes no memory, and calls itself as deep as
+/// the tree is high.
+pub fn is_sharded(op: AggOp, args: &[Expr]) -> bool
+    ensures { result ≡ (is_mergeable op && is_one_plain (trees_of (map tree_of args.now))) }
+{
+    is_mergeable(op) && is_one_plain(args)
+}
+
 #[cycle(covered)]
 fn are_covered(args: &[Expr]) -> bool
     ensures { result ≡ are_covered (trees_of (map tree_of args.now)) }
@@ -212,9 +221,7 @@ fn is_covered(expr: &Expr) -> bool
         Expr::Unary { arg, .. } => is_covered(arg),
         Expr::Binary { left, right, .. } => is_covered(left) && is_covered(right),
         Expr::Call { args, .. } => are_covered(args),
-        Expr::Aggregate { op, args, .. } => {
-            (is_mergeable(*op) && is_one_plain(args)) || are_covered(args)
-        }
+        Expr::Aggregate { op, args, .. } => is_sharded(*op, args) || are_covered(args),
         Expr::Select { .. } => false,
         Expr::Subquery { .. } => false,
     }
