@@ -1,0 +1,5 @@
+pub mod AddingUp
+pub mod Crossing
+pub mod LawfulLegs
+pub mod MergedGroups
+pub mod Numbering
