@@ -1,1 +1,4 @@
+pub mod Asking
+pub mod Legal
+pub mod Machine
 pub mod Scripts
