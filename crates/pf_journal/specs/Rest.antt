@@ -1,0 +1,58 @@
+-- What a report says and the journal does not hold. This project's own.
+use Rattle.std.specs.Prelude.{ℕ, List, [], ◌∷◌, cond, length, nat_eq}
+use Rattle.pf_base.specs.declared.plain.Limits.{Limits}
+use Rattle.pf_model.specs.Queries.{Readings}
+use Rattle.pf_journal.specs.Files.{Refusal}
+use Rattle.pf_journal.specs.Steps.{PlanReply, TakeReply, DoneReply, KeepReply}
+
+-- what lines and journals are judged by: the limits of the run, the names of the known tenants by number, what files hold by
+-- name, and how queries are read by their texts, and so which of their patterns are refused
+pub record Known : Type 0 where
+  pub limits : Limits
+  pub names : List (List ℕ)
+  pub files : List ℕ → List ℕ
+  pub readings : Readings
+
+-- what was told of a line beside its entry
+pub data Told : Type 0 where
+  nothing : Told
+  refused_file : Refusal → Told
+  no_memory : Told
+  journal_full : Told
+  -- an answer waits for so many jobs in workers' hands
+  waiting : (jobs : ℕ) → Told
+  of_plan : PlanReply → Told
+  of_take : TakeReply → Told
+  of_done : DoneReply → Told
+  of_keep : KeepReply → Told
+
+-- why a client stopped: at its script's end, at a line that met the full journal, or for want of memory
+pub data Why : Type 0 where
+  at_end : Why
+  at_full : Why
+  at_memory : Why
+
+-- of a client: what was told of each line that it ran, in order, and why it stopped
+pub record Client : Type 0 where
+  pub told : List Told
+  pub why : Why
+
+-- how many lines a client ran
+abbrev pub ran : Client → ℕ
+ran c = length c.told
+
+-- the job of a query that failed five times; the query is the place of its ask
+pub record Exhausted : Type 0 where
+  pub query : ℕ
+  pub job : ℕ
+
+-- a record for each client, the job of each query that is answered 500, and the failed tries of each actor by its number
+pub record Rest : Type 0 where
+  pub clients : List Client
+  pub exhausted : List Exhausted
+  pub failed : List ℕ
+
+-- the job of a query that failed five times
+abbrev pub job_of : ℕ → List Exhausted → ℕ
+job_of query [] = 0
+job_of query (e ∷ es) = cond (nat_eq e.query query) e.job (job_of query es)
