@@ -1,8 +1,14 @@
 pub mod Asking
+pub mod Bodies
+pub mod Entered
 pub mod Files
 pub mod Legal
 pub mod Machine
+pub mod Replies
+pub mod Report
 pub mod Rest
 pub mod Scripts
 pub mod Steps
 pub mod Turns
+pub mod Unentered
+pub mod Weave

@@ -4,10 +4,10 @@ use Rattle.std.specs.Prelude.{ℕ, Bool, true, false, Option, Some, None, List, 
 use Rattle.pf_model.specs.Lists.{first_with}
 use Rattle.pf_journal.specs.Legal.{Moment}
 use Rattle.pf_journal.specs.Machine.{What, cancel, answer}
-use Rattle.pf_journal.specs.Rest.{Told, nothing, refused_file, no_memory, journal_full, waiting, of_plan, of_take, of_done, of_keep}
+use Rattle.pf_journal.specs.Rest.{Told, of_take}
 use Rattle.pf_journal.specs.Scripts.{Line, Numbered}
 use Rattle.pf_journal.specs.Scripts as script
-use Rattle.pf_journal.specs.Steps.{TakeReply, took, none_waits, busy}
+use Rattle.pf_journal.specs.Steps.{took}
 
 -- ---- moments of one client
 
@@ -136,7 +136,7 @@ turn_with rs hands r mine asked earlier = record {
 abbrev pub turn_of : (own : List Moment) → List Ran → List Hand → Ran → Turn
 turn_of own rs hands r =
     turn_with rs hands r (moment_of r.line.number own)
-        (asked_by (asking_line r.line.line) r.told (above r.line.number own)) (above r.line.number own)
+    (asked_by (asking_line r.line.line) r.told (above r.line.number own)) (above r.line.number own)
 
 abbrev pub turns_from : (own : List Moment) → (all : List Ran) → List Hand → List Ran → List Turn
 turns_from own all hands [] = []
