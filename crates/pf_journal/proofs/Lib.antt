@@ -1,1 +1,4 @@
+mod Examples
+mod Sessions
+mod WorkedReports
 mod WorkedScripts
