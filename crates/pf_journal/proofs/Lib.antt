@@ -1,4 +1,6 @@
 mod Examples
 mod Sessions
+mod WorkedReplies
 mod WorkedReports
 mod WorkedScripts
+mod WorkedWeaves

@@ -1,0 +1,418 @@
+-- Worked examples of legal and woven journals: those of the small sessions. That the one file gives its batch is a premise.
+use Rattle.std.proofs.Common.{◌≡◌, ℕ, ◌+◌, Bool, true, false, List, [], ◌∷◌, drop, refl, sym, ap, ◌∙◌, Option, Some, None, codes, inl, inr, lit≤, lit<}
+use Rattle.std.proofs.lemmas.Bool.{false≢true}
+use Rattle.std.specs.Fmt.{digits}
+use Rattle.std.specs.Option.{is_none}
+use Rattle.std.specs.Str.{bytes_eq}
+use Rattle.pf_base.specs.Arithmetic.{clamp}
+use Rattle.pf_journal.proofs.Examples.{up_batch}
+use Rattle.pf_journal.proofs.Sessions.{cancel_journal, cancel_known, cancel_rest, cancel_scripts, failed_journal, failed_known, failed_rest, failed_scripts, full_journal, full_known, full_rest, full_scripts, limit_journal, limit_known, limit_rest, limit_scripts, steps_journal, steps_known, steps_rest, steps_scripts, two_journal, two_known, two_rest, two_scripts, want_journal, want_known, want_rest, want_scripts}
+use Rattle.pf_journal.specs.Files.{Gives}
+use Rattle.pf_journal.specs.Legal.{Legal, moments}
+use Rattle.pf_journal.specs.Machine.{Entry}
+use Rattle.pf_journal.specs.Rest.{Client, Known, Rest, ran}
+use Rattle.pf_journal.specs.Scripts.{Numbered}
+use Rattle.pf_journal.specs.Turns.{own_moments, ran_lines}
+use Rattle.pf_journal.specs.Weave.{AreTried, RunsTo, Woven}
+
+-- a client is woven into a journal
+abbrev IsWovenIn : Known → List Entry → ℕ → List Numbered → Client → Type 0
+IsWovenIn known journal client lines c =
+    Woven known (own_moments client (moments journal)) lines c
+    × RunsTo known.limits journal client c.why (drop (ran c) lines) (ran_lines lines c.told)
+
+-- each client of a session
+abbrev AllWoven : Known → List Entry → ℕ → List (List Numbered) → List Client → Type 0
+AllWoven known journal client [] [] = Unit {0}
+AllWoven known journal client (lines ∷ scripts) (c ∷ cs) =
+    IsWovenIn known journal client lines c × AllWoven known journal (client + 1) scripts cs
+AllWoven known journal client _ _ = ⊥
+
+abbrev IsSession : Known → List Entry → List (List Numbered) → Rest → Type 0
+IsSession known journal scripts rest =
+    Legal known.limits known.names journal × (AllWoven known journal 0 scripts rest.clients × AreTried journal rest)
+
+abbrev FileGives : Type 0
+FileGives = Gives [] 0 up_batch
+
+-- what differs by a test is not equal
+differ : {X : Type 0} (f : X → Bool) (a b : X) → f a ≡ true → f b ≡ false → a ≡ b → ⊥
+differ f a b h k e = false≢true (sym k ∙ (ap f (sym e) ∙ h))
+
+abbrev is_name : List ℕ → Option (List ℕ) → Bool
+is_name name None = false
+is_name name (Some other) = bytes_eq name other
+
+limit_is_a_session : IsSession limit_known limit_journal limit_scripts limit_rest
+unfolding clamp digits
+limit_is_a_session = (
+  (
+    record { allowed = record { tenant = record { next = lit≤ tt; most = lit< tt }; below = lit< tt; pinned = refl; aged = refl; floored = refl }; room = lit≤ tt; named = lit≤ tt },
+    (
+      record { allowed = record { known = lit< tt; counted = refl; most = refl }; room = lit≤ tt; named = lit≤ tt },
+      (
+        record { allowed = record { coded = inl refl; stepped = inl refl }; room = lit≤ tt; named = lit≤ tt },
+        (
+          record { allowed = record { tenant = record { next = lit≤ tt; most = lit< tt }; below = lit< tt; pinned = refl; aged = refl; floored = refl }; room = lit≤ tt; named = lit≤ tt },
+          tt,
+        ),
+      ),
+    ),
+  ),
+  (
+    (
+      (
+        record {
+          few = lit≤ tt;
+          rising = (lit< tt, (lit< tt, (lit< tt, (lit< tt, tt))));
+          lined = (inl refl, ((inr (inl refl)), ((inr (inr (inr (inl refl)))), ((inr (inr (inr (inr (inl refl))))), tt))));
+          each = (
+            record { matched = ((refl, refl), refl); roomy = lit≤ tt },
+            (
+              record { matched = ((refl, tt), refl); roomy = lit≤ tt },
+              (
+                record { matched = tt; roomy = tt },
+                (
+                  record { matched = (refl, refl); roomy = lit≤ tt },
+                  (
+                    record { matched = ((refl, refl), refl); roomy = lit≤ tt },
+                    tt,
+                  ),
+                ),
+              ),
+            ),
+          );
+        },
+        (refl, refl),
+      ),
+      tt,
+    ),
+    record { five = inr (lit≤ tt); shown = lit≤ tt },
+  ),
+)
+
+cancel_is_a_session : FileGives → IsSession cancel_known cancel_journal cancel_scripts cancel_rest
+unfolding clamp digits
+cancel_is_a_session h = (
+  (
+    record { allowed = record { tenant = record { next = lit≤ tt; most = lit< tt }; judged = refl; counted = refl }; room = lit≤ tt; named = lit≤ tt },
+    (
+      record { allowed = record { tenant = record { next = lit≤ tt; most = lit< tt }; below = lit< tt; pinned = refl; aged = refl; floored = refl }; room = lit≤ tt; named = lit≤ tt },
+      (
+        record { allowed = refl; room = lit≤ tt; named = lit≤ tt },
+        (
+          record { allowed = record { coded = refl; stepped = inl refl }; room = lit≤ tt; named = lit≤ tt },
+          tt,
+        ),
+      ),
+    ),
+  ),
+  (
+    (
+      (
+        record {
+          few = lit≤ tt;
+          rising = (lit< tt, (lit< tt, (lit< tt, (lit< tt, tt))));
+          lined = (inl refl, ((inr (inl refl)), ((inr (inr (inr (inr (inr (inl refl)))))), ((inr (inr (inr (inr (inr (inr (inr (inr (inr (inl refl)))))))))), tt))));
+          each = (
+            record { matched = ((refl, h), refl); roomy = lit≤ tt },
+            (
+              record { matched = ((refl, refl), refl); roomy = lit≤ tt },
+              (
+                record { matched = tt; roomy = tt },
+                (
+                  record { matched = (refl, record { query = tt; unanswered = refl; uncancelled = refl }); roomy = tt },
+                  (
+                    record { matched = λ p. differ (is_name (codes "acme")) _ _ refl refl p.1; roomy = tt },
+                    (
+                      record { matched = ((refl, refl), refl); roomy = lit≤ tt },
+                      (
+                        record { matched = λ p. differ is_none _ _ refl refl (sym p.0.uncancelled); roomy = tt },
+                        (
+                          record { matched = refl; roomy = tt },
+                          (
+                            record { matched = tt; roomy = tt },
+                            (
+                              record { matched = (refl, refl); roomy = lit≤ tt },
+                              (
+                                record { matched = λ p. differ is_none _ _ refl refl (sym p.0.unanswered); roomy = tt },
+                                tt,
+                              ),
+                            ),
+                          ),
+                        ),
+                      ),
+                    ),
+                  ),
+                ),
+              ),
+            ),
+          );
+        },
+        (refl, refl),
+      ),
+      tt,
+    ),
+    record { five = inr (lit≤ tt); shown = lit≤ tt },
+  ),
+)
+
+full_is_a_session : FileGives → IsSession full_known full_journal full_scripts full_rest
+unfolding clamp digits
+full_is_a_session h = (
+  (
+    record { allowed = record { tenant = record { next = lit≤ tt; most = lit< tt }; judged = refl; counted = refl }; room = lit≤ tt; named = lit≤ tt },
+    tt,
+  ),
+  (
+    (
+      (
+        record {
+          few = lit≤ tt;
+          rising = (lit< tt, tt);
+          lined = (inl refl, tt);
+          each = (
+            record { matched = ((refl, h), refl); roomy = lit≤ tt },
+            (
+              record { matched = tt; roomy = tt },
+              tt,
+            ),
+          );
+        },
+        (refl, refl, record { front = 1; has_all = tt; over = lit< tt }),
+      ),
+      tt,
+    ),
+    record { five = inr (lit≤ tt); shown = lit≤ tt },
+  ),
+)
+
+steps_is_a_session : FileGives → IsSession steps_known steps_journal steps_scripts steps_rest
+unfolding clamp digits
+steps_is_a_session h = (
+  (
+    record { allowed = record { tenant = record { next = lit≤ tt; most = lit< tt }; judged = refl; counted = refl }; room = lit≤ tt; named = lit≤ tt },
+    (
+      record { allowed = record { tenant = record { next = lit≤ tt; most = lit< tt }; below = lit< tt; pinned = refl; aged = refl; floored = refl }; room = lit≤ tt; named = lit≤ tt },
+      tt,
+    ),
+  ),
+  (
+    (
+      (
+        record {
+          few = lit≤ tt;
+          rising = (lit< tt, (lit< tt, tt));
+          lined = (inl refl, ((inr (inl refl)), tt));
+          each = (
+            record { matched = ((refl, h), refl); roomy = lit≤ tt },
+            (
+              record { matched = ((refl, refl), refl); roomy = lit≤ tt },
+              (
+                record { matched = tt; roomy = tt },
+                (
+                  record { matched = tt; roomy = tt },
+                  (
+                    record { matched = tt; roomy = tt },
+                    (
+                      record { matched = tt; roomy = tt },
+                      (
+                        record { matched = tt; roomy = tt },
+                        (
+                          record { matched = (refl, record { query = tt; unanswered = refl; uncancelled = refl }); roomy = tt },
+                          (
+                            record { matched = refl; roomy = tt },
+                            (
+                              record { matched = refl; roomy = tt },
+                              (
+                                record { matched = refl; roomy = tt },
+                                (
+                                  record { matched = tt; roomy = tt },
+                                  (
+                                    record { matched = record { opened = record { query = tt; unanswered = refl; uncancelled = refl }; counted = refl; some = lit< tt }; roomy = tt },
+                                    (
+                                      record { matched = refl; roomy = tt },
+                                      tt,
+                                    ),
+                                  ),
+                                ),
+                              ),
+                            ),
+                          ),
+                        ),
+                      ),
+                    ),
+                  ),
+                ),
+              ),
+            ),
+          );
+        },
+        (refl, refl),
+      ),
+      tt,
+    ),
+    record { five = inr (lit≤ tt); shown = lit≤ tt },
+  ),
+)
+
+failed_is_a_session : FileGives → IsSession failed_known failed_journal failed_scripts failed_rest
+unfolding clamp digits
+failed_is_a_session h = (
+  (
+    record { allowed = record { tenant = record { next = lit≤ tt; most = lit< tt }; judged = refl; counted = refl }; room = lit≤ tt; named = lit≤ tt },
+    (
+      record { allowed = record { tenant = record { next = lit≤ tt; most = lit< tt }; below = lit< tt; pinned = refl; aged = refl; floored = refl }; room = lit≤ tt; named = lit≤ tt },
+      (
+        record { allowed = record { coded = inr (inl refl); stepped = inl refl }; room = lit≤ tt; named = lit≤ tt },
+        tt,
+      ),
+    ),
+  ),
+  (
+    (
+      (
+        record {
+          few = lit≤ tt;
+          rising = (lit< tt, (lit< tt, (lit< tt, tt)));
+          lined = (inl refl, ((inr (inl refl)), ((inr (inr (inr (inr (inr (inl refl)))))), tt)));
+          each = (
+            record { matched = ((refl, h), refl); roomy = lit≤ tt },
+            (
+              record { matched = ((refl, refl), refl); roomy = lit≤ tt },
+              (
+                record { matched = tt; roomy = tt },
+                (
+                  record { matched = (refl, record { query = tt; unanswered = refl; uncancelled = refl }); roomy = tt },
+                  (
+                    record { matched = refl; roomy = tt },
+                    (
+                      record { matched = (refl, refl); roomy = lit≤ tt },
+                      tt,
+                    ),
+                  ),
+                ),
+              ),
+            ),
+          );
+        },
+        (refl, refl),
+      ),
+      tt,
+    ),
+    record { five = inr (lit≤ tt); shown = lit≤ tt },
+  ),
+)
+
+want_is_a_session : FileGives → IsSession want_known want_journal want_scripts want_rest
+unfolding clamp digits
+want_is_a_session h = (
+  (
+    record { allowed = record { tenant = record { next = lit≤ tt; most = lit< tt }; judged = refl; counted = refl }; room = lit≤ tt; named = lit≤ tt },
+    (
+      record { allowed = record { tenant = record { next = lit≤ tt; most = lit< tt }; below = lit< tt; pinned = refl; aged = refl; floored = refl }; room = lit≤ tt; named = lit≤ tt },
+      (
+        record { allowed = record { coded = inr (inr refl); stepped = inr (refl, inr (inr refl)) }; room = lit≤ tt; named = lit≤ tt },
+        tt,
+      ),
+    ),
+  ),
+  (
+    (
+      (
+        record {
+          few = lit≤ tt;
+          rising = (lit< tt, (lit< tt, (lit< tt, tt)));
+          lined = (inl refl, ((inr (inl refl)), ((inr (inr (inr (inl refl)))), tt)));
+          each = (
+            record { matched = ((refl, h), refl); roomy = lit≤ tt },
+            (
+              record { matched = ((refl, refl), refl); roomy = lit≤ tt },
+              (
+                record { matched = tt; roomy = tt },
+                (
+                  record { matched = (refl, refl); roomy = lit≤ tt },
+                  (
+                    record { matched = tt; roomy = tt },
+                    (
+                      record { matched = tt; roomy = tt },
+                      (
+                        record { matched = tt; roomy = tt },
+                        tt,
+                      ),
+                    ),
+                  ),
+                ),
+              ),
+            ),
+          );
+        },
+        (refl, refl, tt),
+      ),
+      tt,
+    ),
+    record { five = inr (lit≤ tt); shown = lit≤ tt },
+  ),
+)
+
+two_is_a_session : FileGives → IsSession two_known two_journal two_scripts two_rest
+unfolding clamp digits
+two_is_a_session h = (
+  (
+    record { allowed = record { tenant = record { next = lit≤ tt; most = lit< tt }; judged = refl; counted = refl }; room = lit≤ tt; named = lit≤ tt },
+    (
+      record { allowed = record { tenant = record { next = lit≤ tt; most = lit< tt }; below = lit< tt; pinned = refl; aged = refl; floored = refl }; room = lit≤ tt; named = lit≤ tt },
+      (
+        record { allowed = record { tenant = record { next = lit≤ tt; most = lit< tt }; below = lit< tt; pinned = refl; aged = refl; floored = refl }; room = lit≤ tt; named = lit≤ tt },
+        (
+          record { allowed = record { coded = inl refl; stepped = inl refl }; room = lit≤ tt; named = lit≤ tt },
+          (
+            record { allowed = record { coded = inl refl; stepped = inl refl }; room = lit≤ tt; named = lit≤ tt },
+            tt,
+          ),
+        ),
+      ),
+    ),
+  ),
+  (
+    (
+      (
+        record {
+          few = lit≤ tt;
+          rising = (lit< tt, (lit< tt, (lit< tt, tt)));
+          lined = (inl refl, ((inr (inl refl)), ((inr (inr (inl refl))), tt)));
+          each = (
+            record { matched = ((refl, h), refl); roomy = lit≤ tt },
+            (
+              record { matched = ((refl, refl), refl); roomy = lit≤ tt },
+              (
+                record { matched = (refl, refl); roomy = lit≤ tt },
+                tt,
+              ),
+            ),
+          );
+        },
+        (refl, refl),
+      ),
+      (
+        (
+          record {
+            few = lit≤ tt;
+            rising = (lit< tt, (lit< tt, tt));
+            lined = (inl refl, ((inr (inl refl)), tt));
+            each = (
+              record { matched = ((refl, refl), refl); roomy = lit≤ tt },
+              (
+                record { matched = (refl, refl); roomy = lit≤ tt },
+                tt,
+              ),
+            );
+          },
+          (refl, refl),
+        ),
+        tt,
+      ),
+    ),
+    record { five = inr (lit≤ tt); shown = lit≤ tt },
+  ),
+)
