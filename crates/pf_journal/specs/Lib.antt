@@ -1,6 +1,7 @@
 pub mod Asking
 pub mod Bodies
 pub mod Entered
+pub mod Evaluations
 pub mod Files
 pub mod Legal
 pub mod Machine

@@ -18,8 +18,8 @@ abbrev pub place_of : Moment → ℕ
 place_of x = x.before.count
 
 -- those of the lines above one
-abbrev pub above : (line : ℕ) → List Moment → List Moment
-above line own = filter (λ x. nat_lt x.entry.line line) own
+abbrev pub entered_above : (line : ℕ) → List Moment → List Moment
+entered_above line own = filter (λ x. nat_lt x.entry.line line) own
 
 -- the moment of a line
 abbrev pub moment_of : (line : ℕ) → List Moment → Option Moment
@@ -121,27 +121,28 @@ asked_by (Some line) told own = moment_of line own
 asked_by None (of_take (took query job leg first last)) own = moment_at query own
 asked_by None _ own = None
 
--- a turn, with the moment of the ask and those of the lines above
-abbrev pub turn_with : List Ran → List Hand → Ran → Option Moment → (asked : Option Moment) → (earlier : List Moment) → Turn
-turn_with rs hands r mine asked earlier = record {
+-- a turn, behind the lines and the entries above it
+abbrev pub turn_with : (above : List Ran) → (entered : List Moment) → List Hand → Ran → (mine asked : Option Moment) → Turn
+turn_with above entered hands r mine asked = record {
   ran = r;
   mine = mine;
   hands = hands;
-  asking = asking_ran (asking_line r.line.line) rs;
+  asking = asking_ran (asking_line r.line.line) above;
   asked = asked;
-  cancelled = cancel_of asked earlier;
-  answered = answer_of asked earlier;
+  cancelled = cancel_of asked entered;
+  answered = answer_of asked entered;
 }
 
-abbrev pub turn_of : (own : List Moment) → List Ran → List Hand → Ran → Turn
-turn_of own rs hands r =
-    turn_with rs hands r (moment_of r.line.number own)
-    (asked_by (asking_line r.line.line) r.told (above r.line.number own)) (above r.line.number own)
+abbrev pub turn_of : (own : List Moment) → (above : List Ran) → List Hand → Ran → Turn
+turn_of own above hands r =
+    turn_with above (entered_above r.line.number own) hands r (moment_of r.line.number own)
+        (asked_by (asking_line r.line.line) r.told (entered_above r.line.number own))
 
-abbrev pub turns_from : (own : List Moment) → (all : List Ran) → List Hand → List Ran → List Turn
-turns_from own all hands [] = []
-turns_from own all hands (r ∷ rs) = turn_of own all hands r ∷ turns_from own all (hands_after r.line.line r.told hands) rs
+abbrev pub turns_from : (own : List Moment) → (above : List Ran) → List Hand → List Ran → List Turn
+turns_from own above hands [] = []
+turns_from own above hands (r ∷ rs) =
+    turn_of own above hands r ∷ turns_from own (r ∷ above) (hands_after r.line.line r.told hands) rs
 
 -- the turns of a client's lines
 abbrev pub turns : (own : List Moment) → List Ran → List Turn
-turns own rs = turns_from own rs [] rs
+turns own rs = turns_from own [] [] rs
