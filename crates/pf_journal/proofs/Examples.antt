@@ -1,5 +1,6 @@
 -- The words of the worked examples.
-use Rattle.std.proofs.Common.{ℕ, ℤ, pos, true, false, List, [], ◌∷◌, Some, None, codes, cond}
+use Rattle.std.proofs.Common.{◌≡◌, sym, ap, ◌∙◌, Bool, Option, ℕ, ℤ, pos, true, false, List, [], ◌∷◌, Some, None, codes, cond}
+use Rattle.std.proofs.lemmas.Bool.{false≢true}
 use Rattle.std.specs.Str.{bytes_eq}
 use Rattle.pf_base.specs.Batches.{BatchData}
 use Rattle.pf_base.specs.GridLists.{GridData}
@@ -22,6 +23,15 @@ use Rattle.pf_journal.specs.Asking.{Asked}
 use Rattle.pf_journal.specs.Machine.{Entry, What}
 use Rattle.pf_journal.specs.Rest.{Known, Rest, Told, at_end}
 use Rattle.pf_journal.specs.Scripts.{Line, Numbered}
+
+-- ---- what differs by a test is not equal
+
+pub differ : {X : Type 0} (f : X → Bool) (a b : X) → f a ≡ true → f b ≡ false → a ≡ b → ⊥
+differ f a b h k e = false≢true (sym k ∙ (ap f (sym e) ∙ h))
+
+abbrev pub is_name : List ℕ → Option (List ℕ) → Bool
+is_name name None = false
+is_name name (Some other) = bytes_eq name other
 
 -- ---- samples and queries
 

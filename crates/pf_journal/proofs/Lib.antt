@@ -1,5 +1,6 @@
 mod Examples
 mod Sessions
+mod WorkedRefusals
 mod WorkedReplies
 mod WorkedReports
 mod WorkedScripts

@@ -1,11 +1,9 @@
 -- Worked examples of legal and woven journals: those of the small sessions. That the one file gives its batch is a premise.
-use Rattle.std.proofs.Common.{◌≡◌, ℕ, ◌+◌, Bool, true, false, List, [], ◌∷◌, drop, refl, sym, ap, ◌∙◌, Option, Some, None, codes, inl, inr, lit≤, lit<}
-use Rattle.std.proofs.lemmas.Bool.{false≢true}
+use Rattle.std.proofs.Common.{ℕ, ◌+◌, List, [], ◌∷◌, drop, refl, sym, codes, inl, inr, lit≤, lit<}
 use Rattle.std.specs.Fmt.{digits}
 use Rattle.std.specs.Option.{is_none}
-use Rattle.std.specs.Str.{bytes_eq}
 use Rattle.pf_base.specs.Arithmetic.{clamp}
-use Rattle.pf_journal.proofs.Examples.{up_batch}
+use Rattle.pf_journal.proofs.Examples.{differ, is_name, up_batch}
 use Rattle.pf_journal.proofs.Sessions.{cancel_journal, cancel_known, cancel_rest, cancel_scripts, failed_journal, failed_known, failed_rest, failed_scripts, full_journal, full_known, full_rest, full_scripts, limit_journal, limit_known, limit_rest, limit_scripts, steps_journal, steps_known, steps_rest, steps_scripts, two_journal, two_known, two_rest, two_scripts, want_journal, want_known, want_rest, want_scripts}
 use Rattle.pf_journal.specs.Files.{Gives}
 use Rattle.pf_journal.specs.Legal.{Legal, moments}
@@ -34,14 +32,6 @@ IsSession known journal scripts rest =
 
 abbrev FileGives : Type 0
 FileGives = Gives [] 0 up_batch
-
--- what differs by a test is not equal
-differ : {X : Type 0} (f : X → Bool) (a b : X) → f a ≡ true → f b ≡ false → a ≡ b → ⊥
-differ f a b h k e = false≢true (sym k ∙ (ap f (sym e) ∙ h))
-
-abbrev is_name : List ℕ → Option (List ℕ) → Bool
-is_name name None = false
-is_name name (Some other) = bytes_eq name other
 
 limit_is_a_session : IsSession limit_known limit_journal limit_scripts limit_rest
 unfolding clamp digits

@@ -136,7 +136,7 @@ turn_with above entered hands r mine asked = record {
 abbrev pub turn_of : (own : List Moment) → (above : List Ran) → List Hand → Ran → Turn
 turn_of own above hands r =
     turn_with above (entered_above r.line.number own) hands r (moment_of r.line.number own)
-        (asked_by (asking_line r.line.line) r.told (entered_above r.line.number own))
+    (asked_by (asking_line r.line.line) r.told (entered_above r.line.number own))
 
 abbrev pub turns_from : (own : List Moment) → (above : List Ran) → List Hand → List Ran → List Turn
 turns_from own above hands [] = []
