@@ -77,7 +77,7 @@ limit_is_a_session = (
       ),
       tt,
     ),
-    record { five = inr (lit≤ tt); shown = lit≤ tt },
+    record { actors = lit≤ tt; five = inr (lit≤ tt); shown = lit≤ tt },
   ),
 )
 
@@ -143,7 +143,7 @@ cancel_is_a_session h = (
       ),
       tt,
     ),
-    record { five = inr (lit≤ tt); shown = lit≤ tt },
+    record { actors = lit≤ tt; five = inr (lit≤ tt); shown = lit≤ tt },
   ),
 )
 
@@ -173,7 +173,7 @@ full_is_a_session h = (
       ),
       tt,
     ),
-    record { five = inr (lit≤ tt); shown = lit≤ tt },
+    record { actors = lit≤ tt; five = inr (lit≤ tt); shown = lit≤ tt },
   ),
 )
 
@@ -242,7 +242,7 @@ steps_is_a_session h = (
       ),
       tt,
     ),
-    record { five = inr (lit≤ tt); shown = lit≤ tt },
+    record { actors = lit≤ tt; five = inr (lit≤ tt); shown = lit≤ tt },
   ),
 )
 
@@ -290,7 +290,7 @@ failed_is_a_session h = (
       ),
       tt,
     ),
-    record { five = inr (lit≤ tt); shown = lit≤ tt },
+    record { actors = lit≤ tt; five = inr (lit≤ tt); shown = lit≤ tt },
   ),
 )
 
@@ -341,7 +341,7 @@ want_is_a_session h = (
       ),
       tt,
     ),
-    record { five = inr (lit≤ tt); shown = lit≤ tt },
+    record { actors = lit≤ tt; five = inr (lit≤ tt); shown = lit≤ tt },
   ),
 )
 
@@ -403,6 +403,6 @@ two_is_a_session h = (
         tt,
       ),
     ),
-    record { five = inr (lit≤ tt); shown = lit≤ tt },
+    record { actors = lit≤ tt; five = inr (lit≤ tt); shown = lit≤ tt },
   ),
 )

@@ -108,9 +108,10 @@ abbrev pub failed_answers : List Entry → ℕ
 failed_answers [] = 0
 failed_answers (e ∷ es) = is_500 e.what + failed_answers es
 
--- the failed tries of all actors: at least five for each 500, unless their total stands at its greatest value, and at least those
--- that replies tell
+-- the failed tries of all actors, of which there are at most 32: at least five for each 500, unless their total stands at its
+-- greatest value, and at least those that replies tell
 pub record AreTried (journal : List Entry) (rest : Rest) : Type 0 where
+  pub actors : length rest.failed ≤ 32
   pub five : (sum rest.failed ≡ 18446744073709551615) ⊎ (5 * failed_answers journal ≤ sum rest.failed)
   pub shown : failed_replies rest.clients ≤ sum rest.failed
 
