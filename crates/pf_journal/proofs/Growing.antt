@@ -1,11 +1,11 @@
 -- A journal grows at its end, and so do a client's own entries and its turns: what stands of them stays.
-use Rattle.std.proofs.Common.{◌≡◌, ℕ, ◌<◌, Bool, false, List, [], ◌∷◌, ◌++◌, refl, ap, sym, ◌∙◌, filter, nat_eq, nat_lt, append-nil, arith}
+use Rattle.std.proofs.Common.{◌≡◌, ℕ, ◌<◌, Bool, false, List, [], ◌∷◌, ◌++◌, refl, ap, ◌∙◌, filter, nat_eq, nat_lt, append-nil, arith}
 use Rattle.std.proofs.lemmas.Bool.{le-ltb, ne_eqb}
 use Rattle.std.proofs.lemmas.List.Elements.{filter-append}
 use Rattle.pf_model.specs.Lists.{Each, first_with}
 use Rattle.pf_journal.specs.Legal.{Moment, machine_after, moments_from}
 use Rattle.pf_journal.specs.Machine.{Entry, Machine, next}
-use Rattle.pf_journal.specs.Turns.{Hand, Ran, entered_above, hands_after, moment_of, own_moments, turn_of, turns_from}
+use Rattle.pf_journal.specs.Turns.{Hand, Ran, hands_after, own_moments, turn_of, turns_from}
 
 -- ---- lists
 

@@ -5,4 +5,5 @@ mod WorkedRefusals
 mod WorkedReplies
 mod WorkedReports
 mod WorkedScripts
+mod WorkedTenants
 mod WorkedWeaves

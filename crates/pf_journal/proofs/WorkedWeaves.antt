@@ -1,5 +1,8 @@
 -- Worked examples of legal and woven journals: those of the small sessions. That the one file gives its batch is a premise.
-use Rattle.std.proofs.Common.{ℕ, ◌+◌, List, [], ◌∷◌, drop, refl, sym, codes, inl, inr, lit≤, lit<}
+use Rattle.std.proofs.Common.{◌≡◌, Some, zero, suc, subst, slice_get, add-zero, zero-add, arith, ℕ, ◌+◌, List, [], ◌∷◌, drop, refl, sym, codes, inl, inr, lit≤, lit<}
+use Rattle.std.proofs.lemmas.Option.{none-some}
+use Rattle.json.proofs.Found.{Some_inj}
+use Rattle.pf_model.specs.Queries.{IsReading, Reading}
 use Rattle.std.specs.Fmt.{digits}
 use Rattle.std.specs.Option.{is_none}
 use Rattle.pf_base.specs.Arithmetic.{clamp}
@@ -11,7 +14,7 @@ use Rattle.pf_journal.specs.Machine.{Entry}
 use Rattle.pf_journal.specs.Rest.{Client, Known, Rest, ran}
 use Rattle.pf_journal.specs.Scripts.{Numbered}
 use Rattle.pf_journal.specs.Turns.{own_moments, ran_lines}
-use Rattle.pf_journal.specs.Weave.{AreTried, RunsTo, Woven}
+use Rattle.pf_journal.specs.Weave.{AreTried, RunsTo, Weave, Woven}
 
 -- a client is woven into a journal
 abbrev IsWovenIn : Known → List Entry → ℕ → List Numbered → Client → Type 0
@@ -32,6 +35,19 @@ IsSession known journal scripts rest =
 
 abbrev FileGives : Type 0
 FileGives = Gives [] 0 up_batch
+
+-- the clients of a session are those of its weave
+each_client : (known : Known) (journal : List Entry) (from : ℕ) (scripts : List (List Numbered)) (cs : List Client)
+    → AllWoven known journal from scripts cs → (client : ℕ) (lines : List Numbered) (c : Client)
+    → slice_get scripts client ≡ Some lines → slice_get cs client ≡ Some c → IsWovenIn known journal (from + client) lines c
+each_client known journal from [] cs h client lines c a b = absurd (none-some _ a)
+each_client known journal from (l ∷ ls) [] h client lines c a b = absurd h
+each_client known journal from (l ∷ ls) (x ∷ cs) h zero lines c a b =
+    rw (add-zero from) (subst (λ y. IsWovenIn known journal from y c) (Some_inj _ _ a)
+    (subst (λ y. IsWovenIn known journal from l y) (Some_inj _ _ b) h.0))
+each_client known journal from (l ∷ ls) (x ∷ cs) h (suc client) lines c a b =
+    let e : from + 1 + client ≡ from + suc client = omega arith in
+    subst (λ k. IsWovenIn known journal k lines c) e (each_client known journal (from + 1) ls cs h.1 client lines c a b)
 
 limit_is_a_session : IsSession limit_known limit_journal limit_scripts limit_rest
 unfolding clamp digits
@@ -406,3 +422,15 @@ two_is_a_session h = (
     record { actors = lit≤ tt; five = inr (lit≤ tt); shown = lit≤ tt },
   ),
 )
+
+-- a session is woven, where its queries are read as they are said to be
+cancel_is_woven : FileGives → ((text : List ℕ) (r : Reading) → cancel_known.readings text ≡ Some r → IsReading text r)
+    → Weave cancel_known cancel_journal cancel_scripts cancel_rest
+cancel_is_woven h read = record {
+  many = refl;
+  each = λ client lines c a b. subst (λ k. IsWovenIn cancel_known cancel_journal k lines c) (zero-add client)
+      (each_client cancel_known cancel_journal 0 cancel_scripts cancel_rest.clients (cancel_is_a_session h).1.0 client lines c a b);
+  nobody_else = (lit< tt, (lit< tt, (lit< tt, (lit< tt, tt))));
+  read = read;
+  tried = (cancel_is_a_session h).1.1;
+}
