@@ -127,4 +127,4 @@ line n l = record { number = n; line = l }
 
 -- one client that ran its whole script, without failed tries
 abbrev pub one_client : List Told → Rest
-one_client told = record { clients = record { told = told; why = at_end } ∷ []; exhausted = []; failed = [] }
+one_client told = record { clients = record { told = told; why = at_end } ∷ []; failed = [] }

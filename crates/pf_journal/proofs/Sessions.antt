@@ -5,7 +5,7 @@ use Rattle.pf_model.specs.Log.{taken}
 use Rattle.pf_journal.proofs.Examples.{at_line, grid, known_of, limits_of, line, one_client, up_batch, up_over, usual, vector_1}
 use Rattle.pf_journal.specs.Asking.{Asked}
 use Rattle.pf_journal.specs.Machine.{Entry, append, ask, full, cancel, answer}
-use Rattle.pf_journal.specs.Rest.{Known, Rest, at_end, at_full, at_memory, journal_full, no_memory, nothing, of_done, of_keep, of_plan, of_take, waiting}
+use Rattle.pf_journal.specs.Rest.{Known, Rest, at_end, at_full, at_memory, failed_five, journal_full, no_memory, nothing, of_done, of_keep, of_plan, of_take, waiting}
 use Rattle.pf_journal.specs.Scripts.{Numbered}
 use Rattle.pf_journal.specs.Scripts as script
 use Rattle.pf_journal.specs.Steps.{again, busy, by_cancel, empty, gone, keep_refused, keep_stopped, keep_waits, none_waits, plan_refused, plan_stopped, planned, planned_before, stored, took}
@@ -81,7 +81,7 @@ full_scripts =
 
 abbrev pub full_rest : Rest
 full_rest =
-    record { clients = record { told = nothing ∷ journal_full ∷ []; why = at_full } ∷ []; exhausted = []; failed = [] }
+    record { clients = record { told = nothing ∷ journal_full ∷ []; why = at_full } ∷ []; failed = [] }
 
 -- ---- step by step
 
@@ -123,10 +123,9 @@ abbrev pub failed_rest : Rest
 failed_rest =
     record {
       clients = record {
-        told = nothing ∷ nothing ∷ of_plan (planned 0 1) ∷ of_take (took 1 0 0 60000 60000) ∷ of_done (again 1) ∷ nothing ∷ [];
+        told = nothing ∷ nothing ∷ of_plan (planned 0 1) ∷ of_take (took 1 0 0 60000 60000) ∷ of_done (again 1) ∷ failed_five 0 ∷ [];
         why = at_end;
       } ∷ [];
-      exhausted = record { query = 1; job = 0 } ∷ [];
       failed = 4 ∷ 0 ∷ 0 ∷ 0 ∷ 0 ∷ 0 ∷ 0 ∷ 0 ∷ 0 ∷ 0 ∷ 0 ∷ 0 ∷ 0 ∷ 0 ∷ 0 ∷ 0 ∷ 1 ∷ [];
     }
 
@@ -149,7 +148,6 @@ abbrev pub two_rest : Rest
 two_rest =
     record {
       clients = record { told = nothing ∷ nothing ∷ nothing ∷ []; why = at_end } ∷ record { told = nothing ∷ nothing ∷ []; why = at_end } ∷ [];
-      exhausted = [];
       failed = [];
     }
 
@@ -170,4 +168,4 @@ want_scripts =
 
 abbrev pub want_rest : Rest
 want_rest =
-    record { clients = record { told = nothing ∷ nothing ∷ of_plan plan_stopped ∷ nothing ∷ no_memory ∷ nothing ∷ no_memory ∷ []; why = at_memory } ∷ []; exhausted = []; failed = [] }
+    record { clients = record { told = nothing ∷ nothing ∷ of_plan plan_stopped ∷ nothing ∷ no_memory ∷ nothing ∷ no_memory ∷ []; why = at_memory } ∷ []; failed = [] }

@@ -1,5 +1,5 @@
 -- Worked examples of what the definitions do not allow, and of a tenant too many, whose entry fits its line.
-use Rattle.std.proofs.Common.{◌≡◌, ℕ, ◌+◌, ◌<◌, ◌≤◌, ◌⊎◌, length, sum, take, zero, suc, pos, false, List, [], ◌∷◌, refl, sym, Option, Some, None, codes, nat_eq, arith, inl, inr}
+use Rattle.std.proofs.Common.{Bool, true, ◌≡◌, ℕ, ◌+◌, ◌<◌, ◌≤◌, ◌⊎◌, length, sum, take, zero, suc, pos, false, List, [], ◌∷◌, refl, sym, Option, Some, None, codes, nat_eq, arith, inl, inr}
 use Rattle.std.proofs.lemmas.Bool.{false≢true}
 use Rattle.std.specs.Option.{is_none}
 use Rattle.pf_base.specs.Arithmetic.{clamp}
@@ -9,13 +9,13 @@ use Rattle.pf_journal.proofs.Examples.{differ, grid, limits_of, named, on_nothin
 use Rattle.pf_journal.proofs.Sessions.{ask_up, asked_up, failed_journal, ingested_up}
 use Rattle.pf_journal.specs.Entered.{Fits}
 use Rattle.pf_journal.specs.Legal.{Moment, machine_after}
-use Rattle.pf_journal.specs.Machine.{AreSteps, IsCode, Open, no_tenant, reserved, started}
-use Rattle.pf_journal.specs.Rest.{at_end, at_full, journal_full, nothing, of_keep, of_plan, of_take, waiting}
+use Rattle.pf_journal.specs.Machine.{AreSteps, IsCode, Open, answer, no_tenant, reserved, started}
+use Rattle.pf_journal.specs.Rest.{Told, at_end, at_full, failed_five, journal_full, nothing, of_keep, of_plan, of_take, waiting}
 use Rattle.pf_journal.specs.Scripts as script
 use Rattle.pf_journal.specs.Steps.{busy, keep_refused, none_waits, plan_refused, took}
 use Rattle.pf_journal.specs.Turns.{Hand, Turn}
 use Rattle.pf_journal.specs.Unentered.{Unentered}
-use Rattle.pf_journal.specs.Weave.{AreTried, LacksRoom, RunsTo}
+use Rattle.pf_journal.specs.Weave.{AreTried, LacksRoom, RunsTo, ToldBeside}
 
 -- ---- lines
 
@@ -131,8 +131,18 @@ success_of_an_error (inr (inr h)) = differ (nat_eq 200) _ _ refl refl h
 error_though_cancelled : IsCode usual.limits (failing (Some 2)) (Some 2) 422 → ⊥
 error_though_cancelled h = differ (nat_eq 422) _ _ refl refl h
 
+-- 500 without the job that failed, and such a job beside a success
+failed_without_a_job : ToldBeside (answer 1 500 0 1) nothing → ⊥
+failed_without_a_job h = h
+
+success_with_a_failed_job : ToldBeside (answer 1 200 0 1) (failed_five 0) → ⊥
+success_with_a_failed_job h = differ is_nothing _ _ refl refl (sym h) where
+  is_nothing : Told → Bool
+  is_nothing nothing = true
+  is_nothing _ = false
+
 -- 500 after four tries
-four_tries : AreTried failed_journal (record { clients = []; exhausted = []; failed = 4 ∷ [] }) → ⊥
+four_tries : AreTried failed_journal (record { clients = []; failed = 4 ∷ [] }) → ⊥
 four_tries h = too_few h.five where
   too_few : (sum (4 ∷ []) ≡ 18446744073709551615) ⊎ (5 ≤ 4) → ⊥
   too_few (inl k) = differ (nat_eq 4) _ _ refl refl k

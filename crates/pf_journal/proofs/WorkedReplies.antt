@@ -17,7 +17,7 @@ use Rattle.pf_journal.specs.Steps.{PlanReply, DoneReply, KeepReply, by_memory, b
 
 -- the reply to line 9, of which something was told or which has an entry, and which names an ask of line 2
 abbrev reply : Line → Told → Option Moment → (asking : Told) → (asked : Option Moment) → List ℕ
-reply l told mine asking asked = reply_of usual [] (record {
+reply l told mine asking asked = reply_of usual (record {
   ran = record { line = line 9 l; told = told };
   mine = mine;
   hands = [];

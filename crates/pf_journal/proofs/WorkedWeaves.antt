@@ -293,7 +293,7 @@ failed_is_a_session h = (
                   (
                     record { matched = refl; roomy = tt },
                     (
-                      record { matched = (refl, refl); roomy = lit≤ tt },
+                      record { matched = (refl, tt); roomy = lit≤ tt },
                       tt,
                     ),
                   ),

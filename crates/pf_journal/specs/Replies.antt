@@ -13,7 +13,7 @@ use Rattle.pf_journal.specs.Entered.{what_of}
 use Rattle.pf_journal.specs.Files.{Refusal, at_line, too_long}
 use Rattle.pf_journal.specs.Legal.{Moment}
 use Rattle.pf_journal.specs.Machine.{What, append, delete, ask, full, answer, Open, answer_of, open_at}
-use Rattle.pf_journal.specs.Rest.{Known, Told, refused_file, no_memory, journal_full, waiting, of_plan, of_take, of_done, of_keep, Exhausted, job_of}
+use Rattle.pf_journal.specs.Rest.{Known, Told, refused_file, no_memory, journal_full, waiting, of_plan, of_take, of_done, of_keep, failed_five}
 use Rattle.pf_journal.specs.Scripts.{Line}
 use Rattle.pf_journal.specs.Scripts as script
 use Rattle.pf_journal.specs.Steps.{Stop, by_cancel, by_tries, by_memory, planned, planned_before, plan_stopped, took, busy, stored, again, exhausted, lacked, gone, not_held, kept, outdated, keep_lacked, keep_failed, keep_waits, keep_stopped, unplanned}
@@ -168,15 +168,21 @@ answered n id code cached evaluated body =
 abbrev pub unanswered : ℕ → List ℕ → List ℕ → List ℕ → List ℕ
 unanswered n id code body = answered n id code 0 0 body
 
--- the body of an answer by its code
+-- the body of the direct evaluation
 abbrev pub query_body : Limits → Option Open → List ℕ
 query_body l None = []
 query_body l (Some o) = body_text o.asked (answer_of l o)
 
-abbrev pub body_of : Limits → List Exhausted → (query code : ℕ) → Option Open → List ℕ
-body_of l jobs query code o =
+-- the job that failed five times
+abbrev pub job_of : Told → ℕ
+job_of (failed_five job) = job
+job_of _ = 0
+
+-- the body of an answer by its code
+abbrev pub body_of : Limits → Told → (code : ℕ) → Option Open → List ℕ
+body_of l told code o =
     cond (nat_eq code 503) cancelled_body
-    (cond (nat_eq code 500) (failed_body (job_of query jobs)) (cond (nat_eq code 507) memory_body (query_body l o)))
+    (cond (nat_eq code 500) (failed_body (job_of told)) (cond (nat_eq code 507) memory_body (query_body l o)))
 
 -- what the refusal of what was asked for says
 abbrev pub refusal_of : Option (Result Asked (List ℕ)) → List ℕ
@@ -210,12 +216,12 @@ unentered_reply known n id t (waiting jobs) = reply_line n (codes "answer") id (
 unentered_reply known n id t no_memory = without_memory n id
 unentered_reply known n id t _ = refused_reply known n id t.asking (what_of t.asked)
 
-abbrev pub answer_reply : Known → List Exhausted → ℕ → List ℕ → Turn → Option Moment → List ℕ
-answer_reply known jobs n id t None = unentered_reply known n id t t.ran.told
-answer_reply known jobs n id t (Some x) = answered_by x.entry.what where
+abbrev pub answer_reply : Known → ℕ → List ℕ → Turn → Option Moment → List ℕ
+answer_reply known n id t None = unentered_reply known n id t t.ran.told
+answer_reply known n id t (Some x) = answered_by x.entry.what where
   answered_by : What → List ℕ
   answered_by (answer query code cached evaluated) =
-      answered n id (decimal code) cached evaluated (body_of known.limits jobs query code (open_at query x.before.queries))
+      answered n id (decimal code) cached evaluated (body_of known.limits t.ran.told code (open_at query x.before.queries))
   answered_by _ = []
 
 -- ---- step lines
@@ -264,19 +270,19 @@ keep_words _ = codes "refused" ∷ []
 
 -- ---- any line
 
-abbrev pub reply_to : Known → List Exhausted → Turn → ℕ → Line → List ℕ
-reply_to known jobs t n (script.ingest tenant file time) = ingest_reply n tenant t.ran.told (what_of t.mine)
-reply_to known jobs t n (script.delete tenant from to selector) = delete_reply n tenant from to t.ran.told (what_of t.mine)
-reply_to known jobs t n (script.ask id tenant start end step query) = ask_reply n id t.ran.told t.mine
-reply_to known jobs t n (script.instant id tenant time query) = ask_reply n id t.ran.told t.mine
-reply_to known jobs t n (script.cancel id asked tenant) =
+abbrev pub reply_to : Known → Turn → ℕ → Line → List ℕ
+reply_to known t n (script.ingest tenant file time) = ingest_reply n tenant t.ran.told (what_of t.mine)
+reply_to known t n (script.delete tenant from to selector) = delete_reply n tenant from to t.ran.told (what_of t.mine)
+reply_to known t n (script.ask id tenant start end step query) = ask_reply n id t.ran.told t.mine
+reply_to known t n (script.instant id tenant time query) = ask_reply n id t.ran.told t.mine
+reply_to known t n (script.cancel id asked tenant) =
     reply_line n (codes "cancel") id (cancel_words known.names tenant t t.mine)
-reply_to known jobs t n (script.answer id asked) = answer_reply known jobs n id t t.mine
-reply_to known jobs t n (script.plan id asked) = reply_line n (codes "plan") id (plan_words t.ran.told)
-reply_to known jobs t n (script.keep id asked) = reply_line n (codes "keep") id (keep_words t.ran.told)
-reply_to known jobs t n (script.take worker) =
+reply_to known t n (script.answer id asked) = answer_reply known n id t t.mine
+reply_to known t n (script.plan id asked) = reply_line n (codes "plan") id (plan_words t.ran.told)
+reply_to known t n (script.keep id asked) = reply_line n (codes "keep") id (keep_words t.ran.told)
+reply_to known t n (script.take worker) =
     reply_line n (codes "take") (decimal worker) (take_words known.names t t.ran.told)
-reply_to known jobs t n (script.done worker) = reply_line n (codes "done") (decimal worker) (done_words t.ran.told)
+reply_to known t n (script.done worker) = reply_line n (codes "done") (decimal worker) (done_words t.ran.told)
 
-abbrev pub reply_of : Known → List Exhausted → Turn → List ℕ
-reply_of known jobs t = reply_to known jobs t t.ran.line.number t.ran.line.line
+abbrev pub reply_of : Known → Turn → List ℕ
+reply_of known t = reply_to known t t.ran.line.number t.ran.line.line

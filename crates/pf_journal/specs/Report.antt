@@ -5,21 +5,21 @@ use Rattle.pf_model.specs.Lists.{joined}
 use Rattle.pf_journal.specs.Legal.{Moment, moments}
 use Rattle.pf_journal.specs.Machine.{What, append, delete, ask, full, no_tenant, cancel, answer, Entry}
 use Rattle.pf_journal.specs.Replies.{line_text, name_of, reply_of}
-use Rattle.pf_journal.specs.Rest.{Known, Client, Exhausted, Rest}
+use Rattle.pf_journal.specs.Rest.{Known, Client, Rest}
 use Rattle.pf_journal.specs.Scripts.{Numbered}
 use Rattle.pf_journal.specs.Turns.{own_moments, ran_lines, turns}
 
 -- ---- clients
 
-abbrev pub client_text : Known → List Exhausted → (own : List Moment) → ℕ → List Numbered → Client → List ℕ
-client_text known jobs own client lines c =
-    line_text (codes "client" ∷ decimal client ∷ []) ++ joined (reply_of known jobs) (turns own (ran_lines lines c.told))
+abbrev pub client_text : Known → (own : List Moment) → ℕ → List Numbered → Client → List ℕ
+client_text known own client lines c =
+    line_text (codes "client" ∷ decimal client ∷ []) ++ joined (reply_of known) (turns own (ran_lines lines c.told))
 
-abbrev pub clients_from : Known → List Exhausted → List Moment → ℕ → List (List Numbered) → List Client → List ℕ
-clients_from known jobs xs client [] cs = []
-clients_from known jobs xs client (lines ∷ scripts) [] = []
-clients_from known jobs xs client (lines ∷ scripts) (c ∷ cs) =
-    client_text known jobs (own_moments client xs) client lines c ++ clients_from known jobs xs (client + 1) scripts cs
+abbrev pub clients_from : Known → List Moment → ℕ → List (List Numbered) → List Client → List ℕ
+clients_from known xs client [] cs = []
+clients_from known xs client (lines ∷ scripts) [] = []
+clients_from known xs client (lines ∷ scripts) (c ∷ cs) =
+    client_text known (own_moments client xs) client lines c ++ clients_from known xs (client + 1) scripts cs
 
 -- ---- the journal
 
@@ -65,5 +65,5 @@ actors_from actor (n ∷ ns) = actor_text actor n ++ actors_from (actor + 1) ns
 -- the whole report
 abbrev pub report : Known → List Entry → List (List Numbered) → Rest → List ℕ
 report known journal scripts rest =
-    clients_from known rest.exhausted (moments journal) 0 scripts rest.clients
+    clients_from known (moments journal) 0 scripts rest.clients
     ++ (journal_text known.names journal ++ actors_from 0 rest.failed)

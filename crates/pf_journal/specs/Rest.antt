@@ -1,5 +1,5 @@
 -- What a report says and the journal does not hold. This project's own.
-use Rattle.std.specs.Prelude.{ℕ, List, [], ◌∷◌, cond, length, nat_eq}
+use Rattle.std.specs.Prelude.{ℕ, List, length}
 use Rattle.pf_base.specs.declared.plain.Limits.{Limits}
 use Rattle.pf_model.specs.Queries.{Readings}
 use Rattle.pf_journal.specs.Files.{Refusal}
@@ -21,6 +21,8 @@ pub data Told : Type 0 where
   journal_full : Told
   -- an answer waits for so many jobs in workers' hands
   waiting : (jobs : ℕ) → Told
+  -- the job that failed five times, of an answer with 500
+  failed_five : (job : ℕ) → Told
   of_plan : PlanReply → Told
   of_take : TakeReply → Told
   of_done : DoneReply → Told
@@ -41,18 +43,7 @@ pub record Client : Type 0 where
 abbrev pub ran : Client → ℕ
 ran c = length c.told
 
--- the job of a query that failed five times; the query is the place of its ask
-pub record Exhausted : Type 0 where
-  pub query : ℕ
-  pub job : ℕ
-
--- a record for each client, the job of each query that is answered 500, and the failed tries of each actor by its number
+-- a record for each client, and the failed tries of each actor by its number
 pub record Rest : Type 0 where
   pub clients : List Client
-  pub exhausted : List Exhausted
   pub failed : List ℕ
-
--- the job of a query that failed five times
-abbrev pub job_of : ℕ → List Exhausted → ℕ
-job_of query [] = 0
-job_of query (e ∷ es) = cond (nat_eq e.query query) e.job (job_of query es)

@@ -1,5 +1,5 @@
 -- How a journal is woven from the scripts of its clients. This project's own.
-use Rattle.std.specs.Prelude.{◌≡◌, ℕ, ◌+◌, ◌*◌, ◌<◌, ◌≤◌, ◌⊎◌, Option, Some, None, List, [], ◌∷◌, length, drop, nat_eq, cond, slice_get, take}
+use Rattle.std.specs.Prelude.{◌≡◌, ℕ, ◌+◌, ◌*◌, ◌<◌, ◌≤◌, ◌⊎◌, Bool, true, false, Option, Some, None, List, [], ◌∷◌, length, drop, nat_eq, cond, slice_get, take}
 use Rattle.std.specs.List.{sum}
 use Rattle.pf_base.specs.declared.plain.Limits.{Limits}
 use Rattle.pf_model.specs.Lists.{Each}
@@ -7,7 +7,7 @@ use Rattle.pf_model.specs.Queries.{IsReading, Reading}
 use Rattle.pf_journal.specs.Entered.{Fits, room_of}
 use Rattle.pf_journal.specs.Legal.{Moment, moments, machine_after}
 use Rattle.pf_journal.specs.Machine.{Entry, What, answer, started, reserved}
-use Rattle.pf_journal.specs.Rest.{Known, Told, nothing, no_memory, journal_full, of_done, Client, Why, at_end, at_full, at_memory, ran, Rest}
+use Rattle.pf_journal.specs.Rest.{Known, Told, nothing, failed_five, no_memory, journal_full, of_done, Client, Why, at_end, at_full, at_memory, ran, Rest}
 use Rattle.pf_journal.specs.Scripts.{Line, Numbered}
 use Rattle.pf_journal.specs.Scripts as script
 use Rattle.pf_journal.specs.Steps.{again, exhausted}
@@ -16,10 +16,20 @@ use Rattle.pf_journal.specs.Unentered.{Unentered}
 
 -- ---- one line
 
--- a line's entry fits it and is all that is told of it, or the line has none for a cause
+-- of an answer with 500 its job is told, and of other entries nothing
+abbrev pub ToldOfCode : (failed : Bool) → Told → Type 0
+ToldOfCode true (failed_five job) = Unit {0}
+ToldOfCode true _ = ⊥
+ToldOfCode false told = told ≡ nothing
+
+abbrev pub ToldBeside : What → Told → Type 0
+ToldBeside (answer query code cached evaluated) told = ToldOfCode (nat_eq code 500) told
+ToldBeside _ told = told ≡ nothing
+
+-- a line's entry fits it, or the line has none for a cause
 abbrev pub IsMatched : Known → Turn → Option Moment → Type 0
 IsMatched known t None = Unentered known t t.ran.line.line t.ran.told
-IsMatched known t (Some x) = Fits known t.ran.line.line t.asked x.entry.what × (t.ran.told ≡ nothing)
+IsMatched known t (Some x) = Fits known t.ran.line.line t.asked x.entry.what × ToldBeside x.entry.what t.ran.told
 
 -- an entry found the room that it wants
 abbrev pub FoundRoom : Limits → Line → Option Moment → Type 0
