@@ -1,4 +1,5 @@
 mod Examples
+pub mod Going
 pub mod Growing
 mod Sessions
 mod WorkedRefusals
