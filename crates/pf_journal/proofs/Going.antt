@@ -1,15 +1,19 @@
 -- A client that goes on by a line: with an entry or without, its lines and its own entries stay woven.
-use Rattle.std.proofs.Common.{◌≡◌, ℕ, ◌<◌, zero, suc, List, [], ◌∷◌, ◌++◌, length, slice_get, take, refl, ap, sym, subst, ◌∙◌, Some, inl, inr, arith}
+use Rattle.std.proofs.Common.{codes, decimal, None, append-nil, append_assoc, ◌≡◌, ℕ, ◌<◌, zero, suc, List, [], ◌∷◌, ◌++◌, length, slice_get, take, refl, ap, sym, subst, ◌∙◌, Some, inl, inr, arith}
 use Rattle.std.proofs.lemmas.Option.{none-some, slice_get_within}
 use Rattle.std.proofs.lemmas.List.{length-append}
 use Rattle.json.proofs.Found.{Some_inj}
-use Rattle.pf_model.specs.Lists.{Each}
+use Rattle.pf_base.specs.declared.plain.Limits.{Limits}
+use Rattle.pf_model.specs.Lists.{Each, joined}
 use Rattle.pf_journal.proofs.Growing.{hands_behind, lines_behind, turns-entered, turns-snoc}
 use Rattle.pf_journal.specs.Legal.{Moment}
-use Rattle.pf_journal.specs.Rest.{Client, Known, Told, Why}
+use Rattle.pf_journal.specs.Machine.{Entry}
+use Rattle.pf_journal.specs.Replies.{line_text, reply_of}
+use Rattle.pf_journal.specs.Report.{client_text}
+use Rattle.pf_journal.specs.Rest.{at_end, Client, Known, Told, Why}
 use Rattle.pf_journal.specs.Scripts.{Numbered}
-use Rattle.pf_journal.specs.Turns.{Ran, Turn, ran_lines, turn_of}
-use Rattle.pf_journal.specs.Weave.{IsLineOf, IsWoven, Rises, Woven}
+use Rattle.pf_journal.specs.Turns.{Ran, Turn, ran_lines, turn_of, turns}
+use Rattle.pf_journal.specs.Weave.{IsLineOf, IsWoven, Lacks, Rises, RunsTo, Woven, stops_at}
 
 -- ---- lists
 
@@ -95,3 +99,39 @@ woven_enters known own x lines told why l t w there first same above below turne
   each = rw (ran-snoc lines told t l there) (rw (turns-snoc (own ++ x ∷ []) [] [] (ran_lines lines told) (record { line = l; told = t }))
       (each-snoc (IsWoven known) _ _ (rw (turns-entered own x [] [] (ran_lines lines told) below) w.each) turned));
 }
+
+-- ---- where a client stops
+
+abbrev pub NeverStops : List Ran → Type 0
+NeverStops rs = Each (λ r. stops_at r.line.line r.told ≡ None) rs
+
+-- a client that nothing stops runs to its script's end
+pub runs_to_end : (limits : Limits) (journal : List Entry) (client : ℕ) (rs : List Ran) → NeverStops rs
+    → RunsTo limits journal client at_end [] rs
+runs_to_end limits journal client [] h = (refl, refl)
+runs_to_end limits journal client (r ∷ rs) h = rw h.0 (runs_to_end limits journal client rs h.1)
+
+-- and another to the line that stops it
+pub runs_to_stop : (limits : Limits) (journal : List Entry) (client : ℕ) (why : Why) (left : List Numbered) (rs : List Ran) (r : Ran)
+    → NeverStops rs → stops_at r.line.line r.told ≡ Some why → Lacks limits journal client r.line.line why
+    → RunsTo limits journal client why left (rs ++ r ∷ [])
+runs_to_stop limits journal client why left [] r h stop lacks = rw stop (refl, refl, lacks)
+runs_to_stop limits journal client why left (x ∷ rs) r h stop lacks = rw h.0 (runs_to_stop limits journal client why left rs r h.1 stop lacks)
+
+-- ---- what is printed
+
+joined-snoc : {X : Type 0} (f : X → List ℕ) (xs : List X) (x : X) → joined f (xs ++ x ∷ []) ≡ joined f xs ++ f x
+joined-snoc f [] x = append-nil (f x)
+joined-snoc f (y ∷ ys) x = ap (λ bytes. f y ++ bytes) (joined-snoc f ys x) ∙ sym (append_assoc (f y) (joined f ys) (f x))
+
+-- a line adds its reply
+pub text_grows : (known : Known) (own : List Moment) (client : ℕ) (lines : List Numbered) (told : List Told) (why : Why) (l : Numbered) (t : Told)
+    → slice_get lines (length told) ≡ Some l
+    → client_text known own client lines (going told t why)
+    ≡ client_text known own client lines (record { told = told; why = why })
+    ++ reply_of known (turn_behind own (ran_lines lines told) (record { line = l; told = t }))
+text_grows known own client lines told why l t there =
+    rw (ran-snoc lines told t l there) (rw (turns-snoc own [] [] (ran_lines lines told) (record { line = l; told = t }))
+    (rw (joined-snoc (reply_of known) (turns own (ran_lines lines told)) (turn_behind own (ran_lines lines told) (record { line = l; told = t })))
+    (sym (append_assoc (line_text (codes "client" ∷ decimal client ∷ [])) (joined (reply_of known) (turns own (ran_lines lines told)))
+    (reply_of known (turn_behind own (ran_lines lines told) (record { line = l; told = t })))))))
