@@ -1,6 +1,7 @@
 -- Lists of extents that are apart: parts of theirs are, and so is a list with a new extent in place of its steps.
 use Rattle.std.proofs.Common.{◌≡◌, ℕ, zero, suc, ◌-◌, ◌%◌, ◌<◌, Bool, true, false, cond, List, [], ◌∷◌, ◌++◌, length, drop, refl, sym, ap, ◌∙◌, arith}
-use Rattle.std.specs.Prelude.{filter, nat_eq}
+use Rattle.std.specs.Prelude.{◌↔◌, IsTrue, Some, filter, nat_eq, slice_get}
+use Rattle.std.proofs.lemmas.Bool.{eq-eqb, eqb-true}
 use Rattle.std.proofs.lemmas.List.{length-drop}
 use Rattle.pf_model.specs.Lists.{Each, joined}
 use Rattle.pf_columns.proofs.Eaches.{each_append, each_joined, each_so, each_some}
@@ -174,3 +175,15 @@ module _ (new : Extent) (l : IsLawful new) where
       (around_every (of_generation new.generation es)
       (apart_filter (λ e. nat_eq e.generation new.generation) es a)
       (each_filter (λ e. e.step ≡ new.step) (λ e. nat_eq e.generation new.generation) es b))
+
+-- ---- one distance
+
+pub spaced_as_first : (s : ℕ) (es : List Extent) (e : Extent) → AreApart es → Some e ≡ slice_get es 0 → IsTrue (nat_eq e.step s) ↔ AreSpaced s es
+spaced_as_first s [] e a h = cc
+spaced_as_first s (x ∷ es) e a h =
+    let same : e.step ≡ x.step = let is : e ≡ x = cc in ap (λ y. y.step) is in (
+      λ t.
+          let at : x.step ≡ s = sym same ∙ eqb-true e.step s t in
+          (at, each_so (IsBehind x) (λ y. y.step ≡ s) es (λ y p. p.step ∙ at) a.1),
+      λ b. eq-eqb e.step s (same ∙ b.0),
+    )

@@ -1,7 +1,8 @@
 //! Extents, and when one may be used.
 
-ghost use Rattle.std.specs.Prelude.{◌≡◌, IfOk};
+ghost use Rattle.std.specs.Prelude.{◌≡◌, ◌↔◌, IfOk, IsTrue};
 ghost use Rattle.pf_model.specs.Reach.{is_below};
+ghost use Rattle.pf_extent.specs.Steps.{IsLawful};
 ghost use Rattle.pf_extent.specs.Uses.{is_usable};
 
 use pf_columns::Cells;
@@ -33,6 +34,22 @@ impl Clone for Extent {
             generation: self.generation,
             cells: self.cells.clone()?,
         })
+    }
+}
+
+impl Extent {
+    /// Whether an extent is lawful: its first and its last step are multiples of their distance, and it has a cell for each step
+    /// from the one to the other.
+    pub fn is_lawful(&self) -> bool
+        ensures { IsTrue result ↔ IsLawful self.now }
+    {
+        let count = self.cells.count() as u64;
+        self.step != 0
+            && self.first % self.step == 0
+            && self.last % self.step == 0
+            && self.first <= self.last
+            && count != 0
+            && (self.last - self.first) / self.step == count - 1
     }
 }
 
