@@ -1,13 +1,13 @@
 -- Where the extent that has a step stands.
 use Rattle.std.proofs.Common.{◌≡◌, ℕ, zero, suc, ◌≤◌, ◌<◌, Bool, true, false, cond, Option, None, Some, List, [], ◌∷◌, length, refl, sym, subst, ap, ◌∙◌, arith}
-use Rattle.std.specs.Prelude.{nat_lt, slice_get, slice_index_or}
+use Rattle.std.specs.Prelude.{nat_lt, option_map, slice_get, slice_index_or}
 use Rattle.std.specs.List.{AllWithin}
 use Rattle.std.specs.List.Sorted.{IsPartitionedBy}
 use Rattle.std.proofs.lemmas.Bool.{lt-ltb, ltb-false, ltb-true}
 use Rattle.std.proofs.lemmas.Option.{slice_get_past, slice_get_read}
 use Rattle.pf_model.specs.Lists.{Each}
 use Rattle.pf_extent.specs.declared.extent.Extent.{Extent}
-use Rattle.pf_extent.specs.Steps.{AreApart, IsBehind, ended, extent_at, has_step}
+use Rattle.pf_extent.specs.Steps.{AreApart, IsBehind, IsLawful, ended, extent_at, has_step, known_at, known_of}
 use Rattle.pf_extent.proofs.KnownSteps.{none_before, not_there}
 use Rattle.pf_extent.proofs.Parts.{step_of}
 
@@ -82,3 +82,23 @@ pub missing_in : (t : ℕ) (es : List Extent) (k : ℕ) → AreApart es → k �
 missing_in t es k a p l =
     let past : length es ≤ k = ltb-false k (length es) (sym l) in
     extent_is t es a ∙ ap (λ i. if_step t (slice_get es i)) (sym p) ∙ ap (if_step t) (slice_get_past es k past)
+
+-- ---- what is known of it
+
+known_by : (t : ℕ) (e : Extent) (es : List Extent) (b : Bool) → known_at t es ≡ option_map (known_of t) (extent_at t es)
+    → cond b (Some (known_of t e)) (known_at t es) ≡ option_map (known_of t) (cond b (Some e) (extent_at t es))
+known_by t e es true h = refl
+known_by t e es false h = h
+
+pub known_is : (t : ℕ) (es : List Extent) → known_at t es ≡ option_map (known_of t) (extent_at t es)
+known_is t [] = refl
+known_is t (e ∷ es) = known_by t e es (has_step t e) (known_is t es)
+
+lawful_by : (t : ℕ) (x e : Extent) (es : List Extent) (b : Bool) → has_step t x ≡ b → IsLawful x → (extent_at t es ≡ Some e → IsLawful e × (has_step t e ≡ true))
+    → cond b (Some x) (extent_at t es) ≡ Some e → IsLawful e × (has_step t e ≡ true)
+lawful_by t x e es true i l r h = let same : x ≡ e = cc in subst (λ y. IsLawful y × (has_step t y ≡ true)) same (l, i)
+lawful_by t x e es false i l r h = r h
+
+pub lawful_at : (t : ℕ) (es : List Extent) (e : Extent) → AreApart es → extent_at t es ≡ Some e → IsLawful e × (has_step t e ≡ true)
+lawful_at t [] e a h = cc
+lawful_at t (x ∷ es) e a h = lawful_by t x e es (has_step t x) refl a.0 (lawful_at t es e a.2) h

@@ -35,11 +35,12 @@ last_of n es = drop (length es - n) es
 abbrev pub combined : List Extent → Extent → List Extent
 combined es new = last_of 64 (with_extent es new)
 
--- the same in other words, step by step: what the new extent knows where it has the step, else what the others knew if that
--- is of its generation
+-- what was known, if that is of a generation
 abbrev pub known_still : ℕ → Option Known → Option Known
 known_still g None = None
 known_still g (Some k) = cond (nat_eq k.generation g) (Some k) None
 
+-- what is known at a step, in other words: what the new extent knows where it has the step, else what was known before if that
+-- is of the new one's generation
 abbrev pub known_with : List Extent → Extent → ℕ → Option Known
 known_with es new t = cond (has_step t new) (Some (known_of t new)) (known_still new.generation (known_at t es))

@@ -1,9 +1,9 @@
 //! Lists of extents, and a list with one more.
 
-ghost use Rattle.std.specs.Prelude.{◌≡◌, ◌↔◌, ℕ, ◌-◌, ◌/◌, ◌<◌, ◌≤◌, length, [], ◌++◌, cond, IfOk, IsTrue, MatchOption, None, Some};
+ghost use Rattle.std.specs.Prelude.{◌≡◌, ◌↔◌, ℕ, ◌-◌, ◌/◌, ◌<◌, ◌≤◌, length, [], ◌++◌, true, cond, IfOk, IfSome, IsTrue, MatchOption, None, Some};
 ghost use Rattle.pf_model.specs.Lists.{Each, joined};
 ghost use Rattle.pf_extent.specs.Combining.{back_part, combined, front_part, known_with, last_of, of_generation, with_extent};
-ghost use Rattle.pf_extent.specs.Steps.{AreApart, AreSpaced, Divides, IsKept, IsLawful, ended, extent_at, has_begun, has_step, known_at};
+ghost use Rattle.pf_extent.specs.Steps.{AreApart, AreSpaced, Divides, IsKept, IsLawful, ended, extent_at, has_begun, has_step, known_at, known_of};
 
 use crate::extent::Extent;
 use pf_base::OutOfMemory;
@@ -75,7 +75,10 @@ impl List {
 
     /// The extent that has a step, found by halving.
     pub fn at(&self, step: u64) -> Option<&Extent>
-        ensures { MatchOption result (extent_at step self.now ≡ None) (λ e. extent_at step self.now ≡ Some e.now) }
+        ensures found { MatchOption result (extent_at step self.now ≡ None) (λ e. extent_at step self.now ≡ Some e.now) }
+        ensures known { MatchOption result (known_at step self.now ≡ None) (λ e. known_at step self.now ≡ Some (known_of step e.now)) }
+        ensures lawful { IfSome result (λ e. IsLawful e.now) }
+        ensures has { IfSome result (λ e. has_step step e.now ≡ true) }
     {
         let place = count_ended(&self.extents, step);
         let extent = self.extents.get(place)?;
