@@ -1,3 +1,4 @@
+pub mod Ahead
 mod Chains
 mod Lists
 pub mod Rings

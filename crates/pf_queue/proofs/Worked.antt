@@ -2,6 +2,7 @@
 use Rattle.std.proofs.Common.{◌≡◌, ◌∷◌, [], true, false, refl}
 use Rattle.pf_queue.specs.Links.{next_with, next_without, previous_with, previous_without, waiting_of}
 use Rattle.pf_queue.specs.Rings.{waits, without}
+use Rattle.pf_queue.specs.Turns.{add, take, leave, is_first, served}
 
 nobody : waiting_of (0 ∷ 1 ∷ 2 ∷ 3 ∷ []) 3 ≡ []
 nobody = refl
@@ -32,3 +33,17 @@ is_there = refl
 
 is_gone : waits 0 (2 ∷ 1 ∷ []) ≡ false
 is_gone = refl
+
+-- the first is taken and put in again behind the others, then the one after it
+once : served 2 (take ∷ add 2 ∷ take ∷ []) (2 ∷ 0 ∷ 1 ∷ []) ≡ 1
+once = refl
+
+-- where nobody else waits, it is taken each time
+each_time : served 2 (take ∷ add 2 ∷ take ∷ []) (2 ∷ []) ≡ 2
+each_time = refl
+
+one_that_left : served 0 (leave 0 ∷ take ∷ take ∷ []) (2 ∷ 0 ∷ 1 ∷ []) ≡ 0
+one_that_left = refl
+
+the_first : is_first 2 (2 ∷ 0 ∷ []) ≡ true
+the_first = refl

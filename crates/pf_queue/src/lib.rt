@@ -2,8 +2,8 @@
 //!
 //! What the layer above uses: contracts see a `Ring` as the list of the tenants that wait, first to last, each once, beside its
 //! capacity. `add` puts a tenant last, `take` takes the first, and `leave` takes one out wherever it stands, while the
-//! others keep their order. Each takes constant time and no memory, which `open` takes once, eight bytes a tenant. Round
-//! robin goes so:
+//! others keep their order. While a tenant waits, no other one is taken twice. Each call takes constant time and no memory,
+//! which `open` takes once, eight bytes a tenant. Round robin goes so:
 //!
 //! ```text
 //! let Some(tenant) = ring.take() else { return None };
@@ -17,5 +17,7 @@
 
 mod links;
 mod ring;
+mod turns;
 
 pub use ring::Ring;
+pub use turns::serves_in_turn;
