@@ -135,3 +135,9 @@ text_grows known own client lines told why l t there =
     (rw (joined-snoc (reply_of known) (turns own (ran_lines lines told)) (turn_behind own (ran_lines lines told) (record { line = l; told = t })))
     (sym (append_assoc (line_text (codes "client" ∷ decimal client ∷ [])) (joined (reply_of known) (turns own (ran_lines lines told)))
     (reply_of known (turn_behind own (ran_lines lines told) (record { line = l; told = t })))))))
+
+-- an entry of a line below leaves what was printed
+pub text_stays : (known : Known) (own : List Moment) (x : Moment) (client : ℕ) (lines : List Numbered) (c : Client)
+    → Each (λ r. r.line.number < x.entry.line) (ran_lines lines c.told)
+    → client_text known (own ++ x ∷ []) client lines c ≡ client_text known own client lines c
+text_stays known own x client lines c below = rw (turns-entered own x [] [] (ran_lines lines c.told) below) refl

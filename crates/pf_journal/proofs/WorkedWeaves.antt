@@ -5,8 +5,9 @@ use Rattle.json.proofs.Found.{Some_inj}
 use Rattle.pf_model.specs.Queries.{IsReading, Reading}
 use Rattle.std.specs.Fmt.{digits}
 use Rattle.std.specs.Option.{is_none}
+use Rattle.std.specs.Str.{bytes_eq}
 use Rattle.pf_base.specs.Arithmetic.{clamp}
-use Rattle.pf_journal.proofs.Examples.{differ, is_name, up_batch}
+use Rattle.pf_journal.proofs.Examples.{differ, up_batch}
 use Rattle.pf_journal.proofs.Sessions.{cancel_journal, cancel_known, cancel_rest, cancel_scripts, failed_journal, failed_known, failed_rest, failed_scripts, full_journal, full_known, full_rest, full_scripts, limit_journal, limit_known, limit_rest, limit_scripts, steps_journal, steps_known, steps_rest, steps_scripts, two_journal, two_known, two_rest, two_scripts, want_journal, want_known, want_rest, want_scripts}
 use Rattle.pf_journal.specs.Files.{Gives}
 use Rattle.pf_journal.specs.Legal.{Legal, moments}
@@ -129,7 +130,7 @@ cancel_is_a_session h = (
                 (
                   record { matched = (refl, record { query = tt; unanswered = refl; uncancelled = refl }); roomy = tt },
                   (
-                    record { matched = λ p. differ (is_name (codes "acme")) _ _ refl refl p.1; roomy = tt },
+                    record { matched = λ p. differ (bytes_eq (codes "beta")) _ _ refl refl p.1; roomy = tt },
                     (
                       record { matched = ((refl, refl), refl); roomy = lit≤ tt },
                       (

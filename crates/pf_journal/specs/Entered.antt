@@ -11,7 +11,7 @@ use Rattle.pf_journal.specs.Machine.{What, append, delete, ask, full, no_tenant,
 use Rattle.pf_journal.specs.Rest.{Known}
 use Rattle.pf_journal.specs.Scripts.{Line}
 use Rattle.pf_journal.specs.Scripts as script
-use Rattle.pf_journal.specs.Turns.{place_of}
+use Rattle.pf_journal.specs.Turns.{Turn, asker_of, place_of}
 
 -- the entry's tenant is the one that the line names
 abbrev pub IsNamed : List (List ℕ) → List ℕ → What → Type 0
@@ -58,34 +58,30 @@ abbrev pub IsOfAsk : Option Moment → ℕ → Type 0
 IsOfAsk None query = ⊥
 IsOfAsk (Some x) query = query ≡ place_of x
 
--- a tenant is the one that asked
-abbrev pub IsAsker : List (List ℕ) → List ℕ → Option What → Type 0
-IsAsker names tenant (Some (ask u asked pin generation floor)) = slice_get names u ≡ Some tenant
-IsAsker names tenant _ = ⊥
-
-abbrev pub FitsCancel : List (List ℕ) → List ℕ → Option Moment → What → Type 0
-FitsCancel names tenant asked (cancel query) = IsOfAsk asked query × IsAsker names tenant (what_of asked)
-FitsCancel names tenant asked _ = ⊥
+-- a tenant cancels a query that it asked
+abbrev pub FitsCancel : (tenant asker : List ℕ) → Option Moment → What → Type 0
+FitsCancel tenant asker asked (cancel query) = IsOfAsk asked query × (tenant ≡ asker)
+FitsCancel tenant asker asked _ = ⊥
 
 abbrev pub FitsAnswer : Option Moment → What → Type 0
 FitsAnswer asked (answer query code cached evaluated) = IsOfAsk asked query
 FitsAnswer asked _ = ⊥
 
--- an entry fits a line, with the moment of the ask that the line names
-abbrev pub Fits : Known → Line → Option Moment → What → Type 0
-Fits known (script.ingest tenant file time) asked what = IsNamed known.names tenant what × FitsIngest (known.files file) time what
-Fits known (script.delete tenant from to selector) asked what =
+-- an entry fits a line
+abbrev pub Fits : Known → Turn → Line → What → Type 0
+Fits known t (script.ingest tenant file time) what = IsNamed known.names tenant what × FitsIngest (known.files file) time what
+Fits known t (script.delete tenant from to selector) what =
     IsNamed known.names tenant what × FitsDelete from to selector what
-Fits known (script.ask id tenant start end step query) asked what =
+Fits known t (script.ask id tenant start end step query) what =
     IsNamed known.names tenant what × FitsAsk (ranged known.readings start end step query) what
-Fits known (script.instant id tenant time query) asked what =
+Fits known t (script.instant id tenant time query) what =
     IsNamed known.names tenant what × FitsAsk (at_once known.readings time query) what
-Fits known (script.cancel id line tenant) asked what = FitsCancel known.names tenant asked what
-Fits known (script.answer id line) asked what = FitsAnswer asked what
-Fits known (script.plan id line) asked what = ⊥
-Fits known (script.keep id line) asked what = ⊥
-Fits known (script.take worker) asked what = ⊥
-Fits known (script.done worker) asked what = ⊥
+Fits known t (script.cancel id asked tenant) what = FitsCancel tenant (asker_of t.asking) t.asked what
+Fits known t (script.answer id asked) what = FitsAnswer t.asked what
+Fits known t (script.plan id line) what = ⊥
+Fits known t (script.keep id line) what = ⊥
+Fits known t (script.take worker) what = ⊥
+Fits known t (script.done worker) what = ⊥
 
 -- the room that a line's entry wants in the journal beside what open queries keep: an ask's is for its cancel and its answer too,
 -- and these have what the ask kept

@@ -1,5 +1,5 @@
 -- The replies to a client's lines. This project's own.
-use Rattle.std.specs.Prelude.{ℕ, ◌+◌, ◌||◌, Option, Some, None, Result, Err, List, [], ◌∷◌, ◌++◌, codes, cond, nat_eq, nat_lt, slice_get, unwrap_or}
+use Rattle.std.specs.Prelude.{ℕ, ◌+◌, ◌||◌, Option, Some, None, Result, Err, List, [], ◌∷◌, ◌++◌, codes, cond, nat_eq, nat_lt}
 use Rattle.std.specs.Fmt.{decimal}
 use Rattle.std.specs.Str.{bytes_eq}
 use Rattle.pf_base.specs.Grids.{maxt}
@@ -17,7 +17,7 @@ use Rattle.pf_journal.specs.Rest.{Known, Told, refused_file, no_memory, journal_
 use Rattle.pf_journal.specs.Scripts.{Line}
 use Rattle.pf_journal.specs.Scripts as script
 use Rattle.pf_journal.specs.Steps.{Stop, by_cancel, by_tries, by_memory, planned, planned_before, plan_stopped, took, busy, stored, again, exhausted, lacked, gone, not_held, kept, outdated, keep_lacked, keep_failed, keep_waits, keep_stopped, unplanned}
-use Rattle.pf_journal.specs.Turns.{Ran, Turn, place_of}
+use Rattle.pf_journal.specs.Turns.{Ran, Turn, asker_of, place_of}
 
 -- words with one blank between them, and a line feed behind the last
 abbrev pub line_text : List (List ℕ) → List ℕ
@@ -37,10 +37,6 @@ memory_words = codes "out" ∷ codes "of" ∷ codes "memory" ∷ []
 
 abbrev pub tenants_words : List (List ℕ)
 tenants_words = codes "too" ∷ codes "many" ∷ codes "tenants" ∷ []
-
--- a tenant's name
-abbrev pub name_of : List (List ℕ) → ℕ → List ℕ
-name_of names u = unwrap_or (slice_get names u) []
 
 -- ---- ingest
 
@@ -146,14 +142,13 @@ uncancelled_words tenant owner None = codes "other" ∷ codes "tenant" ∷ owner
 uncancelled_words tenant owner (Some x) =
     cond (bytes_eq tenant owner) (codes "already" ∷ decimal (place_of x) ∷ []) (codes "other" ∷ codes "tenant" ∷ owner ∷ [])
 
-abbrev pub unfound_words : List (List ℕ) → (tenant : List ℕ) → Option What → (answered cancelled : Option Moment) → List (List ℕ)
-unfound_words names tenant (Some (ask u asked pin generation floor)) None cancelled =
-    uncancelled_words tenant (name_of names u) cancelled
-unfound_words names tenant _ answered cancelled = not_outstanding_words
+abbrev pub unfound_words : (tenant owner : List ℕ) → Option What → (answered cancelled : Option Moment) → List (List ℕ)
+unfound_words tenant owner (Some (ask u asked pin generation floor)) None cancelled = uncancelled_words tenant owner cancelled
+unfound_words tenant owner _ answered cancelled = not_outstanding_words
 
-abbrev pub cancel_words : List (List ℕ) → (tenant : List ℕ) → Turn → Option Moment → List (List ℕ)
-cancel_words names tenant t None = unfound_words names tenant (what_of t.asked) t.answered t.cancelled
-cancel_words names tenant t (Some x) = codes "done" ∷ []
+abbrev pub cancel_words : (tenant : List ℕ) → Turn → Option Moment → List (List ℕ)
+cancel_words tenant t None = unfound_words tenant (asker_of t.asking) (what_of t.asked) t.answered t.cancelled
+cancel_words tenant t (Some x) = codes "done" ∷ []
 
 -- ---- answer
 
@@ -232,17 +227,12 @@ plan_words (of_plan planned_before) = codes "planned" ∷ []
 plan_words (of_plan plan_stopped) = codes "stopped" ∷ []
 plan_words _ = codes "refused" ∷ []
 
--- the tenant of an ask
-abbrev pub asker_of : List (List ℕ) → Option What → List ℕ
-asker_of names (Some (ask u asked pin generation floor)) = name_of names u
-asker_of names _ = []
-
-abbrev pub take_words : List (List ℕ) → Turn → Told → List (List ℕ)
-take_words names t (of_take (took query job leg first last)) =
-    asker_of names (what_of t.asked) ∷ codes "query" ∷ decimal query ∷ codes "job" ∷ decimal job ∷ codes "leg" ∷ decimal leg
+abbrev pub take_words : Turn → Told → List (List ℕ)
+take_words t (of_take (took query job leg first last)) =
+    asker_of t.asking ∷ codes "query" ∷ decimal query ∷ codes "job" ∷ decimal job ∷ codes "leg" ∷ decimal leg
     ∷ codes "first" ∷ decimal first ∷ codes "last" ∷ decimal last ∷ []
-take_words names t (of_take busy) = codes "busy" ∷ []
-take_words names t _ = codes "none" ∷ []
+take_words t (of_take busy) = codes "busy" ∷ []
+take_words t _ = codes "none" ∷ []
 
 abbrev pub stop_words : Stop → List (List ℕ)
 stop_words (by_cancel place) = codes "cancelled" ∷ decimal place ∷ []
@@ -276,12 +266,12 @@ reply_to known t n (script.delete tenant from to selector) = delete_reply n tena
 reply_to known t n (script.ask id tenant start end step query) = ask_reply n id t.ran.told t.mine
 reply_to known t n (script.instant id tenant time query) = ask_reply n id t.ran.told t.mine
 reply_to known t n (script.cancel id asked tenant) =
-    reply_line n (codes "cancel") id (cancel_words known.names tenant t t.mine)
+    reply_line n (codes "cancel") id (cancel_words tenant t t.mine)
 reply_to known t n (script.answer id asked) = answer_reply known n id t t.mine
 reply_to known t n (script.plan id asked) = reply_line n (codes "plan") id (plan_words t.ran.told)
 reply_to known t n (script.keep id asked) = reply_line n (codes "keep") id (keep_words t.ran.told)
 reply_to known t n (script.take worker) =
-    reply_line n (codes "take") (decimal worker) (take_words known.names t t.ran.told)
+    reply_line n (codes "take") (decimal worker) (take_words t t.ran.told)
 reply_to known t n (script.done worker) = reply_line n (codes "done") (decimal worker) (done_words t.ran.told)
 
 abbrev pub reply_of : Known → Turn → List ℕ

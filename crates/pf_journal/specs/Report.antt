@@ -1,10 +1,10 @@
 -- The printed report: the replies to each client's lines, the journal, and the actors' failed tries. This project's own.
-use Rattle.std.specs.Prelude.{ℕ, ◌+◌, Option, Some, None, List, [], ◌∷◌, ◌++◌, codes, cond, length, nat_eq}
+use Rattle.std.specs.Prelude.{ℕ, ◌+◌, Option, Some, None, List, [], ◌∷◌, ◌++◌, codes, cond, length, nat_eq, slice_get, unwrap_or}
 use Rattle.std.specs.Fmt.{decimal}
 use Rattle.pf_model.specs.Lists.{joined}
 use Rattle.pf_journal.specs.Legal.{Moment, moments}
 use Rattle.pf_journal.specs.Machine.{What, append, delete, ask, full, no_tenant, cancel, answer, Entry}
-use Rattle.pf_journal.specs.Replies.{line_text, name_of, reply_of}
+use Rattle.pf_journal.specs.Replies.{line_text, reply_of}
 use Rattle.pf_journal.specs.Rest.{Known, Client, Rest}
 use Rattle.pf_journal.specs.Scripts.{Numbered}
 use Rattle.pf_journal.specs.Turns.{own_moments, ran_lines, turns}
@@ -22,6 +22,10 @@ clients_from known xs client (lines ∷ scripts) (c ∷ cs) =
     client_text known (own_moments client xs) client lines c ++ clients_from known xs (client + 1) scripts cs
 
 -- ---- the journal
+
+-- a tenant's name
+abbrev pub name_of : List (List ℕ) → ℕ → List ℕ
+name_of names u = unwrap_or (slice_get names u) []
 
 abbrev pub floor_text : Option ℕ → List ℕ
 floor_text None = codes "none"

@@ -111,9 +111,20 @@ asking_line (script.plan id asked) = Some asked
 asking_line (script.keep id asked) = Some asked
 asking_line _ = None
 
-abbrev pub asking_ran : Option ℕ → List Ran → Option Ran
-asking_ran None rs = None
-asking_ran (Some line) rs = ran_at line rs
+-- that line, or else the line of an ask's moment
+abbrev pub asking_ran : Option ℕ → Option Moment → List Ran → Option Ran
+asking_ran (Some line) asked rs = ran_at line rs
+asking_ran None (Some x) rs = ran_at x.entry.line rs
+asking_ran None None rs = None
+
+-- the tenant that an ask names
+abbrev pub asker_of : Option Ran → List ℕ
+asker_of None = []
+asker_of (Some r) = named_by r.line.line where
+  named_by : Line → List ℕ
+  named_by (script.ask id tenant start end step query) = tenant
+  named_by (script.instant id tenant time query) = tenant
+  named_by _ = []
 
 -- the ask that a line names, or whose query the reply of a `take` names
 abbrev pub asked_by : Option ℕ → Told → List Moment → Option Moment
@@ -127,7 +138,7 @@ turn_with above entered hands r mine asked = record {
   ran = r;
   mine = mine;
   hands = hands;
-  asking = asking_ran (asking_line r.line.line) above;
+  asking = asking_ran (asking_line r.line.line) asked above;
   asked = asked;
   cancelled = cancel_of asked entered;
   answered = answer_of asked entered;

@@ -5,7 +5,7 @@ use Rattle.pf_base.specs.Grids.{maxt}
 use Rattle.pf_model.specs.declared.expr.Matcher.{Matcher}
 use Rattle.pf_model.specs.Queries.{IsNoSelector, IsSelector}
 use Rattle.pf_journal.specs.Asking.{Asked, ranged, at_once}
-use Rattle.pf_journal.specs.Entered.{IsAsked, IsAsker, IsRange, what_of}
+use Rattle.pf_journal.specs.Entered.{IsAsked, IsRange, what_of}
 use Rattle.pf_journal.specs.Files.{Gives, IsRefusedAs}
 use Rattle.pf_journal.specs.Legal.{Moment}
 use Rattle.pf_journal.specs.Machine.{What, ask}
@@ -13,7 +13,7 @@ use Rattle.pf_journal.specs.Rest.{Known, Told, nothing, refused_file, no_memory,
 use Rattle.pf_journal.specs.Scripts.{Line}
 use Rattle.pf_journal.specs.Scripts as script
 use Rattle.pf_journal.specs.Steps.{plan_refused, took, none_waits, busy, empty, keep_refused}
-use Rattle.pf_journal.specs.Turns.{Turn, Hand, holds, hands_on, place_of}
+use Rattle.pf_journal.specs.Turns.{Turn, Hand, asker_of, holds, hands_on, place_of}
 
 -- the file is refused; or it is not, and the journal is full
 abbrev pub ToldOfIngest : (bytes : List ℕ) → ℕ → Told → Type 0
@@ -56,12 +56,12 @@ pub record IsOpen (t : Turn) : Type 0 where
   pub uncancelled : t.cancelled ≡ None
 
 -- a query is not cancelled where it is not open, where another tenant asked it, and where it was cancelled before
-abbrev pub IsUncancelled : Known → Turn → (tenant : List ℕ) → Type 0
-IsUncancelled known t tenant = IsOpen t × IsAsker known.names tenant (what_of t.asked) → ⊥
+abbrev pub IsUncancelled : Turn → (tenant : List ℕ) → Type 0
+IsUncancelled t tenant = IsOpen t × (tenant ≡ asker_of t.asking) → ⊥
 
-abbrev pub ToldOfCancel : Known → Turn → (tenant : List ℕ) → Told → Type 0
-ToldOfCancel known t tenant nothing = IsUncancelled known t tenant
-ToldOfCancel known t tenant _ = ⊥
+abbrev pub ToldOfCancel : Turn → (tenant : List ℕ) → Told → Type 0
+ToldOfCancel t tenant nothing = IsUncancelled t tenant
+ToldOfCancel t tenant _ = ⊥
 
 abbrev pub hands_of : Option Moment → List Hand → ℕ
 hands_of None hands = 0
@@ -109,7 +109,7 @@ Unentered known t (script.ingest tenant file time) told = ToldOfIngest (known.fi
 Unentered known t (script.delete tenant from to selector) told = ToldOfDelete from to selector told
 Unentered known t (script.ask id tenant start end step query) told = ToldOfAsk (ranged known.readings start end step query) told
 Unentered known t (script.instant id tenant time query) told = ToldOfAsk (at_once known.readings time query) told
-Unentered known t (script.cancel id asked tenant) told = ToldOfCancel known t tenant told
+Unentered known t (script.cancel id asked tenant) told = ToldOfCancel t tenant told
 Unentered known t (script.answer id asked) told = ToldOfAnswer t told
 Unentered known t (script.plan id asked) told = ToldOfPlan t told
 Unentered known t (script.keep id asked) told = ToldOfKeep t told

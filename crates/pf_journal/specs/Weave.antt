@@ -29,7 +29,7 @@ ToldBeside _ told = told ≡ nothing
 -- a line's entry fits it, or the line has none for a cause
 abbrev pub IsMatched : Known → Turn → Option Moment → Type 0
 IsMatched known t None = Unentered known t t.ran.line.line t.ran.told
-IsMatched known t (Some x) = Fits known t.ran.line.line t.asked x.entry.what × ToldBeside x.entry.what t.ran.told
+IsMatched known t (Some x) = Fits known t t.ran.line.line x.entry.what × ToldBeside x.entry.what t.ran.told
 
 -- an entry found the room that it wants
 abbrev pub FoundRoom : Limits → Line → Option Moment → Type 0
