@@ -4,6 +4,7 @@ use Rattle.pf_base.specs.declared.plain.Row.{Row}
 use Rattle.pf_base.specs.declared.plain.Sample.{Sample}
 use Rattle.pf_base.specs.LabelSets.{Pairs}
 use Rattle.pf_block.specs.Samples.{window_of, last_of}
+use Rattle.pf_block.specs.LabelOrders.{ids_by_label}
 use Rattle.pf_block.specs.SeriesIds.{id_of, ids_with}
 use Rattle.pf_block.specs.Snaps.{SnapData, empty_snap, with_rows, without_rows, held_of, are_new, rows_of}
 
@@ -67,3 +68,7 @@ last = refl
 -- both ends are cut out, of the named series alone, and an unknown id is none
 cut : without_rows filled (0 ∷ 7 ∷ []) 60000 120000 ≡ record { labels = first ∷ second ∷ []; samples = (sample 180000 3 ∷ []) ∷ (sample 60000 2 ∷ []) ∷ [] }
 cut = refl
+
+-- the series that came last stands first
+by_label : ids_by_label (second ∷ first ∷ []) ≡ 1 ∷ 0 ∷ []
+by_label = refl

@@ -5,8 +5,9 @@
 //! labels, and `with` and `without` give the two lists that they leave.
 //!
 //! The code keeps the samples in blocks that are shared, each sorted by series and time and with at least twice the samples
-//! of the next, and an index that is shared as long as no series is new: a map from label sets to ids, and a list of ids
-//! for each pair of a name and a value. Windows and look-ups search by halves and take no memory.
+//! of the next, and an index that is shared as long as no series is new: a map from label sets to ids, a list of ids for
+//! each pair of a name and a value, and the ids in label order with the place of each. Windows and look-ups search by halves
+//! and take no memory.
 #![tactic(auto)]
 
 mod block;

@@ -1,18 +1,12 @@
--- Series with their ids: in label order, and each id that of a series.
-use Rattle.std.proofs.Common.{◌≡◌, ℕ, suc, ◌+◌, ◌<◌, ◌≤◌, Bool, true, false, cond, List, [], ◌∷◌, map, length, get_or, refl, sym, ap, ◌∙◌, arith}
+-- Accepted series with their ids: each id is that of a series, which has these labels.
+use Rattle.std.proofs.Common.{◌≡◌, ℕ, suc, ◌+◌, ◌<◌, ◌≤◌, Bool, true, false, cond, List, [], ◌∷◌, length, refl, sym, ap, ◌∙◌, arith}
 use Rattle.std.specs.List.{All}
-use Rattle.std.specs.List.Sorted.{IsPermutation, IsSorted}
 use Rattle.std.specs.Cmp.{IsTotalOrder, then_total, on_total, nat_cmp_total}
-use Rattle.std.specs.Ordering.{is_lt, nat_cmp}
-use Rattle.std.specs.declared.cmp.Ordering.TheVariants.{Equal}
-use Rattle.std.proofs.lemmas.List.{get_or-map, length-map}
 use Rattle.std.proofs.lemmas.List.Elements.{All-cons, All-head, All-map, All-nil, All-tail}
-use Rattle.std.proofs.lemmas.List.Sorted.{IsPermutation-map}
-use Rattle.std.proofs.lemmas.Map.Lookups.{exact_pairs, exact_unsigned}
 use Rattle.pf_base.specs.LabelSets.{Pairs}
-use Rattle.pf_base.specs.LabelOrder.{labels_cmp, labels_exact, labels_total}
+use Rattle.pf_base.specs.LabelOrder.{labels_total}
 use Rattle.pf_base.specs.Sorting.{isort}
-use Rattle.pf_base.proofs.Sorting.{All-ins, sorted_is}
+use Rattle.pf_base.proofs.Sorting.{All-ins}
 use Rattle.pf_model.specs.declared.expr.Matcher.{Matcher}
 use Rattle.pf_model.specs.Binding.{accepted_from, accepted_ids, accepted_of, series_cmp}
 use Rattle.pf_model.specs.Selection.{accepts}
@@ -23,24 +17,6 @@ Entry = Pairs × ℕ
 
 series_total : IsTotalOrder series_cmp
 series_total = then_total (on_total (λ (e : Entry). e.0) labels_total) (on_total (λ (e : Entry). e.1) nat_cmp_total)
-
-series_exact : (a b : Entry) → series_cmp a b ≡ Equal → a ≡ b
-series_exact = exact_pairs labels_cmp nat_cmp labels_exact exact_unsigned
-
-sorted_map : {X : Type 0} (view : X → Entry) (xs : List X) (x : X) → IsSorted (λ a b. series_cmp (view a) (view b)) xs → IsSorted series_cmp (map view xs)
-sorted_map view xs x s k d l h =
-    let n : length (map view xs) ≡ length xs = length-map xs view in
-    ap (λ e. is_lt (series_cmp e (get_or (map view xs) k d))) (get_or-map view xs (k + 1) x d (omega (arith, n, h)))
-    ∙ ap (λ e. is_lt (series_cmp (view (get_or xs (k + 1) x)) e)) (get_or-map view xs k x d (omega (arith, n, h)))
-    ∙ s k x l (omega (arith, n, h))
-
-sorted_views : {X : Type 0} (view : X → Entry) (xs : List X) → IsSorted (λ a b. series_cmp (view a) (view b)) xs → IsSorted series_cmp (map view xs)
-sorted_views view [] s = λ k d l h. absurd (omega (arith, h))
-sorted_views view (x ∷ xs) s = sorted_map view (x ∷ xs) x s
-
--- what a sort of series ensures
-pub in_order : {X : Type 0} (view : X → Entry) (xs ys : List X) → IsPermutation xs ys → IsSorted (λ a b. series_cmp (view a) (view b)) ys → map view ys ≡ isort series_cmp (map view xs)
-in_order view xs ys p s = sorted_is series_cmp series_total series_exact (map view xs) (map view ys) (IsPermutation-map view xs ys p) (sorted_views view ys s)
 
 -- ---- the ids of accepted series
 
