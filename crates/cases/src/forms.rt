@@ -1,7 +1,7 @@
 //! The forms of rows: for each kind of call, what is given and what is found, as texts.
 
 use crate::{evaluation, runs};
-use cases_functions::{aggregations, columns, functions, joins};
+use cases_functions::{aggregations, columns, extents, functions, joins, shards};
 use cases_language::{grids, language, patterns};
 use cases_rows::output::Output;
 use cases_rows::setting::Setting;
@@ -19,9 +19,11 @@ pub enum Form {
     Ranges(ranges::Form),
     Functions(functions::Form),
     Columns(columns::Form),
+    Extents(extents::Form),
     Selectors(selectors::Form),
     Joins(joins::Form),
     Aggregations(aggregations::Form),
+    Shards(shards::Form),
     Evaluation(evaluation::Form),
     Reports(cases_reports::Form),
     Outside(outside::Form),
@@ -55,6 +57,9 @@ impl Form {
         if let Some(form) = columns::Form::named(name) {
             return Some(Form::Columns(form));
         }
+        if let Some(form) = extents::Form::named(name) {
+            return Some(Form::Extents(form));
+        }
         if let Some(form) = selectors::Form::named(name) {
             return Some(Form::Selectors(form));
         }
@@ -63,6 +68,9 @@ impl Form {
         }
         if let Some(form) = aggregations::Form::named(name) {
             return Some(Form::Aggregations(form));
+        }
+        if let Some(form) = shards::Form::named(name) {
+            return Some(Form::Shards(form));
         }
         if let Some(form) = evaluation::Form::named(name) {
             return Some(Form::Evaluation(form));
@@ -88,9 +96,11 @@ pub fn answer(out: &mut Output, rt: HostRuntime, form: Form, setting: &Setting, 
         Form::Ranges(form) => form.answer(out, given),
         Form::Functions(form) => form.answer(out, setting, given),
         Form::Columns(form) => form.answer(out, given),
+        Form::Extents(form) => form.answer(out, given),
         Form::Selectors(form) => form.answer(out, setting, given),
         Form::Joins(form) => form.answer(out, given),
         Form::Aggregations(form) => form.answer(out, given),
+        Form::Shards(form) => form.answer(out, given),
         Form::Evaluation(form) => form.answer(out, setting, given),
         Form::Reports(form) => form.answer(out, setting, given),
         Form::Outside(form) => form.answer(out, rt, setting, given),

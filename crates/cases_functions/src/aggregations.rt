@@ -57,7 +57,8 @@ fn operation_of(out: &mut Output, word: &str) -> AggOp {
     AggOp::Sum
 }
 
-fn grouping_of(out: &mut Output, text: &str) -> Grouping {
+/// A grouping: `by=a,b` or `without=a,b`.
+pub fn grouping_of(out: &mut Output, text: &str) -> Grouping {
     let (word, list) = text.split_once('=').unwrap_or((text, ""));
     if word != "by" && word != "without" {
         out.refuse();

@@ -1,5 +1,5 @@
 //! Rows of what is stored, and of what is read of it: lines, matchers, exposition files, snapshots and logs, the functions of
-//! their windows, and selectors.
+//! their windows, and selectors; and of what serves queries: the pieces of grids, and a map in the order of recent use.
 #![tactic(auto)]
 
 pub mod files;
@@ -8,6 +8,7 @@ pub mod matchers;
 pub mod ranges;
 mod selection;
 pub mod selectors;
+mod serving;
 mod snapshots;
 
 use cases_rows::output::Output;
@@ -34,6 +35,11 @@ pub enum Form {
     Window,
     /// `log`: what the calls of a log answered, which the parts `window`, `append`, `delete` and `pin` make in their order.
     Log,
+    /// `pieces`: `INTERVAL START END STEP => NUMBER FIRST LAST STEPS, ..`, or `INTERVAL TIME`: the pieces of a grid.
+    Pieces,
+    /// `recent`: `CAPACITY CALL, CALL, .. => ANSWERS | PAIRS`, calls `set KEY NUMBER` and `get KEY` of a map in the order of
+    /// recent use, what each `get` finds, and the pairs after them, the one used last first.
+    Recent,
 }
 
 impl Form {
@@ -48,6 +54,8 @@ impl Form {
             "selection" => Form::Selection,
             "window" => Form::Window,
             "log" => Form::Log,
+            "pieces" => Form::Pieces,
+            "recent" => Form::Recent,
             _ => return None,
         };
         Some(form)
@@ -73,6 +81,8 @@ impl Form {
             Form::Selection => selection::selection(out, setting, given),
             Form::Window => snapshots::window(out, given),
             Form::Log => logs::log(out, setting, given),
+            Form::Pieces => serving::pieces_of(out, given),
+            Form::Recent => serving::recent(out, given),
             Form::Line | Form::Exposition => {}
         }
     }

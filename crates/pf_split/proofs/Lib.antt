@@ -1,4 +1,3 @@
-pub mod Grids
 mod Intervals
 pub mod Runs
 mod Worked
