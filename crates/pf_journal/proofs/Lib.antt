@@ -1,7 +1,10 @@
+mod BelowFloor
 mod Examples
+pub mod FrozenSteps
 pub mod Going
 pub mod Growing
 mod Sessions
+mod WorkedFrozen
 mod WorkedRefusals
 mod WorkedReplies
 mod WorkedReports

@@ -3,6 +3,7 @@ pub mod Bodies
 pub mod Entered
 pub mod Evaluations
 pub mod Files
+pub mod Frozen
 pub mod Legal
 pub mod Machine
 pub mod Replies

@@ -1,0 +1,138 @@
+-- A step that is frozen at a log's floor keeps its value while the generation is the same: no sample that is taken later is below
+-- the floor, and none is deleted.
+use Rattle.std.proofs.Common.{◌≡◌, ℕ, ℤ, ◌+◌, ◌-◌, ◌≤◌, Bool, true, false, cond, ◌||◌, List, [], ◌∷◌, ◌++◌, Option, Some, None, refl, sym, ap, ◌∙◌, filter, take, drop, append-nil, arith}
+use Rattle.std.proofs.Math.Seq.{take-add}
+use Rattle.std.proofs.lemmas.Bool.{eqb-true, leb-true}
+use Rattle.std.proofs.lemmas.Bool.Decides.{nat_tests}
+use Rattle.std.proofs.lemmas.List.Elements.{filter-append}
+use Rattle.std.specs.Cmp.{first_so, second_so}
+use Rattle.std.specs.Prelude.{max, nat_eq, nat_le, nat_lt, unwrap_or}
+use Rattle.pf_base.specs.declared.plain.Row.{Row}
+use Rattle.pf_journal.specs.Frozen.{FrozenSteps, KeptCells}
+use Rattle.pf_journal.proofs.BelowFloor.{frozen_same, is_before}
+use Rattle.pf_model.specs.Evaluation.{eval}
+use Rattle.pf_model.specs.Log.{Change, Store, append, changed, compared, delete, empty_store, floor_below, floor_of, held_value, is_taken, newest_with, store_after, store_of, taken_rows, too_old, verdict_on, verdicts_on}
+use Rattle.pf_model.specs.Reach.{is_below, is_frozen, reach}
+use Rattle.pf_model.specs.Trees.{Tree}
+
+-- the floor, or 0 where nothing was ever taken
+abbrev level : Option ℕ → ℕ
+level floor = unwrap_or floor 0
+
+-- ---- what is taken is not below the floor
+
+none_before_zero : (low time : ℕ) → low ≤ 0 → nat_lt time low ≡ false
+none_before_zero low time h = grind (arith, nat_tests)
+
+not_before : (low floor time : ℕ) → low ≤ floor → nat_lt time floor ≡ false → nat_lt time low ≡ false
+not_before low floor time h e = grind (arith, nat_tests)
+
+taken_late : (floor low : ℕ) (held : List Row) (r : Row) (b : Bool) → low ≤ floor → nat_lt r.time floor ≡ b
+    → is_taken (cond b (too_old floor) (compared (held_value held r.labels r.time) r.value)) ≡ true → nat_lt r.time low ≡ false
+taken_late floor low held r true h e k = cc
+taken_late floor low held r false h e k = not_before low floor r.time h e
+
+late : (floor : Option ℕ) (low : ℕ) (held : List Row) (r : Row) → low ≤ level floor → is_taken (verdict_on floor held r) ≡ true
+    → is_before low r ≡ false
+late None low held r h k = none_before_zero low r.time h
+late (Some floor) low held r h k = taken_late floor low held r (nat_lt r.time floor) h refl k
+
+none_with : (low : ℕ) (r : Row) (rows : List Row) (b : Bool) → (b ≡ true → is_before low r ≡ false) → filter (is_before low) rows ≡ []
+    → filter (is_before low) (cond b (r ∷ rows) rows) ≡ []
+none_with low r rows true f e = rw (f refl) e
+none_with low r rows false f e = e
+
+none_before : (floor : Option ℕ) (low : ℕ) (held rows : List Row) → low ≤ level floor
+    → filter (is_before low) (taken_rows rows (verdicts_on floor held rows)) ≡ []
+none_before floor low held [] h = refl
+none_before floor low held (r ∷ rs) h =
+    let b = is_taken (verdict_on floor held r) in
+    let more = held ++ cond b (r ∷ []) [] in
+    none_with low r (taken_rows rs (verdicts_on floor more rs)) b (late floor low held r h) (none_before floor low more rs h)
+
+-- ---- floors and generations never fall
+
+level_rises : (window : ℕ) (newest : Option ℕ) (rows : List Row)
+    → level (floor_below window newest) ≤ level (floor_below window (newest_with newest rows))
+level_rises window newest [] = omega arith
+level_rises window None (r ∷ rs) = omega arith
+level_rises window (Some newest) (r ∷ rs) =
+    let h : newest - window ≤ max newest r.time - window = grind arith in
+    omega (arith, h, level_rises window (Some (max newest r.time)) rs)
+
+generation_rises : (window : ℕ) (s : Store) (cs : List Change) → s.generation ≤ (store_after window s cs).generation
+generation_rises window s [] = omega arith
+generation_rises window s (append rows ∷ cs) = generation_rises window (changed window s (append rows)) cs
+generation_rises window s (delete ms from to ∷ cs) =
+    omega (arith, generation_rises window (changed window s (delete ms from to)) cs)
+
+-- ---- more changes
+
+-- the samples below a level are the same after changes that leave the generation, if the floor is not below the level
+same_below : (window low : ℕ) (s : Store) (cs : List Change) → low ≤ level (floor_below window s.newest)
+    → (store_after window s cs).generation ≡ s.generation
+    → filter (is_before low) s.samples ≡ filter (is_before low) (store_after window s cs).samples
+same_below window low s [] h g = refl
+same_below window low s (append rows ∷ cs) h g =
+    let rows' = taken_rows rows (verdicts_on (floor_below window s.newest) s.samples rows) in
+    let still : low ≤ level (floor_below window (newest_with s.newest rows')) = omega (arith, h, level_rises window s.newest rows') in
+    sym (filter-append (is_before low) s.samples rows'
+    ∙ ap (λ xs. filter (is_before low) s.samples ++ xs) (none_before (floor_below window s.newest) low s.samples rows h)
+    ∙ append-nil (filter (is_before low) s.samples))
+    ∙ same_below window low (changed window s (append rows)) cs still g
+same_below window low s (delete ms from to ∷ cs) h g =
+    absurd (omega (arith, g, generation_rises window (changed window s (delete ms from to)) cs))
+
+after_both : (window : ℕ) (s : Store) (log more : List Change) → store_after window s (log ++ more) ≡ store_after window (store_after window s log) more
+after_both window s [] more = refl
+after_both window s (c ∷ cs) more = after_both window (changed window s c) cs more
+
+-- a step that is frozen where there is no floor reads nothing, and so is frozen at each
+frozen_by : (reached : Option ℤ) (floor : Option ℕ) → is_below reached floor ≡ true → is_below reached (Some (level floor)) ≡ true
+frozen_by None floor h = refl
+frozen_by (Some latest) None h = cc
+frozen_by (Some latest) (Some floor) h = h
+
+pub frozen_steps : FrozenSteps
+frozen_steps window log more query t g h =
+    let s = store_of window log in
+    let low = level (floor_of window log) in
+    let e : store_of window (log ++ more) ≡ store_after window s more = after_both window empty_store log more in
+    frozen_same low s.samples (store_after window s more).samples
+    (same_below window low s more (let l : low ≤ low = omega arith in l) (sym (ap (λ x. x.generation) e) ∙ g))
+    query t (frozen_by (reach query t) (floor_of window log) h)
+    ∙ ap (λ x. eval x.samples query t) (sym e)
+
+-- ---- two fronts of one log
+
+-- of two fronts, the longer is the shorter with more changes
+longer : (log : List Change) (short long : ℕ) → short ≤ long → take long log ≡ take short log ++ take (long - short) (drop short log)
+longer log short long h =
+    let e : long ≡ short + (long - short) = omega (arith, h) in
+    ap (λ n. take n log) e ∙ take-add short (long - short) log
+
+fronts : (window : ℕ) (log : List Change) (short long : ℕ) (query : Tree) (t : ℤ) → short ≤ long
+    → (store_of window (take long log)).generation ≡ (store_of window (take short log)).generation
+    → is_frozen query t (floor_of window (take short log)) ≡ true
+    → eval (store_of window (take short log)).samples query t ≡ eval (store_of window (take long log)).samples query t
+fronts window log short long query t h g k =
+    let e = longer log short long h in
+    frozen_steps window (take short log) (take (long - short) (drop short log)) query t (sym (ap (λ l. (store_of window l).generation) e) ∙ g) k
+    ∙ ap (λ l. eval (store_of window l).samples query t) (sym e)
+
+kept_by : (window : ℕ) (log : List Change) (pin asked : ℕ) (query : Tree) (t : ℤ) (b : Bool) → nat_le pin asked ≡ b
+    → (store_of window (take pin log)).generation ≡ (store_of window (take asked log)).generation
+    → is_frozen query t (floor_of window (take pin log)) ≡ true
+    → (b || is_frozen query t (floor_of window (take asked log))) ≡ true
+    → eval (store_of window (take pin log)).samples query t ≡ eval (store_of window (take asked log)).samples query t
+kept_by window log pin asked query t true e g h k = fronts window log pin asked query t (leb-true pin asked e) (sym g) h
+kept_by window log pin asked query t false e g h k =
+    let below : asked ≤ pin = grind (arith, nat_tests) in
+    sym (fronts window log asked pin query t below g k)
+
+pub kept_cells : KeptCells
+kept_cells window log pin asked query t h k =
+    let a = (store_of window (take pin log)).generation in
+    let b = (store_of window (take asked log)).generation in
+    let c = nat_le pin asked || is_frozen query t (floor_of window (take asked log)) in
+    kept_by window log pin asked query t (nat_le pin asked) refl (eqb-true a b (first_so (nat_eq a b) c k)) h (second_so (nat_eq a b) c k)
