@@ -12,3 +12,4 @@ pub mod StepTimes
 mod SubqueryCells
 mod TimedCells
 mod WindowCells
+mod WindowFilters

@@ -1,22 +1,27 @@
 -- The multiples of a step among times.
-use Rattle.std.proofs.Common.{◌≡◌, ℕ, zero, suc, ◌+◌, ◌*◌, ◌/◌, ◌<◌, ◌≤◌, ◌⊎◌, inl, inr, min, ℤ, pos, negsuc, ◌+ℤ◌, ◌-ℤ◌, ◌*ℤ◌, neg_ℤ, ◌≤ℤ◌, ◌<ℤ◌, FitsSigned, w64, to_z, of_z, unsigned_abs, Bool, true, false, cond, Option, None, Some, MatchOption, List, [], ◌∷◌, ◌++◌, length, refl, sym, ap, ◌∙◌, subst, arith}
-use Rattle.std.specs.Prelude.{int_le}
+use Rattle.std.proofs.Common.{◌≡◌, ℕ, zero, suc, ◌+◌, ◌-◌, ◌*◌, ◌/◌, ◌<◌, ◌≤◌, ◌⊎◌, inl, inr, min, ℤ, pos, negsuc, ◌+ℤ◌, ◌-ℤ◌, ◌*ℤ◌, neg_ℤ, ◌≤ℤ◌, ◌<ℤ◌, FitsSigned, w64, to_z, of_z, unsigned_abs, Bool, true, false, cond, ◌||◌, Option, None, Some, IfSome, List, [], ◌∷◌, ◌++◌, length, refl, sym, ap, ◌∙◌, subst, add-one, arith}
+use Rattle.std.specs.Prelude.{int_le, slice_index_or}
+use Rattle.std.specs.Int.{int_max}
 use Rattle.std.specs.List.{filter}
 use Rattle.std.proofs.Math.IntN.{suc_ℤ, suc_ℤ-*ℤ, zero-*ℤ, +ℤ_idr}
 use Rattle.std.proofs.lemmas.Bool.{cases_lt}
 use Rattle.std.proofs.lemmas.Int.{ints, to_z-of_z}
 use Rattle.std.proofs.lemmas.Nat.{div-add-mod', le-div}
 use Rattle.std.proofs.Math.Nat.{mul-le-mul_right, div-le_self, div-eq_of_lt, min-eq_left, min-eq_right, mod-lt, div-zero}
+use Rattle.std.proofs.lemmas.List.{append_assoc}
+use Rattle.std.proofs.lemmas.List.Elements.{filter_agree}
 use Rattle.pf_model.specs.Evaluation.{multiples, multiples_behind}
+use Rattle.pf_model.specs.Lists.{Each}
 use Rattle.pf_model.specs.Merging.{below}
 use Rattle.pf_model.specs.Micros.{cut_down}
 use Rattle.pf_range.specs.Windows.{IsTime}
-use Rattle.pf_selectors.specs.Subqueries.{AreBetween, AreMultiplesOver, AreNarrowest, AreTooMany, HoldWindows, lies_in}
+use Rattle.pf_selectors.specs.Subqueries.{AreBetween, AreMultiplesOver, AreOrdered, AreTouching, HoldWindows, IsListOver, is_read, lies_in}
 use Rattle.pf_selectors.specs.Times.{AreStarts, AreTimes, time_at}
 use Rattle.pf_selectors.specs.declared.times.Times.{Times}
 use Rattle.pf_columns.proofs.Below.{first_below}
-use Rattle.pf_selectors.proofs.RunValues.{below_alike}
-use Rattle.pf_selectors.proofs.StepTimes.{at_first}
+use Rattle.pf_selectors.proofs.RunValues.{below_alike, below_more}
+use Rattle.pf_selectors.proofs.StepTimes.{from_list, greater, lt_or_is, run_at}
+use Rattle.pf_selectors.proofs.WindowFilters.{Rises, each_at, each_passes, each_weaker, filter_both, filter_passing, filter_within, int_cases, list_below, or_cases, or_left, or_right, rises_at, rises_filter, same_truth}
 
 down_times : (a d : ℕ) → negsuc a *ℤ pos d ≡ neg_ℤ (pos (suc a * d))
 down_times a d = refl
@@ -81,10 +86,6 @@ next_is d a r h e =
     to_z-of_z w64 (r +ℤ pos 1) (subst (λ z. FitsSigned w64 (z +ℤ pos 1)) (sym e) (next_fits d a h)) ∙ ap (λ z. z +ℤ pos 1) e
 
 -- ---- some of the multiples behind a number
-
-length_behind : (s m : ℤ) (n : ℕ) → length (multiples_behind s m n) ≡ n
-length_behind s m zero = refl
-length_behind s m (suc n) = ap suc (length_behind s (m +ℤ pos 1) n)
 
 one_more : (m : ℤ) (i : ℕ) → (m +ℤ pos 1) +ℤ pos (suc i) ≡ m +ℤ pos (suc (suc i))
 one_more m i = omega (arith, ints)
@@ -195,20 +196,35 @@ times_up m d (suc j) =
     sums_up ((m +ℤ pos 1) *ℤ pos d) (pos j *ℤ pos d) ((m +ℤ pos (suc j)) *ℤ pos d) (pos d) (pos (suc j) *ℤ pos d) ((m +ℤ pos (suc (suc j))) *ℤ pos d)
     (times_up m d j) (suc_ℤ-*ℤ (pos j) (pos d)) (ap (λ x. x *ℤ pos d) on ∙ next_time (m +ℤ pos (suc j)) d)
 
-pub between_is : (from to : ℤ) (d : ℕ) (at : Times) → at.start ≡ (cut_down from d +ℤ pos 1) *ℤ pos d → at.step ≡ pos d → cut_down from d +ℤ pos at.len ≡ cut_down to d
+pub between_is : (from to : ℤ) (d : ℕ) (at : Times) → at.list.now ≡ [] → at.start ≡ (cut_down from d +ℤ pos 1) *ℤ pos d → at.step ≡ pos d → cut_down from d +ℤ pos at.len ≡ cut_down to d
     → from ≤ℤ at.start → at.start ≤ℤ to → AreBetween from to d at
-between_is from to d at a b n l h = record {
+between_is from to d at e a b n l h = record {
   len = n;
-  times = λ j u. (λ i. a i +ℤ (pos j *ℤ b i)) ∙ times_up (cut_down from d) d j;
+  times = λ j u. run_at at j e ∙ (λ i. a i +ℤ (pos j *ℤ b i)) ∙ times_up (cut_down from d) d j;
   start = (l, h);
 }
 
-none_between : (from to : ℤ) (d : ℕ) (at : Times) → at.start ≡ to → at.len ≡ 0 → from ≤ℤ to → cut_down from d +ℤ pos 0 ≡ cut_down to d → AreBetween from to d at
+pub none_between : (from to : ℤ) (d : ℕ) (at : Times) → at.start ≡ to → at.len ≡ 0 → from ≤ℤ to → cut_down from d +ℤ pos 0 ≡ cut_down to d → AreBetween from to d at
 none_between from to d at a n o e = record {
   len = ap (λ k. cut_down from d +ℤ pos k) n ∙ e;
   times = λ j u. absurd (omega (arith, u, n));
   start = (omega (arith, ints, a, o), omega (arith, ints, a));
 }
+
+pub above_from : (from to : ℤ) (d : ℕ) (at : Times) (j : ℕ) → 0 < d → AreBetween from to d at → j < at.len → from <ℤ time_at at j
+above_from from to d at j s b u =
+    subst (λ z. from <ℤ z) (sym (b.times j u)) (above d s (cut_down from d +ℤ pos (suc j)) from (omega (arith, ints)))
+
+pub up_to_last : (from to : ℤ) (d : ℕ) (at : Times) (j : ℕ) → 0 < d → AreBetween from to d at → j < at.len → time_at at j ≤ℤ to
+up_to_last from to d at j s b u =
+    let l = b.len in
+    subst (λ z. z ≤ℤ to) (sym (b.times j u)) (up_to d s (cut_down from d +ℤ pos (suc j)) to (omega (arith, ints, u, l)))
+
+pub between_times : (from to : ℤ) (d : ℕ) (at : Times) → 0 < d → IsTime from → IsTime to → AreBetween from to d at → AreTimes at
+between_times from to d at s first last b = λ j u.
+    let l = above_from from to d at j s b u in
+    let h = up_to_last from to d at j s b u in
+    (omega (arith, ints, l, first.0), omega (arith, ints, h, last.1))
 
 one_later : (m : ℤ) (k : ℕ) → m +ℤ pos (suc (suc k)) ≡ (m +ℤ pos 1) +ℤ pos (suc k)
 one_later m k = omega (arith, ints)
@@ -221,8 +237,46 @@ behind_below s m (suc n) =
     (below_alike (λ j. (m +ℤ pos (suc (suc j))) *ℤ s) (λ j. ((m +ℤ pos 1) +ℤ pos (suc j)) *ℤ s) n (λ j u. ap (λ k. k *ℤ s) (one_later m j))
     ∙ behind_below s (m +ℤ pos 1) n)
 
+pub between_behind : (from to : ℤ) (d : ℕ) (at : Times) → AreBetween from to d at → below (time_at at) at.len ≡ multiples_behind (pos d) (cut_down from d) at.len
+between_behind from to d at b =
+    below_alike (time_at at) (λ j. (cut_down from d +ℤ pos (suc j)) *ℤ pos d) at.len b.times ∙ behind_below (pos d) (cut_down from d) at.len
+
 count_is : (a b : ℤ) (n : ℕ) → a +ℤ pos n ≡ b → n ≡ unsigned_abs (b -ℤ a)
 count_is a b n h = grind (arith, ints)
+
+pub between_all : (from to : ℤ) (d : ℕ) (at : Times) → AreBetween from to d at → below (time_at at) at.len ≡ multiples d from to
+between_all from to d at b =
+    between_behind from to d at b ∙ ap (multiples_behind (pos d) (cut_down from d)) (count_is (cut_down from d) (cut_down to d) at.len b.len)
+
+-- ---- the multiples in a part
+
+pub part_is : (d : ℕ) (a z f g : ℤ) → 0 < d → a ≤ℤ f → f ≤ℤ g → g ≤ℤ z → filter (lies_in f g) (multiples d a z) ≡ multiples d f g
+part_is d a z f g s p o q =
+    those_within d s f g (cut_down a d) (unsigned_abs (cut_down z d -ℤ cut_down a d)) (in_steps d a f p) o
+    (subst (λ x. cut_down g d ≤ℤ x) (sym (counted d a z (omega (arith, ints, p, o, q)))) (in_steps d g z q))
+
+-- a test that only times in a part pass
+pub narrow : (test : ℤ → Bool) (d : ℕ) (a z f g : ℤ) → 0 < d → a ≤ℤ f → f ≤ℤ g → g ≤ℤ z → ((u : ℤ) → test u ≡ true → lies_in f g u ≡ true)
+    → filter test (multiples d a z) ≡ filter test (multiples d f g)
+narrow test d a z f g s p o q h =
+    sym (filter_within test (lies_in f g) h (multiples d a z)) ∙ ap (filter test) (part_is d a z f g s p o q)
+
+-- a test that all times in a part pass
+pub all_pass : (test : ℤ → Bool) (d : ℕ) (f g : ℤ) → 0 < d → f ≤ℤ g → ((u : ℤ) → lies_in f g u ≡ true → test u ≡ true) → multiples d f g ≡ filter test (multiples d f g)
+all_pass test d f g s o h =
+    let own = part_is d f g f g s (omega (arith, ints)) o (omega (arith, ints)) in
+    sym own ∙ sym (filter_passing test (lies_in f g) h (multiples d f g)) ∙ ap (filter test) own
+
+behind_rise : (d : ℕ) (m : ℤ) (n : ℕ) → 0 < d → Each (λ y. (m *ℤ pos d) <ℤ y) (multiples_behind (pos d) m n) × Rises (multiples_behind (pos d) m n)
+behind_rise d m zero s = (tt, tt)
+behind_rise d m (suc n) s =
+    let r = behind_rise d (m +ℤ pos 1) n s in
+    let e = next_time m d in
+    let l : (m *ℤ pos d) <ℤ ((m +ℤ pos 1) *ℤ pos d) = omega (arith, ints, e, s) in
+    ((l, each_weaker (λ y. ((m +ℤ pos 1) *ℤ pos d) <ℤ y) (λ y. (m *ℤ pos d) <ℤ y) (λ y h. omega (arith, ints, l, h)) (multiples_behind (pos d) (m +ℤ pos 1) n) r.0), r)
+
+pub multiples_rise : (d : ℕ) (a z : ℤ) → 0 < d → Rises (multiples d a z)
+multiples_rise d a z s = (behind_rise d (cut_down a d) (unsigned_abs (cut_down z d -ℤ cut_down a d)) s).1
 
 -- ---- steps longer than all times
 
@@ -279,20 +333,143 @@ shortened r s = elim (min_is r 2251799813685248) [
   | inr e ↦ shortened_long r (min r 2251799813685248) (omega (arith, e.0)) (omega (arith, e.1))
 ]
 
--- ---- the multiples over all windows of a run
+-- ---- the times that are read
 
-wider : (a b c e : ℤ) → a ≤ℤ b → b ≤ℤ c → c ≤ℤ e → unsigned_abs (c -ℤ b) ≤ unsigned_abs (e -ℤ a)
-wider a b c e p q r = grind (arith, ints)
+pub lies_low : (from to u : ℤ) → lies_in from to u ≡ true → from <ℤ u
+lies_low from to u h = grind (arith, ints)
+
+pub lies_high : (from to u : ℤ) → lies_in from to u ≡ true → u ≤ℤ to
+lies_high from to u h = grind (arith, ints)
+
+module _ (range : ℕ) (times : Times) where
+  abbrev from_at : ℕ → ℤ
+  from_at k = time_at times k -ℤ pos range
+
+  abbrev first : ℤ
+  first = from_at 0
+
+  abbrev last : ℤ
+  last = time_at times (times.len - 1)
+
+  -- where the window before a step ends
+  abbrev pub end_at : ℕ → ℤ
+  end_at zero = first
+  end_at (suc n) = time_at times n
+
+  pub window_rises : (k : ℕ) → from_at k ≤ℤ time_at times k
+  window_rises k = omega (arith, ints)
+
+  pub none_read : (us : List ℤ) → filter (is_read range times 0) us ≡ []
+  none_read [] = refl
+  none_read (u ∷ us) = none_read us
+
+  -- what is in a window is read
+  pub is_in : (n k : ℕ) (u : ℤ) → k < n → lies_in (from_at k) (time_at times k) u ≡ true → is_read range times n u ≡ true
+  is_in zero k u l h = absurd (omega (arith, l))
+  is_in (suc n) k u l h = elim (lt_or_is k n l) as (λ _. is_read range times (suc n) u ≡ true) [
+    | inl i ↦ or_left (is_read range times n u) (lies_in (from_at n) (time_at times n) u) (is_in n k u i h)
+    | inr i ↦ or_right (is_read range times n u) (lies_in (from_at n) (time_at times n) u) (ap (λ j. lies_in (from_at j) (time_at times j) u) (sym i) ∙ h)
+  ]
+
+  -- and what is read is in one of them
+  pub in_one : (P : ℤ → Type 0) (n : ℕ) (u : ℤ) → ((k : ℕ) → k < n → lies_in (from_at k) (time_at times k) u ≡ true → P u) → is_read range times n u ≡ true → P u
+  in_one P zero u f h = cc
+  in_one P (suc n) u f h = elim (or_cases (is_read range times n u) (lies_in (from_at n) (time_at times n) u) h) as (λ _. P u) [
+    | inl a ↦ in_one P n u (λ k l i. f k (omega (arith, l)) i) a
+    | inr b ↦ f n (omega arith) b
+  ]
+
+  module _ (ordered : AreOrdered times) where
+    in_order : (j k : ℕ) → j ≤ k → k < times.len → time_at times j ≤ℤ time_at times k
+    in_order j zero l h =
+        let e : j ≡ 0 = omega (arith, l) in
+        subst (λ i. time_at times i ≤ℤ time_at times 0) (sym e) (omega (arith, ints))
+    in_order j (suc k) l h = elim (lt_or_is j (suc k) (omega (arith, l))) as (λ _. time_at times j ≤ℤ time_at times (suc k)) [
+      | inl a ↦ let p = in_order j k (omega (arith, a)) (omega (arith, h)) in let q = ordered k h in omega (arith, ints, p, q)
+      | inr e ↦ subst (λ i. time_at times i ≤ℤ time_at times (suc k)) (sym e) (omega (arith, ints))
+    ]
+
+    pub low_ordered : (k : ℕ) → k < times.len → first ≤ℤ from_at k
+    low_ordered k l = let p = in_order 0 k (omega arith) l in omega (arith, ints, p)
+
+    pub high_ordered : (k : ℕ) → k < times.len → time_at times k ≤ℤ last
+    high_ordered k l = in_order k (times.len - 1) (omega (arith, l)) (omega (arith, l))
+
+    pub read_between : (u : ℤ) → is_read range times times.len u ≡ true → lies_in first last u ≡ true
+    read_between u h = in_one (λ v. lies_in first last v ≡ true) times.len u
+        (λ k l i.
+        let a = lies_low (from_at k) (time_at times k) u i in
+        let b = lies_high (from_at k) (time_at times k) u i in
+        let p = low_ordered k l in
+        let q = high_ordered k l in
+        inside_is first last u (omega (arith, ints, a, p)) (omega (arith, ints, b, q))) h
+
+    -- where the windows touch, all times are read
+    pub covers : AreTouching range times → (n : ℕ) → n < times.len → (u : ℤ) → first <ℤ u → u ≤ℤ time_at times n → is_read range times (suc n) u ≡ true
+    covers touch zero l u a b = inside_is first (time_at times 0) u a b
+    covers touch (suc n) l u a b = elim (int_cases (time_at times n) u) as (λ _. is_read range times (suc (suc n)) u ≡ true) [
+      | inl h ↦ let t = touch n l in
+          or_right (is_read range times (suc n) u) (lies_in (from_at (suc n)) (time_at times (suc n)) u)
+          (inside_is (from_at (suc n)) (time_at times (suc n)) u (omega (arith, ints, t, h)) b)
+      | inr h ↦ or_left (is_read range times (suc n) u) (lies_in (from_at (suc n)) (time_at times (suc n)) u) (covers touch n (omega (arith, l)) u a h)
+    ]
+
+    -- ---- window by window
+
+    read_end : (n : ℕ) (u : ℤ) → n ≤ times.len → is_read range times n u ≡ true → u ≤ℤ end_at n
+    read_end zero u l h = cc
+    read_end (suc n) u l h = in_one (λ v. v ≤ℤ time_at times n) (suc n) u
+        (λ k m i. let b = lies_high (from_at k) (time_at times k) u i in let q = in_order k n (omega (arith, m)) (omega (arith, l)) in omega (arith, ints, b, q)) h
+
+    behind_end : (n : ℕ) (u : ℤ) → n < times.len → from_at n <ℤ u → u ≤ℤ end_at n → is_read range times n u ≡ true
+    behind_end zero u l a b = absurd (omega (arith, ints, a, b))
+    behind_end (suc n) u l a b =
+        let o = ordered n l in
+        or_right (is_read range times n u) (lies_in (from_at n) (time_at times n) u) (inside_is (from_at n) (time_at times n) u (omega (arith, ints, a, o)) b)
+
+    pub before_end : (k : ℕ) → k < times.len → end_at k ≤ℤ time_at times k
+    before_end zero h = window_rises 0
+    before_end (suc k) h = ordered k h
+
+    -- what isn't read yet of the next window
+    module _ (n : ℕ) (l : n < times.len) (f : ℤ) (low : from_at n ≤ℤ f) (high : end_at n ≤ℤ f) (one : (f ≡ from_at n) ⊎ (f ≡ end_at n)) where
+      rest_of : (u : ℤ) (b : Bool) → is_read range times n u ≡ b → (b || lies_in f (time_at times n) u) ≡ (b || lies_in (from_at n) (time_at times n) u)
+      rest_of u true e = refl
+      rest_of u false e = same_truth (lies_in f (time_at times n) u) (lies_in (from_at n) (time_at times n) u)
+          (λ h. let a = lies_low f (time_at times n) u h in inside_is (from_at n) (time_at times n) u (omega (arith, ints, a, low)) (lies_high f (time_at times n) u h))
+          (λ h.
+          let a = lies_low (from_at n) (time_at times n) u h in
+          let b = lies_high (from_at n) (time_at times n) u h in
+          elim one as (λ _. lies_in f (time_at times n) u ≡ true) [
+            | inl g ↦ inside_is f (time_at times n) u (omega (arith, ints, g, a)) b
+            | inr g ↦ elim (int_cases f u) as (λ _. lies_in f (time_at times n) u ≡ true) [
+              | inl c ↦ inside_is f (time_at times n) u c b
+              | inr c ↦ let no : false ≡ true = sym e ∙ behind_end n u l a (omega (arith, ints, g, c)) in cc
+            ]
+          ])
+
+      pub window_more : (d : ℕ) → 0 < d
+          → filter (is_read range times n) (multiples d first last) ++ multiples d f (time_at times n) ≡ filter (is_read range times (suc n)) (multiples d first last)
+      window_more d s =
+          let p = low_ordered n l in
+          let o : f ≤ℤ time_at times n = ends one in
+          ap (λ us. filter (is_read range times n) (multiples d first last) ++ us)
+          (sym (part_is d first last f (time_at times n) s (omega (arith, ints, p, low)) o (high_ordered n l)))
+          ∙ filter_both (end_at n) (is_read range times n) (lies_in f (time_at times n)) (λ u h. read_end n u (omega (arith, l)) h)
+          (λ u h. let a = lies_low f (time_at times n) u h in omega (arith, ints, a, high)) (multiples d first last) (multiples_rise d first last s)
+          ∙ filter_agree (λ u. is_read range times n u || lies_in f (time_at times n) u) (is_read range times (suc n)) (λ u. rest_of u (is_read range times n u) refl) (multiples d first last) where
+            ends : (f ≡ from_at n) ⊎ (f ≡ end_at n) → f ≤ℤ time_at times n
+            ends (inl g) = let w = window_rises n in omega (arith, ints, g, w)
+            ends (inr g) = let w = before_end n l in omega (arith, ints, g, w)
+
+-- ---- the multiples over all windows of a run
 
 module _ (range r d : ℕ) (times : Times) (from to : ℤ) (s : 0 < r) (short : IsShortened r d) (some : 0 < times.len) (first : IsTime from) (last : IsTime to) (bounded : AreTimes times) (starts : AreStarts range times)
     (low : (k : ℕ) → k < times.len → from ≤ℤ (time_at times k -ℤ pos range)) (high : (k : ℕ) → k < times.len → time_at times k ≤ℤ to)
     (least : (bound : ℤ) → ((k : ℕ) → k < times.len → bound ≤ℤ (time_at times k -ℤ pos range)) → bound ≤ℤ from)
     (greatest : (bound : ℤ) → ((k : ℕ) → k < times.len → time_at times k ≤ℤ bound) → to ≤ℤ bound) where
-  window_rises : (k : ℕ) → (time_at times k -ℤ pos range) ≤ℤ time_at times k
-  window_rises k = omega (arith, ints)
-
   rises : from ≤ℤ to
-  rises = let l = low 0 some in let h = high 0 some in let w = window_rises 0 in omega (arith, ints, l, h, w)
+  rises = let l = low 0 some in let h = high 0 some in let w = window_rises range times 0 in omega (arith, ints, l, h, w)
 
   lowest : (l h : ℤ) → HoldWindows l h range times → l ≤ℤ from
   lowest l h w = least l (λ k u. (w.windows k u).0)
@@ -300,70 +477,49 @@ module _ (range r d : ℕ) (times : Times) (from to : ℤ) (s : 0 < r) (short : 
   highest : (l h : ℤ) → HoldWindows l h range times → to ≤ℤ h
   highest l h w = greatest h (λ k u. (w.windows k u).1)
 
-  pub too_many : 4294967295 < unsigned_abs (cut_down to d -ℤ cut_down from d) → AreTooMany range r times
-  too_many n l h w =
-      let a = lowest l h w in
-      let b = highest l h w in
-      let x : unsigned_abs (cut_down to d -ℤ cut_down from d) ≤ unsigned_abs (cut_down h r -ℤ cut_down l r) =
-      wider (cut_down l r) (cut_down from d) (cut_down to d) (cut_down h r)
-      (subst (λ z. cut_down l r ≤ℤ z) (sym (short.down from first)) (in_steps r l from a))
-      (in_steps d from to rises)
-      (subst (λ z. z ≤ℤ cut_down h r) (sym (short.down to last)) (in_steps r to h b)) in
-      let y : length (multiples r l h) ≡ unsigned_abs (cut_down h r -ℤ cut_down l r) = length_behind (pos r) (cut_down l r) (unsigned_abs (cut_down h r -ℤ cut_down l r)) in
-      omega (arith, n, x, y)
+  read_within : (u : ℤ) → is_read range times times.len u ≡ true → lies_in from to u ≡ true
+  read_within u h = in_one range times (λ v. lies_in from to v ≡ true) times.len u
+      (λ k l i.
+      let a = lies_low (time_at times k -ℤ pos range) (time_at times k) u i in
+      let b = lies_high (time_at times k -ℤ pos range) (time_at times k) u i in
+      let p = low k l in
+      let q = high k l in
+      inside_is from to u (omega (arith, ints, a, p)) (omega (arith, ints, b, q))) h
 
-  module _ (at : Times) (b : AreBetween from to d at) where
-    all_behind : below (time_at at) at.len ≡ multiples_behind (pos d) (cut_down from d) at.len
-    all_behind =
-        below_alike (time_at at) (λ j. (cut_down from d +ℤ pos (suc j)) *ℤ pos d) at.len b.times ∙ behind_below (pos d) (cut_down from d) at.len
+  -- the multiples that are read are those of any bounds
+  any_bounds : (l h : ℤ) → HoldWindows l h range times → filter (is_read range times times.len) (multiples r from to) ≡ filter (is_read range times times.len) (multiples r l h)
+  any_bounds l h w = sym (narrow (is_read range times times.len) r l h from to s (lowest l h w) rises (highest l h w) read_within)
 
-    all_are : below (time_at at) at.len ≡ multiples r from to
-    all_are =
-        all_behind
-        ∙ ap (multiples_behind (pos d) (cut_down from d)) (count_is (cut_down from d) (cut_down to d) at.len b.len)
-        ∙ short.alike from to first last rises
+  window_of_all : (k : ℕ) → k < times.len → filter (lies_in (time_at times k -ℤ pos range) (time_at times k)) (multiples d from to) ≡ multiples r (time_at times k -ℤ pos range) (time_at times k)
+  window_of_all k u =
+      part_is d from to (time_at times k -ℤ pos range) (time_at times k) short.some (low k u) (window_rises range times k) (high k u)
+      ∙ short.alike (time_at times k -ℤ pos range) (time_at times k) (starts k u) (bounded k u) (window_rises range times k)
 
-    above_from : (j : ℕ) → j < at.len → from <ℤ time_at at j
-    above_from j u =
-        subst (λ z. from <ℤ z) (sym (b.times j u)) (above d short.some (cut_down from d +ℤ pos (suc j)) from (omega (arith, ints)))
-
-    up_to_last : (j : ℕ) → j < at.len → time_at at j ≤ℤ to
-    up_to_last j u =
-        let l = b.len in
-        subst (λ z. z ≤ℤ to) (sym (b.times j u)) (up_to d short.some (cut_down from d +ℤ pos (suc j)) to (omega (arith, ints, u, l)))
-
+  -- as one run
+  module _ (at : Times) (b : AreBetween from to d at) (touch : AreOrdered times → AreTouching range times) where
     time_after : (j : ℕ) → suc j < at.len → time_at at (suc j) ≡ time_at at j +ℤ pos d
     time_after j u =
         let on : cut_down from d +ℤ pos (suc (suc j)) ≡ (cut_down from d +ℤ pos (suc j)) +ℤ pos 1 = omega (arith, ints) in
         b.times (suc j) u ∙ ap (λ x. x *ℤ pos d) on ∙ next_time (cut_down from d +ℤ pos (suc j)) d ∙ ap (λ x. x +ℤ pos d) (sym (b.times j (omega (arith, u))))
 
-    equal_ends : (l h : ℤ) → AreNarrowest l h range times → (l ≡ from) × (h ≡ to)
-    equal_ends l h n =
-        let a = lowest l h n.hold in
-        let e = highest l h n.hold in
-        let own : HoldWindows from to range times = record {
-          start = (omega (arith, ints, at_first times, low 0 some), omega (arith, ints, at_first times, high 0 some));
-          windows = λ k u. (low k u, high k u);
-        } in
-        let m = n.narrowest from to own in
-        (omega (arith, ints, a, m.0), omega (arith, ints, e, m.1))
+    all_read : AreOrdered times → (u : ℤ) → lies_in from to u ≡ true → is_read range times times.len u ≡ true
+    all_read o u h =
+        let a = lies_low from to u h in
+        let e = lies_high from to u h in
+        let p = least (time_at times 0 -ℤ pos range) (low_ordered range times o) in
+        let q = greatest (time_at times (times.len - 1)) (high_ordered range times o) in
+        let n : suc (times.len - 1) ≡ times.len = omega (arith, some) in
+        ap (λ k. is_read range times k u) (sym n)
+        ∙ covers range times o (touch o) (times.len - 1) (omega (arith, some)) u (omega (arith, ints, a, p)) (omega (arith, ints, e, q))
 
     pub are_over : AreMultiplesOver range r at times
     are_over = record {
-      bounded = λ j u.
-          let l = above_from j u in
-          let h = up_to_last j u in
-          (omega (arith, ints, l, first.0), omega (arith, ints, h, last.1));
+      bounded = between_times from to d at short.some first last b;
       rising = λ j u. let e = time_after j u in let o = short.some in omega (arith, ints, e, o);
-      all = λ l h n.
-          let e = equal_ends l h n in
-          all_are ∙ (λ i. multiples r (sym e.0 i) (sym e.1 i));
       windows = λ k u.
-          let a = time_at times k -ℤ pos range in
-          let z = time_at times k in
-          ap (filter (lies_in a z)) all_behind
-          ∙ those_within d short.some a z (cut_down from d) at.len (in_steps d from a (low k u)) (window_rises k) (subst (λ x. cut_down z d ≤ℤ x) (sym b.len) (in_steps d z to (high k u)))
-          ∙ short.alike a z (starts k u) (bounded k u) (window_rises k);
+          ap (filter (lies_in (time_at times k -ℤ pos range) (time_at times k))) (between_all from to d at b) ∙ window_of_all k u;
+      read = λ o l h w.
+          between_all from to d at b ∙ short.alike from to first last rises ∙ all_pass (is_read range times times.len) r from to s rises (all_read o) ∙ any_bounds l h w;
       start = λ l h w.
           let a = lowest l h w in
           let e = highest l h w in
@@ -371,34 +527,106 @@ module _ (range r d : ℕ) (times : Times) (from to : ℤ) (s : 0 < r) (short : 
       within = λ l h w j u.
           let a = lowest l h w in
           let e = highest l h w in
-          let p = above_from j u in
-          let q = up_to_last j u in
+          let p = above_from from to d at j short.some b u in
+          let q = up_to_last from to d at j short.some b u in
+          (omega (arith, ints, a, p), omega (arith, ints, e, q));
+    }
+
+  -- as a list
+  module _ (at : Times) (zero_first : at.start ≡ pos 0) (len : at.len ≡ length at.list.now) (list : at.list.now ≡ filter (is_read range times times.len) (multiples d from to)) where
+    listed_time : (j : ℕ) → j < at.len → time_at at j ≡ slice_index_or at.list.now j (pos 0)
+    listed_time j u = (λ i. zero_first i +ℤ from_list at.list.now at.step j (omega (arith, u, len)) i) ∙ nothing_more (slice_index_or at.list.now j (pos 0)) where
+      nothing_more : (z : ℤ) → pos 0 +ℤ z ≡ z
+      nothing_more z = omega (arith, ints)
+
+    listed_all : below (time_at at) at.len ≡ at.list.now
+    listed_all = ap (below (time_at at)) len ∙ list_below (time_at at) at.list.now (λ k u. listed_time k (omega (arith, u, len)))
+
+    listed_within : (j : ℕ) → j < at.len → lies_in from to (time_at at j) ≡ true
+    listed_within j u =
+        ap (lies_in from to) (listed_time j u)
+        ∙ each_at (λ v. lies_in from to v ≡ true) at.list.now j
+        (subst (Each (λ v. lies_in from to v ≡ true)) (sym list)
+        (each_weaker (λ v. is_read range times times.len v ≡ true) (λ v. lies_in from to v ≡ true) read_within (filter (is_read range times times.len) (multiples d from to))
+        (each_passes (is_read range times times.len) (multiples d from to))))
+        (omega (arith, u, len))
+
+    listed_rise : Rises at.list.now
+    listed_rise = subst Rises (sym list) (rises_filter (is_read range times times.len) (multiples d from to) (multiples_rise d from to short.some))
+
+    pub list_is_over : AreMultiplesOver range r at times
+    list_is_over = record {
+      bounded = λ j u.
+          let l = lies_low from to (time_at at j) (listed_within j u) in
+          let h = lies_high from to (time_at at j) (listed_within j u) in
+          (omega (arith, ints, l, first.0), omega (arith, ints, h, last.1));
+      rising = λ j u.
+          subst (λ z. z <ℤ time_at at (suc j)) (sym (listed_time j (omega (arith, u))))
+          (subst (λ z. slice_index_or at.list.now j (pos 0) <ℤ z) (sym (listed_time (suc j) u)) (rises_at at.list.now j listed_rise (omega (arith, u, len))));
+      windows = λ k u.
+          let test = lies_in (time_at times k -ℤ pos range) (time_at times k) in
+          ap (filter test) (listed_all ∙ list)
+          ∙ filter_within test (is_read range times times.len) (λ v h. is_in range times times.len k v u h) (multiples d from to)
+          ∙ window_of_all k u;
+      read = λ o l h w.
+          listed_all ∙ list ∙ ap (filter (is_read range times times.len)) (short.alike from to first last rises) ∙ any_bounds l h w;
+      start = λ l h w.
+          let z = w.zero in
+          (omega (arith, ints, zero_first, z.0), omega (arith, ints, zero_first, z.1));
+      within = λ l h w j u.
+          let a = lowest l h w in
+          let e = highest l h w in
+          let p = lies_low from to (time_at at j) (listed_within j u) in
+          let q = lies_high from to (time_at at j) (listed_within j u) in
           (omega (arith, ints, a, p), omega (arith, ints, e, q));
     }
 
 -- a run without steps
-no_multiples : (r : ℕ) (l h : ℤ) → l ≡ h → multiples r l h ≡ []
-no_multiples r l h e =
-    let z : unsigned_abs (cut_down l r -ℤ cut_down l r) ≡ 0 = grind (arith, ints) in
-    ap (multiples r l) (sym e) ∙ ap (multiples_behind (pos r) (cut_down l r)) z
-
 pub none_over : (range r : ℕ) (at times : Times) → at.len ≡ 0 → times.len ≡ 0 → at.start ≡ times.start → AreMultiplesOver range r at times
 none_over range r at times n m e = record {
   bounded = λ j u. absurd (omega (arith, u, n));
   rising = λ j u. absurd (omega (arith, u, n));
-  all = λ l h w.
-      let own : HoldWindows times.start times.start range times = record {
-        start = (omega (arith, ints), omega (arith, ints));
-        windows = λ k u. absurd (omega (arith, u, m));
-      } in
-      let t = w.narrowest times.start times.start own in
-      ap (below (time_at at)) n ∙ sym (no_multiples r l h (omega (arith, ints, t.0, t.1, w.hold.start.0, w.hold.start.1)));
   windows = λ k u. absurd (omega (arith, u, m));
+  read = λ o l h w. ap (below (time_at at)) n ∙ sym (ap (λ k. filter (is_read range times k) (multiples r l h)) m ∙ none_read range times (multiples r l h));
   start = λ l h w. (omega (arith, ints, e, w.start.0), omega (arith, ints, e, w.start.1));
   within = λ l h w j u. absurd (omega (arith, u, n));
 }
 
--- ---- the windows of a run of some steps
+-- ---- the calls
+
+pub order_more : (t : Times) (i : ℕ) (a b : ℤ) → ((k : ℕ) → suc k < i → time_at t k ≤ℤ time_at t (suc k)) → a ≡ time_at t i → b ≡ time_at t (i - 1) → b ≤ℤ a
+    → (k : ℕ) → suc k < i + 1 → time_at t k ≤ℤ time_at t (suc k)
+order_more t i a b h p q o k l = elim (lt_or_is (suc k) i (omega (arith, l))) as (λ _. time_at t k ≤ℤ time_at t (suc k)) [
+  | inl m ↦ h k m
+  | inr e ↦ let n : i - 1 ≡ k = omega (arith, e) in
+      subst (λ z. z ≤ℤ time_at t (suc k)) (q ∙ ap (time_at t) n) (subst (λ z. b ≤ℤ z) (p ∙ ap (time_at t) (sym e)) o)
+]
+
+pub touch_more : (range : ℕ) (t : Times) (i : ℕ) (a b : ℤ) → ((k : ℕ) → suc k < i → (time_at t (suc k) -ℤ pos range) ≤ℤ time_at t k) → a ≡ time_at t i -ℤ pos range → b ≡ time_at t (i - 1) → a ≤ℤ b
+    → (k : ℕ) → suc k < i + 1 → (time_at t (suc k) -ℤ pos range) ≤ℤ time_at t k
+touch_more range t i a b h p q o k l = elim (lt_or_is (suc k) i (omega (arith, l))) as (λ _. (time_at t (suc k) -ℤ pos range) ≤ℤ time_at t k) [
+  | inl m ↦ h k m
+  | inr e ↦ let n : i - 1 ≡ k = omega (arith, e) in
+      subst (λ z. (time_at t (suc k) -ℤ pos range) ≤ℤ z) (q ∙ ap (time_at t) n) (subst (λ z. z ≤ℤ b) (p ∙ ap (λ j. time_at t j -ℤ pos range) (sym e)) o)
+]
+
+pub push_more : (f : ℕ → ℤ) (i : ℕ) (v : ℤ) (xs ys zs : List ℤ) → zs ≡ ys ++ (v ∷ []) → ys ≡ xs ++ below f i → v ≡ f i → zs ≡ xs ++ below f (i + 1)
+push_more f i v xs ys zs p q e =
+    p ∙ (λ j. q j ++ (e j ∷ [])) ∙ append_assoc xs (below f i) (f i ∷ []) ∙ ap (λ us. xs ++ us) (below_more f i)
+
+-- the rest of a window behind those before it
+pub push_window : (range d : ℕ) (times : Times) (ordered : AreOrdered times) (n : ℕ) (f t : ℤ) (ys zs : List ℤ) → 0 < d → n < times.len → f ≡ int_max (time_at times n -ℤ pos range) (end_at range times n) → t ≡ time_at times n
+    → zs ≡ ys ++ multiples d f t
+    → ys ≡ filter (is_read range times n) (multiples d (time_at times 0 -ℤ pos range) (time_at times (times.len - 1)))
+    → zs ≡ filter (is_read range times (n + 1)) (multiples d (time_at times 0 -ℤ pos range) (time_at times (times.len - 1)))
+push_window range d times ordered n f t ys zs s l e g p q =
+    let w = greater (time_at times n -ℤ pos range) (end_at range times n) f e in
+    p ∙ (λ i. q i ++ multiples d f (g i))
+    ∙ window_more range times ordered n l f w.0 w.1 w.2 d s
+    ∙ ap (λ k. filter (is_read range times k) (multiples d (time_at times 0 -ℤ pos range) (time_at times (times.len - 1)))) (sym (add-one n))
+
+pub all_pushed : (f : ℕ → ℤ) (i n : ℕ) (xs ys ms : List ℤ) → ys ≡ xs ++ below f i → i ≡ n → below f n ≡ ms → ys ≡ xs ++ ms
+all_pushed f i n xs ys ms p e q = p ∙ ap (λ us. xs ++ us) (ap (below f) e ∙ q)
 
 le_of : (a b : ℤ) → int_le a b ≡ true → a ≤ℤ b
 le_of a b h = grind (arith, ints, h)
@@ -406,9 +634,9 @@ le_of a b h = grind (arith, ints, h)
 pub rises_to : (range : ℕ) (first last t : ℤ) → int_le first t ≡ true → int_le t last ≡ true → (first -ℤ pos range) ≤ℤ last
 rises_to range first last t h k = let a = le_of first t h in let b = le_of t last k in omega (arith, ints, a, b)
 
-match_by : {X : Type 0} {P : Type 0} {Q : X → Type 0} (o : Option X) (A : Type 0) (B : X → Type 0) → (P → A) → ((x : X) → Q x → B x) → MatchOption o P Q → MatchOption o A B
-match_by None A B f g h = f h
-match_by (Some x) A B f g h = g x h
+some_by : {X : Type 0} {P Q : X → Type 0} (o : Option X) → ((x : X) → P x → Q x) → IfSome o P → IfSome o Q
+some_by None f h = h
+some_by (Some x) f h = f x h
 
 -- from the least time less the range to the greatest
 pub record AreOuter (range : ℕ) (first last from to : ℤ) (times : Times) : Type 0 where
@@ -422,9 +650,8 @@ pub record AreOuter (range : ℕ) (first last from to : ℤ) (times : Times) : T
   pub greatest : (bound : ℤ) → ((k : ℕ) → k < times.len → time_at times k ≤ℤ bound) → last ≤ℤ bound
 
 pub found_over : (range r d : ℕ) (times : Times) (first last from to : ℤ) (o : Option Times) → 0 < r → d ≡ min r 2251799813685248 → 0 < times.len → AreTimes times → AreStarts range times
-    → AreOuter range first last from to times → MatchOption o (4294967295 < unsigned_abs (cut_down to d -ℤ cut_down from d)) (AreBetween from to d)
-    → MatchOption o (AreTooMany range r times) (λ at. AreMultiplesOver range r at times)
-found_over range r d times first last from to o s e some bounded starts outer h =
+    → (AreOrdered times → AreTouching range times) → AreOuter range first last from to times → IfSome o (AreBetween from to d) → IfSome o (λ at. AreMultiplesOver range r at times)
+found_over range r d times first last from to o s e some bounded starts touch outer h =
     let short : IsShortened r d = subst (IsShortened r) (sym e) (shortened r s) in
     let low : (k : ℕ) → k < times.len → from ≤ℤ (time_at times k -ℤ pos range) =
     λ k u. let l : first ≤ℤ time_at times k = le_of first (time_at times k) (outer.low k u) in omega (arith, ints, l, outer.from_is) in
@@ -434,6 +661,12 @@ found_over range r d times first last from to o s e some bounded starts outer h 
     λ bound g. let l : (bound +ℤ pos range) ≤ℤ first = outer.least (bound +ℤ pos range) (λ k u. let x : bound ≤ℤ (time_at times k -ℤ pos range) = g k u in omega (arith, ints, x)) in omega (arith, ints, l, outer.from_is) in
     let greatest : (bound : ℤ) → ((k : ℕ) → k < times.len → time_at times k ≤ℤ bound) → to ≤ℤ bound =
     λ bound g. let l : last ≤ℤ bound = outer.greatest bound g in omega (arith, ints, l, outer.to_is) in
-    match_by o (AreTooMany range r times) (λ at. AreMultiplesOver range r at times)
-    (too_many range r d times from to s short some outer.from_time outer.to_time bounded starts low high least greatest)
-    (are_over range r d times from to s short some outer.from_time outer.to_time bounded starts low high least greatest) h
+    some_by o (λ at b. are_over range r d times from to s short some outer.from_time outer.to_time bounded starts low high least greatest at b touch) h
+
+pub listed_over : (range r d : ℕ) (times at : Times) → 0 < r → d ≡ min r 2251799813685248 → 0 < times.len → AreTimes times → AreStarts range times → AreOrdered times
+    → IsListOver range d at times → AreMultiplesOver range r at times
+listed_over range r d times at s e some bounded starts ordered list =
+    let short : IsShortened r d = subst (IsShortened r) (sym e) (shortened r s) in
+    let n : times.len - 1 < times.len = omega (arith, some) in
+    list_is_over range r d times (time_at times 0 -ℤ pos range) (time_at times (times.len - 1)) s short some (starts 0 some) (bounded (times.len - 1) n) bounded starts
+    (low_ordered range times ordered) (high_ordered range times ordered) (λ bound g. g 0 some) (λ bound g. g (times.len - 1) n) at list.start list.len list.list

@@ -1,6 +1,6 @@
 -- The times at which the inner expression of a subquery is evaluated, once for all steps of a run, and what a function makes
 -- of its values there: this project's own.
-use Rattle.std.specs.Prelude.{◌≡◌, ◌<◌, ℕ, zero, suc, ℤ, pos, ◌+ℤ◌, ◌-ℤ◌, ◌*ℤ◌, ◌≤ℤ◌, ◌<ℤ◌, int_le, int_lt, Bool, ◌&&◌, cond, Option, None, Some, List, [], ◌∷◌, ◌++◌, filter, length, map}
+use Rattle.std.specs.Prelude.{◌≡◌, ◌<◌, ℕ, zero, suc, ℤ, pos, ◌+ℤ◌, ◌-ℤ◌, ◌*ℤ◌, ◌≤ℤ◌, ◌<ℤ◌, int_le, int_lt, Bool, false, ◌&&◌, ◌||◌, ◌-◌, cond, Option, None, Some, List, [], ◌∷◌, ◌++◌, filter, length, map}
 use Rattle.pf_base.specs.declared.plain.Sample.{Sample}
 use Rattle.pf_columns.specs.Columns.{ColumnData, value_in}
 use Rattle.pf_columns.specs.Steps.{StepsData, bad_in, step_at}
@@ -28,31 +28,42 @@ lies_in from to u = int_lt from u && int_le u to
 abbrev pub AreRising : Times → Type 0
 AreRising at = (j : ℕ) → suc j < at.len → time_at at j <ℤ time_at at (suc j)
 
--- from `low` to `high` stand the start of a run and all windows of so many milliseconds before its times
+-- no time is below the one before it
+abbrev pub AreOrdered : Times → Type 0
+AreOrdered times = (k : ℕ) → suc k < times.len → time_at times k ≤ℤ time_at times (suc k)
+
+-- no window of so many milliseconds before a time begins behind the time before it
+abbrev pub AreTouching : ℕ → Times → Type 0
+AreTouching range times = (k : ℕ) → suc k < times.len → (time_at times (suc k) -ℤ pos range) ≤ℤ time_at times k
+
+-- a time in the window of so many milliseconds before one of the first n times
+abbrev pub is_read : ℕ → Times → ℕ → ℤ → Bool
+is_read range times zero u = false
+is_read range times (suc n) u = is_read range times n u || lies_in (time_at times n -ℤ pos range) (time_at times n) u
+
+-- from `low` to `high` stand 0, the start of a run and all windows of so many milliseconds before its times
 pub record HoldWindows (low high : ℤ) (range : ℕ) (times : Times) : Type 0 where
+  pub zero : (low ≤ℤ pos 0) × (pos 0 ≤ℤ high)
   pub start : (low ≤ℤ times.start) × (times.start ≤ℤ high)
   pub windows : (k : ℕ) → k < times.len → (low ≤ℤ (time_at times k -ℤ pos range)) × (time_at times k ≤ℤ high)
 
--- and no narrower bounds hold them
-pub record AreNarrowest (low high : ℤ) (range : ℕ) (times : Times) : Type 0 where
-  pub hold : HoldWindows low high range times
-  pub narrowest : (l h : ℤ) → HoldWindows l h range times → (l ≤ℤ low) × (high ≤ℤ h)
-
--- the multiples of a resolution from the first of these windows to the last
+-- the multiples of a resolution in these windows, in order and each once; and no others where the times are in order
 pub record AreMultiplesOver (range resolution : ℕ) (at times : Times) : Type 0 where
   pub bounded : AreTimes at
   pub rising : AreRising at
-  pub all : (low high : ℤ) → AreNarrowest low high range times → below (time_at at) at.len ≡ multiples resolution low high
   pub windows : (k : ℕ) → k < times.len
       → filter (lies_in (time_at times k -ℤ pos range) (time_at times k)) (below (time_at at) at.len)
       ≡ multiples resolution (time_at times k -ℤ pos range) (time_at times k)
+  pub read : AreOrdered times → (low high : ℤ) → HoldWindows low high range times
+      → below (time_at at) at.len ≡ filter (is_read range times times.len) (multiples resolution low high)
   pub start : (low high : ℤ) → HoldWindows low high range times → (low ≤ℤ at.start) × (at.start ≤ℤ high)
   pub within : (low high : ℤ) → HoldWindows low high range times → (j : ℕ) → j < at.len → (low ≤ℤ time_at at j) × (time_at at j ≤ℤ high)
 
--- more than a run has steps
-abbrev pub AreTooMany : ℕ → ℕ → Times → Type 0
-AreTooMany range resolution times =
-    (low high : ℤ) → HoldWindows low high range times → 4294967295 < length (multiples resolution low high)
+-- a list of the multiples of a step in the windows before times in order
+pub record IsListOver (range step : ℕ) (at times : Times) : Type 0 where
+  pub start : at.start ≡ pos 0
+  pub len : at.len ≡ length at.list.now
+  pub list : at.list.now ≡ filter (is_read range times times.len) (multiples step (time_at times 0 -ℤ pos range) (time_at times (times.len - 1)))
 
 -- the multiples of a step in (from, to]
 pub record AreBetween (from to : ℤ) (step : ℕ) (at : Times) : Type 0 where

@@ -1,6 +1,6 @@
 //! Instant selectors over a whole run.
 
-ghost use Rattle.std.specs.Prelude.{◌≡◌, ◌<◌, ◌≤◌, ℕ, true, Some, List, IfOk, length, map, option_map};
+ghost use Rattle.std.specs.Prelude.{◌≡◌, ◌<◌, ◌≤◌, ℕ, int_le, true, Some, List, IfOk, length, map, option_map};
 ghost use Rattle.std.specs.List.{All};
 ghost use Rattle.pf_base.specs.declared.plain.Row.{Row};
 ghost use Rattle.pf_block.specs.Samples.{rises, until};
@@ -20,7 +20,7 @@ ghost use Rattle.pf_selectors.specs.SeriesColumns.{labels_read, read_at, read_co
 ghost use Rattle.pf_selectors.specs.Times.{AreTimes, time_at};
 
 use crate::cursor::{moved, newest, read};
-use crate::times::Times;
+use crate::times::{Span, Times};
 use pf_base::{Labels, OutOfMemory, Sample, Value};
 use pf_block::Snap;
 use pf_columns::{Column, StepCells, normalised};
@@ -93,21 +93,24 @@ fn values_read(
     Ok(found)
 }
 
-/// The column of a series. `samples` is overwritten.
+/// The column of a series, whose times are within a span. `samples` is overwritten.
 fn read_column(
     alloc: Global,
     reading: Reading,
     snap: &Snap,
     id: u32,
     times: &Times,
+    span: Span,
     samples: &mut Vec<Sample>,
 ) -> Result<Column, OutOfMemory>
     requires inside { id < length snap.now.labels }
     requires times { AreTimes times.now }
-    requires some { 0 < times.now.len }
+    requires first { IsTime span.first }
+    requires last { IsTime span.last }
+    requires low { (k : ℕ) → k < times.now.len → int_le span.first (time_at times.now k) ≡ true }
+    requires high { (k : ℕ) → k < times.now.len → int_le (time_at times.now k) span.last ≡ true }
     ensures { IfOk result (λ c. c ≡ read_column reading snap.now times.now id) }
 {
-    let span = times.span();
     read(snap, id, span.first - LOOKBACK, span.last, samples)?;
     Ok(Column {
         labels: labels_read(reading, snap.labels(id))?,
@@ -127,10 +130,11 @@ fn read_columns(
     requires some { 0 < times.now.len }
     ensures { IfOk result (λ v. v.items ≡ map (read_column reading snap.now times.now) ids.now) }
 {
+    let span = times.span();
     let mut columns = Vec::with_capacity(alloc, ids.len())?;
     let mut samples = Vec::new(alloc);
     for id in ids {
-        columns.push(read_column(alloc, reading, snap, *id, times, &mut samples)?)?;
+        columns.push(read_column(alloc, reading, snap, *id, times, span, &mut samples)?)?;
     }
     Ok(columns)
 }

@@ -6,8 +6,8 @@
 //! - `ranged` is a function of a range selector: for each series its value over the window before each time.
 //! - `sample_times` is the function `timestamp` of an instant selector: the times of the samples that are read.
 //! - `over_moments` is a function of a subquery, from what its inner expression is at the times that `multiples_over` gives.
-//! - `Times` are the times of a run. They are those that are read at: `@` and the offset are put in before, so that a
-//!   constant `@` has step 0.
+//! - `Times` are the times of a run, at equal distances or of a list. They are those that are read at: `@` and the offset are
+//!   put in before, so that a constant `@` has step 0.
 //!
 //! Series are named by their ids in the snapshot. Each one's samples in the run's range are read once, and walked as the
 //! times move on.

@@ -284,7 +284,7 @@ fn columns_over(
 /// multiples of `resolution` that `multiples_over` gives; a scalar has no elements. Each label set's values in the window of
 /// `range` milliseconds before a step are its samples there, and the earliest error in the window is the step's. All functions
 /// but `last_over_time` drop the metric name. `absent_over_time` gives one element with the labels `absent` where the window
-/// has no value. Where the windows are apart, what is between them is read past. Prometheus, Querying basics: Subquery.
+/// has no value. What is between the windows is read past. Prometheus, Querying basics: Subquery.
 pub fn over_moments(
     alloc: Global,
     f: RangeFn,

@@ -1,6 +1,6 @@
 //! Functions of range selectors over a whole run.
 
-ghost use Rattle.std.specs.Prelude.{◌≡◌, ◌<◌, ◌≤◌, ◌-ℤ◌, ◌≤ℤ◌, ℕ, pos, true, cond, is_some, None, Some, List, IfOk, OnOk, length, map};
+ghost use Rattle.std.specs.Prelude.{◌≡◌, ◌<◌, ◌≤◌, ◌-ℤ◌, ◌≤ℤ◌, ℕ, pos, int_le, true, cond, is_some, None, Some, List, IfOk, OnOk, length, map};
 ghost use Rattle.std.specs.List.{All, list_all};
 ghost use Rattle.pf_base.specs.declared.plain.Row.{Row};
 ghost use Rattle.pf_block.specs.Samples.{is_within, rises, until, window_of};
@@ -14,12 +14,13 @@ ghost use Rattle.pf_model.specs.Evaluation.{windows};
 ghost use Rattle.pf_model.specs.Log.{AreApart};
 ghost use Rattle.pf_model.specs.Micros.{one};
 ghost use Rattle.pf_model.specs.Outcomes.{of_series, ranged_labels};
+ghost use Rattle.pf_range.specs.Windows.{IsTime};
 ghost use Rattle.pf_store.specs.Standing.{StandsFor};
 ghost use Rattle.pf_selectors.specs.SeriesColumns.{range_column, unless_present, unless_some, values_over, window_at};
 ghost use Rattle.pf_selectors.specs.Times.{AreStarts, AreTimes, time_at};
 
 use crate::cursor::{moved, newest, read};
-use crate::times::Times;
+use crate::times::{Span, Times};
 use pf_base::{Labels, OutOfMemory, Sample, Value};
 use pf_block::{Snap, Window};
 use pf_columns::{Column, StepCells, normalised};
@@ -82,16 +83,18 @@ fn read_windows(
     id: u32,
     range: u64,
     times: &Times,
+    span: Span,
     samples: &mut Vec<Sample>,
 ) -> Result<(), OutOfMemory>
     requires inside { id < length snap.now.labels }
-    requires times { AreTimes times.now }
-    requires starts { AreStarts range times.now }
-    requires some { 0 < times.now.len }
+    requires first { IsTime span.first }
+    requires start { IsTime (span.first -ℤ pos range) }
+    requires last { IsTime span.last }
+    requires low { (k : ℕ) → k < times.now.len → int_le span.first (time_at times.now k) ≡ true }
+    requires high { (k : ℕ) → k < times.now.len → int_le (time_at times.now k) span.last ≡ true }
     ensures rises { OnOk result (rises samples.new.items ≡ true) }
     ensures windows { OnOk result ((k : ℕ) → k < times.now.len → window_at range samples.new.items times.now k ≡ window_at range (samples_of snap.now id) times.now k) }
 {
-    let span = times.span();
     let first = span.first - range as i64;
     read(snap, id, first, span.last, samples)?;
     Ok(())
@@ -105,15 +108,20 @@ fn range_column(
     snap: &Snap,
     id: u32,
     times: &Times,
+    span: Span,
     samples: &mut Vec<Sample>,
 ) -> Result<Column, OutOfMemory>
     requires inside { id < length snap.now.labels }
     requires times { AreTimes times.now }
     requires starts { AreStarts range times.now }
-    requires some { 0 < times.now.len }
+    requires first { IsTime span.first }
+    requires start { IsTime (span.first -ℤ pos range) }
+    requires last { IsTime span.last }
+    requires low { (k : ℕ) → k < times.now.len → int_le span.first (time_at times.now k) ≡ true }
+    requires high { (k : ℕ) → k < times.now.len → int_le (time_at times.now k) span.last ≡ true }
     ensures { IfOk result (λ c. c ≡ range_column f range snap.now times.now id) }
 {
-    read_windows(snap, id, range, times, samples)?;
+    read_windows(snap, id, range, times, span, samples)?;
     Ok(Column {
         labels: labels_over(f, snap.labels(id))?,
         values: values_over(alloc, f, range, samples, times)?,
@@ -134,10 +142,11 @@ fn range_columns(
     requires some { 0 < times.now.len }
     ensures { IfOk result (λ v. v.items ≡ map (range_column f range snap.now times.now) ids.now) }
 {
+    let span = times.span();
     let mut columns = Vec::with_capacity(alloc, ids.len())?;
     let mut samples = Vec::new(alloc);
     for id in ids {
-        columns.push(range_column(alloc, f, range, snap, *id, times, &mut samples)?)?;
+        columns.push(range_column(alloc, f, range, snap, *id, times, span, &mut samples)?)?;
     }
     Ok(columns)
 }
@@ -188,8 +197,9 @@ fn absent_values(
 {
     let mut values = vec![in alloc; Some(unit()); times.len as usize]?;
     let mut samples = Vec::new(alloc);
+    let span = times.span();
     for id in ids {
-        read_windows(snap, *id, range, times, &mut samples)?;
+        read_windows(snap, *id, range, times, span, &mut samples)?;
         note_present(&mut values, range, &samples, times);
     }
     Ok(values)

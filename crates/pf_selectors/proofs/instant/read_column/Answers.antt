@@ -10,10 +10,9 @@ returns c =
     let r = c.args.reading in
     let times = c.args.times.now in
     let xs = samples_of c.args.snap.now c.args.id in
-    let span = c.span-span in
     let labels = c.in_ok-labels_read.ensures ∙ ap (labels_read r) c.labels.ensures in
     let values =
     c.in_ok-values_read.ensures ∙ ap (λ ys. values_read r ys times) c.deref.ensures.value
-    ∙ read_alike times xs c.read.new.samples.items span.result.first span.result.last _ _ c.in_ok-read.ensures.samples
-    (omega (arith, ints, span.ensures.last)) span.ensures.low span.ensures.high r (omega (arith, ints, span.ensures.first)) in
+    ∙ read_alike times xs c.read.new.samples.items c.args.span.first c.args.span.last _ _ c.in_ok-read.ensures.samples
+    (omega (arith, ints, c.requires.last)) c.requires.low c.requires.high r (omega (arith, ints, c.requires.first)) in
     λ i. record { labels = labels i; values = values i }

@@ -6,7 +6,6 @@ use Rattle.pf_selectors.proofs.windows.read_windows.Goals as goal
 
 pub returns-clause-windows : goal.returns-clause-windows
 returns-clause-windows c =
-    let span = c.span-span in
-    let s = span.ensures.starts c.args.range c.requires.starts in
-    windows_alike c.args.times.now (samples_of c.args.snap.now c.args.id) c.read.new.samples.items span.result.first span.result.last _ _ c.in_ok-read.ensures.samples
-    (omega (arith, ints, span.ensures.last)) span.ensures.low span.ensures.high c.args.range (omega (arith, ints, span.ensures.first, s.0, s.1))
+    let s = c.requires.start in
+    windows_alike c.args.times.now (samples_of c.args.snap.now c.args.id) c.read.new.samples.items c.args.span.first c.args.span.last _ _ c.in_ok-read.ensures.samples
+    (omega (arith, ints, c.requires.last)) c.requires.low c.requires.high c.args.range (omega (arith, ints, c.requires.first, s.0, s.1))
