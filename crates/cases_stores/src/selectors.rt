@@ -80,11 +80,11 @@ fn push_columns(out: &mut Output, steps: &Result<StepCells, OutOfMemory>, len: u
 
 /// A row's call, over the times of its setting.
 #[derive(Drop)]
-struct Asked {
+struct Asked<'a> {
     name: Text,
     range: u64,
     absent: Labels,
-    times: Times,
+    times: Times<'a>,
 }
 
 /// Appends what a function gives of the series of these ids.
@@ -138,10 +138,11 @@ fn push_subquery(out: &mut Output, asked: &Asked, resolution: u64, snap: &Snap, 
     if resolution == 0 || !times.are_bounded(asked.range) {
         return out.text("too far");
     }
-    let Some(at) = &multiples_over(asked.range, resolution, times) else {
+    let alloc = out.alloc();
+    let mut list = Vec::new(alloc);
+    let Ok(at) = &multiples_over(asked.range, resolution, times, &mut list) else {
         return out.text("too many");
     };
-    let alloc = out.alloc();
     match &selected(alloc, snap, ids, at) {
         Ok(moments) => {
             let steps = over_moments(
@@ -167,13 +168,14 @@ fn push_asked(out: &mut Output, asked: &Asked, snap: &Snap, matchers: &Matchers)
     }
 }
 
-fn times_of(out: &mut Output, setting: &Setting) -> Times {
+fn times_of<'a>(out: &mut Output, setting: &Setting) -> Times<'a> {
     let (start, rest) = cut(setting.words(out, "run"));
     let (step, len) = cut(rest);
     Times {
         start: out.number(start),
         step: out.number(step),
         len: out.number(len),
+        list: &[],
     }
 }
 
@@ -185,7 +187,7 @@ fn absent_of(out: &mut Output, setting: &Setting) -> Option<Labels> {
     }
 }
 
-fn asked_of(out: &mut Output, setting: &Setting, name: &str, range: &str) -> Option<Asked> {
+fn asked_of<'a>(out: &mut Output, setting: &Setting, name: &str, range: &str) -> Option<Asked<'a>> {
     let range = out.number(range);
     let times = times_of(out, setting);
     let absent = absent_of(out, setting)?;

@@ -1,5 +1,5 @@
 -- The times of a grid, and those that selectors read at.
-use Rattle.std.proofs.Common.{◌≡◌, ◌<◌, ◌≤◌, ◌+◌, ◌-◌, ◌*◌, ℕ, zero, suc, ℤ, pos, negsuc, ◌+ℤ◌, ◌*ℤ◌, ◌≤ℤ◌, true, Option, Some, None, sym, ap, ◌∙◌, subst, arith}
+use Rattle.std.proofs.Common.{◌≡◌, ◌<◌, ◌≤◌, ◌+◌, ◌-◌, ◌*◌, ℕ, zero, suc, ℤ, pos, negsuc, ◌+ℤ◌, ◌*ℤ◌, ◌≤ℤ◌, true, Option, Some, None, [], sym, ap, ◌∙◌, subst, arith}
 use Rattle.std.specs.Prelude.{◌-ℤ◌, nat_le, unsigned_abs}
 use Rattle.std.proofs.lemmas.Int.{ints}
 use Rattle.std.proofs.lemmas.Bool.Decides.{nat_tests}
@@ -11,16 +11,17 @@ use Rattle.pf_model.specs.Built.{are_near, is_distance, is_resolution, is_time}
 use Rattle.pf_model.specs.Evaluation.{fixed_time, read_time}
 use Rattle.pf_range.specs.Windows.{IsTime}
 use Rattle.pf_selectors.specs.declared.times.Times.{Times}
-use Rattle.pf_selectors.specs.Times.{AreStarts, AreTimes, time_at}
+use Rattle.pf_selectors.specs.Times.{AreStarts, AreTimes, away, time_at}
 use Rattle.pf_selectors.specs.Subqueries.{AreMultiplesOver, HoldWindows}
+use Rattle.pf_selectors.proofs.StepTimes.{run_at}
 use Rattle.pf_eval.specs.Bound.{HasLevels, HasRoom}
 use Rattle.pf_eval.proofs.BoundLists.{two_true}
 
 pub fixed_at : (a o : ℤ) (k : ℕ) → (a -ℤ o) +ℤ (pos k *ℤ pos 0) ≡ a -ℤ o
 fixed_at a o k = omega (arith, ints)
 
-pub moved_at : (s d o : ℤ) (k : ℕ) → (s -ℤ o) +ℤ (pos k *ℤ d) ≡ (s +ℤ (pos k *ℤ d)) -ℤ o
-moved_at s d o k = omega (arith, ints)
+pub moved_at : (s a o : ℤ) → (s -ℤ o) +ℤ a ≡ (s +ℤ a) -ℤ o
+moved_at s a o = omega (arith, ints)
 
 pub near_by : (n : ℕ) → nat_le n 4398046511103 ≡ true → n ≤ 4398046511103
 near_by n h = grind (arith, nat_tests)
@@ -75,14 +76,14 @@ first_within start h = levels_of start h
 -- ---- the times that a selector reads at
 
 pub fixed_read : (m : Mods) (millis : ℕ) (read : Times) (t : ℤ) (k : ℕ) → m.at ≡ Some (at.Time millis) → read.start ≡ pos millis -ℤ m.offset → read.step ≡ pos 0
-    → time_at read k ≡ read_time m t
-fixed_read m millis read t k e s d =
-    (λ i. s i +ℤ (pos k *ℤ d i)) ∙ fixed_at (pos millis) m.offset k ∙ ap (λ o. fixed_time o t -ℤ m.offset) (sym e)
+    → read.list.now ≡ [] → time_at read k ≡ read_time m t
+fixed_read m millis read t k e s d l =
+    run_at read k l ∙ (λ i. s i +ℤ (pos k *ℤ d i)) ∙ fixed_at (pos millis) m.offset k ∙ ap (λ o. fixed_time o t -ℤ m.offset) (sym e)
 
 pub moved_read : (m : Mods) (read times : Times) (k : ℕ) → ((t : ℤ) → fixed_time m.at t ≡ t) → read.start ≡ times.start -ℤ m.offset → read.step ≡ times.step
-    → time_at read k ≡ read_time m (time_at times k)
-moved_read m read times k h s d =
-    (λ i. s i +ℤ (pos k *ℤ d i)) ∙ moved_at times.start times.step m.offset k ∙ ap (λ t. t -ℤ m.offset) (sym (h (time_at times k)))
+    → read.list.now ≡ times.list.now → time_at read k ≡ read_time m (time_at times k)
+moved_read m read times k h s d l =
+    (λ i. s i +ℤ away (l i) (d i) k) ∙ moved_at times.start (away times.list.now times.step k) m.offset ∙ ap (λ t. t -ℤ m.offset) (sym (h (time_at times k)))
 
 pub fixed_start : (m : Mods) (millis : ℕ) (read : Times) (t : ℤ) → m.at ≡ Some (at.Time millis) → read.start ≡ pos millis -ℤ m.offset → read.start ≡ read_time m t
 fixed_start m millis read t e s = s ∙ ap (λ o. fixed_time o t -ℤ m.offset) (sym e)
@@ -130,6 +131,7 @@ module _ (levels bound : ℕ) (e : bound + 8796093022208 * levels ≡ 1125899906
     windows_held =
         let s = held_at m times.start range n d r.fixed r.start in
         record {
+          zero = (omega (arith, ints), omega (arith, ints));
           start = subst (λ t. (low ≤ℤ t) × (t ≤ℤ high)) (sym start) (s.0, s.1);
           windows = λ k l.
               let below : k < times.len = subst (λ x. k < x) len l in

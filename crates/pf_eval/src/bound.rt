@@ -243,7 +243,8 @@ fn range_of<'a>(
             let inner: &Expr = arg;
             asks_subquery(query, inner, *range, *resolution, *mods, times);
             let every = resolution_or_minute(*resolution);
-            let run = inner_run(*range, every, *mods, times)?;
+            let mut list = Vec::new(alloc);
+            let run = inner_run(*range, every, *mods, times, &mut list)?;
             asks_inner(
                 query,
                 inner,
@@ -395,7 +396,7 @@ fn steps_of(alloc: Global, node: Node) -> Result<StepCells, OutOfMemory>
 }
 
 /// The times of a grid.
-fn times_of(grid: &Grid) -> Times
+fn times_of<'a>(grid: &Grid) -> Times<'a>
     ensures len { result.len ≡ grid.now.len }
     ensures room { HasRoom 64 result }
     ensures times { (k : ℕ) → k < grid.now.len → time_at result k ≡ pos (grid.now.start + k * grid.now.step) }
@@ -405,6 +406,7 @@ fn times_of(grid: &Grid) -> Times
         start: grid.start() as i64,
         step: grid.step() as i64,
         len: grid.len(),
+        list: &[],
     }
 }
 

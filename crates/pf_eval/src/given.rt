@@ -155,6 +155,7 @@ pub(crate) fn asks_subquery(
     requires tree { tree_of query.now ≡ subquery (tree_of inner.now) range resolution mods }
     requires evaluated { is_range (tree_of query.now) ≡ true }
     requires room { HasRoom (height (tree_of query.now)) times.now }
+    ensures tree { tree_of query.now ≡ subquery (tree_of inner.now) range resolution mods }
     ensures evaluated { is_evaluated (tree_of inner.now) ≡ true }
     ensures range { is_distance range ≡ true }
     ensures resolution { is_resolution (resolution_or_minute resolution) ≡ true }

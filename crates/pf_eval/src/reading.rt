@@ -37,39 +37,43 @@ fn fixed_by(at: Option<At>) -> Option<u64>
 
 /// A fixed time less the offset, at each step.
 #[tactic(auto, using(crate::proofs::ReadTimes::offset_within))]
-fn fixed_times(mods: Mods, millis: u64, len: u32) -> Times
+fn fixed_times<'a>(mods: Mods, millis: u64, len: u32) -> Times<'a>
     requires near { are_near mods ≡ true }
     requires time { millis ≤ 4398046511103 }
     ensures start { result.start ≡ pos millis -ℤ mods.offset }
     ensures step { result.step ≡ pos 0 }
     ensures len { result.len ≡ len }
+    ensures list { result.list.now ≡ [] }
 {
     Times {
         start: millis as i64 - mods.offset,
         step: 0,
         len,
+        list: &[],
     }
 }
 
 /// The times of a run less the offset.
 #[tactic(auto, using(crate::proofs::ReadTimes::offset_within))]
-fn moved_times(mods: Mods, times: &Times) -> Times
+fn moved_times<'a>(mods: Mods, times: &Times<'a>) -> Times<'a>
     requires near { are_near mods ≡ true }
     requires start { HasLevels 1 times.now.start }
     ensures start { result.start ≡ times.now.start -ℤ mods.offset }
     ensures step { result.step ≡ times.now.step }
     ensures len { result.len ≡ times.now.len }
+    ensures list { result.list.now ≡ times.now.list.now }
 {
     Times {
         start: times.start - mods.offset,
         step: times.step,
         len: times.len,
+        list: times.list,
     }
 }
 
 /// The times that a selector or a subquery reads at.
 #[tactic(auto, using(crate::proofs::ReadTimes::millis_within))]
-pub(crate) fn read_times(mods: Mods, times: &Times) -> Times
+pub(crate) fn read_times<'a>(mods: Mods, times: &Times<'a>) -> Times<'a>
     requires near { are_near mods ≡ true }
     requires room { HasRoom 1 times.now }
     ensures len { result.len ≡ times.now.len }

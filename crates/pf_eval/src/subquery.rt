@@ -20,19 +20,21 @@ use std::alloc::Global;
 
 /// The times that a subquery is read at, and the multiples of its resolution in the windows before them, at which its inner
 /// expression is evaluated.
-#[derive(Clone, Copy, Debug, PartialEq, Eq)]
-pub(crate) struct InnerRun {
-    pub(crate) read: Times,
-    pub(crate) at: Times,
+#[derive(Clone, Copy, Debug)]
+pub(crate) struct InnerRun<'a, 'b> {
+    pub(crate) read: Times<'a>,
+    pub(crate) at: Times<'b>,
 }
 
-/// The inner run of a subquery. More than 2^32 - 1 multiples are want of memory.
-pub(crate) fn inner_run(
+/// The inner run of a subquery. `list` is overwritten with its multiples where they are no run. More than 2^32 - 1 multiples
+/// are want of memory.
+pub(crate) fn inner_run<'a, 'b>(
     range: u64,
     resolution: u64,
     mods: Mods,
-    times: &Times,
-) -> Result<InnerRun, OutOfMemory>
+    times: &Times<'a>,
+    list: &'b mut Vec<i64>,
+) -> Result<InnerRun<'a, 'b>, OutOfMemory>
     requires range { is_distance range ≡ true }
     requires resolution { is_resolution resolution ≡ true }
     requires near { are_near mods ≡ true }
@@ -43,10 +45,8 @@ pub(crate) fn inner_run(
     ensures room { IfOk result (λ r. (levels : ℕ) → HasRoom (1 + levels) times.now → HasRoom levels r.at) }
 {
     let read = read_times(mods, times);
-    match multiples_over(range, resolution, &read) {
-        Some(at) => Ok(InnerRun { read, at }),
-        None => Err(OutOfMemory),
-    }
+    let at = multiples_over(range, resolution, &read, list)?;
+    Ok(InnerRun { read, at })
 }
 
 /// What a subquery's inner expression is, as a vector at each of its times. A scalar has no elements.

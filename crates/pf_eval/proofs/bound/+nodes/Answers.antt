@@ -1,12 +1,13 @@
-use Rattle.std.proofs.Common.{◌+◌, ◌++◌, drop, map, ap, ◌∙◌}
+use Rattle.std.proofs.Common.{◌<◌, ◌+◌, ◌++◌, drop, map, sym, ap, ◌∙◌, subst}
 use Rattle.pf_model.specs.Trees.{tree_of, trees_of}
 use Rattle.pf_selectors.specs.Times.{time_at}
-use Rattle.pf_eval.specs.Nodes.{all_meant, node_at, nodes_at, texts_in}
+use Rattle.pf_eval.specs.Nodes.{all_meant, meant, node_at, nodes_at, texts_in}
 use Rattle.pf_eval.specs.Strings.{strings_in}
 use Rattle.pf_eval.specs.declared.node.Node.TheVariants as node
 use Rattle.pf_eval.proofs.BoundNodes.{args_more, behind_first, pushed_outcome, string_behind, string_outcome}
 use Rattle.pf_eval.proofs.CalledParts.{called_meant}
 use Rattle.pf_eval.proofs.GivenParts.{arguments_evaluated, first_given, rest_given}
+use Rattle.pf_eval.proofs.Moments.{subquery_meant}
 use Rattle.pf_eval.proofs.NodeTexts.{query_pushed, string_pushed}
 use Rattle.pf_eval.proofs.bound.+nodes.Goals as goal
 
@@ -66,3 +67,11 @@ nodes_of-loop-arg-preserved u c =
           ∙ pushed_outcome samples t (λ m. node_at m k) c.loop-arg.nodes.items c.in_ok-found.found.node _ left _ is (c.in_ok-found.ensures.node samples stands apart k h)
           ∙ c.loop-arg.invariant.nodes samples stands apart k h;
     }
+
+pub range_of-returns-in_ok-node-in-Subquery-clause-node : goal.range_of-returns-in_ok-node-in-Subquery-clause-node
+range_of-returns-in_ok-node-in-Subquery-clause-node t c = λ samples stands apart k h.
+    let inner = tree_of c.deref-inner.result.now in
+    subquery_meant samples c.args.f _ inner c.in-Subquery.range _ _ _ (time_at c.args.times.now k) _ _
+    c.asks_subquery.ensures.tree c.resolution_or_minute-every.ensures (c.in_ok-run-in-Subquery.ensures.times k h)
+    (c.in_ok-node-in-Subquery.ensures.value (λ u. meant samples inner u) (λ j l. c.in_ok-found-in-Subquery.ensures.node samples stands apart j l) k
+    (subst (λ n. k < n) (sym c.in_ok-run-in-Subquery.ensures.len) h))
