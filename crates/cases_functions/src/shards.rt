@@ -7,6 +7,7 @@ ghost use Rattle.std.specs.Prelude.{◌≡◌, None, true};
 ghost use Rattle.pf_agg.specs.Partials.{keys_of};
 ghost use Rattle.pf_columns.specs.Columns.{AreRising};
 ghost use Rattle.pf_columns.specs.Steps.{rise_above};
+ghost use Rattle.pf_shard.specs.Lawful.{IsLawful, legs_data};
 ghost use Rattle.pf_shard.specs.Parts.{AreSmall, IsSmall};
 
 use crate::aggregations::grouping_of;
@@ -17,7 +18,7 @@ use pf_agg::partials;
 use pf_base::{Labels, Partial};
 use pf_model::{Cell, Expr, Grouping};
 use pf_parse::parse;
-use pf_shard::{Resolved, add_partials, leg_count, rewrite};
+use pf_shard::{Legs, Resolved, add_partials, leg_count, rewrite};
 use std::cmp::Ordering;
 use std::sync::Arc;
 
@@ -208,18 +209,25 @@ fn resolved_of(out: &mut Output, expr: Expr) -> Option<Arc<Resolved>> {
     out.or_lose(Arc::new(out.alloc(), resolved))
 }
 
+fn push_made(out: &mut Output, legs: &Legs)
+    requires { IsLawful (legs_data legs.now) }
+{
+    out.text("nodes ");
+    push_nodes(out, &legs.nodes);
+    out.text(" shards ");
+    out.show(legs.shards);
+    out.text(" legs ");
+    out.show(leg_count(legs));
+}
+
 fn push_legs(out: &mut Output, resolved: Arc<Resolved>, shards: u32) {
     if shards == 0 || shards > 64 {
         out.refuse();
         return;
     }
-    if let Some(legs) = &out.or_lose(rewrite(out.alloc(), resolved, shards)) {
-        out.text("nodes ");
-        push_nodes(out, &legs.nodes);
-        out.text(" shards ");
-        out.show(legs.shards);
-        out.text(" legs ");
-        out.show(leg_count(legs));
+    match rewrite(out.alloc(), resolved, shards) {
+        Ok(legs) => push_made(out, &legs),
+        Err(_) => out.lose(),
     }
 }
 
