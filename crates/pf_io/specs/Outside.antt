@@ -1,6 +1,6 @@
 -- What the traits of the outside promise: counts of faults that never fall, and contents where they are told. This
 -- project's own.
-use Rattle.std.specs.Prelude.{◌≡◌, ◌⊎◌, ℕ, ◌+◌, ◌<◌, ◌≤◌, List, ◌++◌, length, Option, Some, None}
+use Rattle.std.specs.Prelude.{◌≡◌, ◌⊎◌, ℕ, ◌+◌, ◌<◌, ◌≤◌, Bool, IsTrue, List, ◌++◌, length, Option, Some, None}
 
 -- a count of faults rose, or stands at its greatest value
 abbrev pub Rose : ℕ → ℕ → Type 0
@@ -29,3 +29,7 @@ LongerThan (Some told) most = most < length told
 abbrev pub WithinMost : Option ℕ → ℕ → Type 0
 WithinMost None count = Unit {0}
 WithinMost (Some most) count = count ≤ most
+
+-- what is known of names is still known
+abbrev pub StayKnown : (List ℕ → Bool) → (List ℕ → Bool) → Type 0
+StayKnown old new = (name : List ℕ) → IsTrue (old name) → IsTrue (new name)

@@ -1,6 +1,6 @@
 //! Files on disk.
 
-ghost use Rattle.std.specs.Prelude.{◌≡◌, ◌≤◌, [], length, None, OnOk};
+ghost use Rattle.std.specs.Prelude.{◌≡◌, ◌≤◌, [], false, length, None, OnOk};
 ghost use Rattle.pf_io.specs.Outside.{Holds, LongerThan};
 
 use crate::counts::one_more;
@@ -9,33 +9,44 @@ use std::fs;
 use std::io::{ErrorKind, Read};
 use std::marker::Model;
 
-/// The files that a runtime reaches. It tells nothing of what they hold.
+/// The files that a runtime reaches. It tells nothing of what they hold, and which are there.
 #[derive(Drop)]
 pub struct DiskFiles<R: std::rt::Files + Drop> {
     rt: R,
     faults: u64,
+    failed: bool,
 }
 
 impl<R: std::rt::Files + Drop> Model for DiskFiles<R> {
-    ghost use Rattle.std.specs.Prelude.{ℕ};
+    ghost use Rattle.pf_io.specs.InMemory.{DiskData};
 
-    ghost Value = { ℕ };
+    ghost Value = { DiskData };
 
-    ghost view = { λ f. f.faults };
+    ghost view = { λ f. record { faults = f.faults; failed = f.failed } };
 }
 
 impl<R: std::rt::Files + Drop> DiskFiles<R> {
     pub fn new(rt: R) -> DiskFiles<R>
-        ensures { result ≡ 0 }
+        ensures { result ≡ record { faults = 0; failed = false } }
     {
-        DiskFiles { rt, faults: 0 }
+        DiskFiles {
+            rt,
+            faults: 0,
+            failed: false,
+        }
     }
 }
 
 impl<R: std::rt::Files + Drop> Files for DiskFiles<R> {
-    ghost faults = { λ count. count };
+    ghost faults = { λ d. d.faults };
 
     ghost told = { λ _ _. None };
+
+    ghost sure = { λ _ _. false };
+
+    ghost lost = { λ _ _. false };
+
+    ghost failed = { λ d. d.failed };
 
     fn read(&mut self, name: &str, into: &mut Vec<u8>, most: usize) -> Result<(), ReadError> {
         into.clear();
@@ -43,7 +54,9 @@ impl<R: std::rt::Files + Drop> Files for DiskFiles<R> {
             Ok(mut file) => fill(&mut file, into, most),
             Err(_) => Err(ReadError::Failed),
         };
+        self.failed = false;
         if let Err(ReadError::Failed) = answer {
+            self.failed = true;
             self.faults = one_more(self.faults);
         }
         answer

@@ -1,9 +1,9 @@
 //! The outside as traits. Each that can fail has a count of faults that never falls: it rises, or stands at its greatest
 //! value, 2^64 - 1, where `Failed` is answered, and stays as it is with every other answer.
 
-ghost use Rattle.std.specs.Prelude.{◌≡◌, ◌≢◌, ℕ, ◌<◌, ◌≤◌, List, [], codes, Some, length, take, Option, IfOk, OnOk, OnErr, MatchOption};
+ghost use Rattle.std.specs.Prelude.{◌≡◌, ◌≢◌, ℕ, ◌<◌, ◌≤◌, Bool, IsTrue, false, true, List, [], codes, Some, length, take, Option, IfOk, OnOk, OnErr, MatchOption};
 ghost use Rattle.pf_io.specs.Errors.{read_error_text};
-ghost use Rattle.pf_io.specs.Outside.{Rose, UpByOne, Grows, Holds, LongerThan, WithinMost};
+ghost use Rattle.pf_io.specs.Outside.{Rose, UpByOne, Grows, Holds, LongerThan, StayKnown, WithinMost};
 ghost use Rattle.pf_io.specs.declared.outside.ReadError.TheVariants.{OutOfMemory};
 
 use pf_base::JobHead;
@@ -72,6 +72,14 @@ pub trait Files {
     // What a name holds, where that is known.
     ghost told: { Self → List ℕ → Option (List ℕ) };
 
+    // The names of which no read answers `Failed`, and those of which every read does, as far as they are known.
+    ghost sure: { Self → List ℕ → Bool };
+
+    ghost lost: { Self → List ℕ → Bool };
+
+    // Whether the last read answered `Failed`.
+    ghost failed: { Self → Bool };
+
     /// Empties `into` and fills it with what the name holds, of at most `most` bytes. After an `Err` it holds nothing
     /// of use.
     fn read(&mut self, name: &str, into: &mut Vec<u8>, most: usize) -> Result<(), ReadError>
@@ -81,7 +89,13 @@ pub trait Files {
         ensures failed { result ≡ Err ReadError.Failed → Rose (faults self.old) (faults self.new) }
         ensures steady { result ≢ Err ReadError.Failed → faults self.new ≡ faults self.old }
         ensures counted { faults self.old ≤ faults self.new }
-        ensures kept { (other : List ℕ) → told self.new other ≡ told self.old other };
+        ensures sure { IsTrue (sure self.old name.now) → result ≢ Err ReadError.Failed }
+        ensures lost { IsTrue (lost self.old name.now) → result ≡ Err ReadError.Failed }
+        ensures last_failed { result ≡ Err ReadError.Failed → failed self.new ≡ true }
+        ensures last_done { result ≢ Err ReadError.Failed → failed self.new ≡ false }
+        ensures kept { (other : List ℕ) → told self.new other ≡ told self.old other }
+        ensures kept_sure { StayKnown (sure self.old) (sure self.new) }
+        ensures kept_lost { (other : List ℕ) → lost self.new other ≡ lost self.old other };
 }
 
 /// Where bytes are written to.
