@@ -5,6 +5,7 @@ pub mod DirectAnswers
 pub mod Driving
 pub mod Entered
 pub mod FileReads
+pub mod Holding
 pub mod Keeping
 pub mod LineRuns
 pub mod Lists
@@ -20,3 +21,4 @@ pub mod SlotLaws
 pub mod Steps
 pub mod Texts
 pub mod Turns
+mod WorkedReads

@@ -1,94 +1,69 @@
 -- What the steps of a replay give is what a run may print.
 use Rattle.std.proofs.Common.{◌≡◌, ℕ, ◌<◌, ◌≤◌, inl, inr, Bool, true, false, cond, nat_le, Option, Some, None, List, [], ◌∷◌, refl, arith, sym, ap, ◌∙◌, append-nil, length, take, subst, true≢false}
 use Rattle.std.specs.Prelude.{option_and_then}
+use Rattle.std.specs.BTreeMap.{get_by_text}
 use Rattle.std.proofs.lemmas.Bool.Decides.{nat_tests}
 use Rattle.pf_base.specs.declared.plain.Limits.{Limits}
-use Rattle.pf_io.specs.Outside.{Rose, Holds, Grows, LongerThan}
+use Rattle.pf_io.specs.Outside.{Rose, Holds, Grows, LongerThan, StayKnown}
 use Rattle.pf_model.specs.Lists.{Each}
 use Rattle.pf_model.specs.Cuts.{kept}
-use Rattle.pf_model.specs.Scripts.{Evaluation, Numbered, evaluation_words, script_of, script_word, most_bytes}
+use Rattle.pf_model.specs.Scripts.{Numbered, evaluation_words, script_of, script_word, most_bytes}
 use Rattle.pf_model.specs.Weave.{Files}
 use Rattle.pf_script.specs.Lines.{AllFollow, IsRead, lines_of}
 use Rattle.pf_script.specs.declared.script.Script.{Script}
-use Rattle.pf_top.specs.Correct.{ReadsAs, ReadsAsNone, AreScripts, IsUnbuilt, NamesFile, Reported, EndsWell, Outside, Correct, IsOutput}
+use Rattle.pf_top.specs.Correct.{Agree, AllRead, AreScripts, Correct, EndsWell, FilesSeen, HasFailed, Held, IsOutput, IsUnbuilt, Outside, Reaches, Reported, all_of, files_of, needed, needed_by, script_files}
 use Rattle.pf_top.specs.Drives.{AreShort, CanRun, IsReport}
-use Rattle.pf_top.specs.Files.{AreLoaded, Contents, HoldsContent, IsKept}
+use Rattle.pf_top.specs.Files.{AreHeld, AreLoaded, Contents, HoldsContent, IsKept, NamesFile}
 use Rattle.pf_top.specs.Queries.{AreReadAs, IsKeptFor}
-use Rattle.pf_top.specs.Outputs.{IsRun, IsScriptOutput, IsWordsOutput}
+use Rattle.pf_top.specs.Outputs.{IsPrinted, IsReplay, IsRun, IsScriptOutput, IsWordsOutput}
 use Rattle.pf_top.specs.Refusals.{refused_read, refused_not_built}
 use Rattle.std.specs.declared.vec.Vec.{Vec}
 use Rattle.std.specs.declared.alloc.Global.{Global}
 use Rattle.pf_top.specs.declared.loaded.Content.{Content}
-use Rattle.pf_top.specs.declared.loaded.Content.TheVariants.{Bytes}
+use Rattle.pf_top.specs.declared.loaded.Content.TheVariants.{Bytes, TooLong}
 use Rattle.pf_top.specs.declared.loaded.Loaded.{Loaded}
-use Rattle.pf_top.proofs.Texts.{held_short}
+use Rattle.pf_top.proofs.Holding.{holding, holding_bytes, holding_none, holding_one}
+use Rattle.pf_top.proofs.Texts.{each_file, failed_since, held_short, read_there}
 
--- a rise from a later count is one from an earlier count
-pub rose_since : (before mid after : ℕ) → before ≤ mid → Rose mid after → Rose before after
-rose_since before mid after h (inl p) = inl (omega (arith, h, p))
-rose_since before mid after h (inr p) = inr p
-
--- the script that was read is the one that the words name
-scripts_are : (files : List ℕ → Option (List ℕ)) (word : Option (List ℕ)) (name : List ℕ) (lines : List Numbered)
-    → word ≡ Some name → ReadsAs script_of (files name) lines → AreScripts files word (lines ∷ [])
-scripts_are files word name lines p read =
-    let P : Option (List ℕ) → Type 0 = λ w. AreScripts files w (lines ∷ []) in
-    subst P (sym p) (lines, (refl, read))
-
-unbuilt_is : (files : List ℕ → Option (List ℕ)) (e : Option Evaluation) (word : Option (List ℕ)) (name : List ℕ)
-    → word ≡ Some name → IsUnbuilt files (Some name) e → IsUnbuilt files word e
-unbuilt_is files e word name p h = subst (λ (w : Option (List ℕ)). IsUnbuilt files w e) (sym p) h
-
--- the report of the script is that of the words
-reported_by : (limits : Limits) (files : Files) (words : List (List ℕ)) (name : List ℕ) (lines : List Numbered) (full : Bool) (text : List ℕ)
-    → script_word words ≡ Some name → ReadsAs script_of (files name) lines → IsReport limits files lines full text → Reported limits files words full text
-reported_by limits files words name lines full text word read r = record {
-  scripts = lines ∷ [];
-  journal = r.journal;
-  names = r.names;
-  rest = r.rest;
-  read = scripts_are files (script_word words) name lines word read;
-  legal = r.legal;
-  known = r.known;
-  woven = r.woven;
-  uncached = r.uncached;
-  met = r.met;
-  whole = r.whole;
-}
-
--- what comes once the script is read is what comes by the words
-words_by : (limits : Limits) (files : Files) (words : List (List ℕ)) (name : List ℕ) (lines : List Numbered) (before mid after status : ℕ) (text : List ℕ)
-    → script_word words ≡ Some name → ReadsAs script_of (files name) lines → before ≤ mid
-    → IsScriptOutput limits files mid after lines status text
-    → IsWordsOutput limits files before after words status text
-words_by limits files words name lines before mid after status text word read h (inl (inl (zero, r))) =
-    inl (zero, inl (reported_by limits files words name lines false text word read r))
-words_by limits files words name lines before mid after status text word read h (inl (inr (eight, r))) =
-    inr (inl (eight, reported_by limits files words name lines true text word read r))
-words_by limits files words name lines before mid after status text word read h (inr (four, (file, (named, (rose, whole))))) =
-    inr (inr (inl (
-      four,
-      record {
-        name = file;
-        needed = inr (inl (lines, (scripts_are files (script_word words) name lines word read, named)));
-        rose = rose_since before mid after h rose;
-        whole = whole;
-      },
-    )))
-
--- what is told is the same afterwards
-pub words_output : (limits : Limits) (files again : Files) (words : List (List ℕ)) (name : List ℕ) (lines : List Numbered) (before mid after status : ℕ) (text : List ℕ)
-    → script_word words ≡ Some name → ReadsAs script_of (files name) lines → ((other : List ℕ) → again other ≡ files other) → before ≤ mid
-    → IsScriptOutput limits again mid after lines status text
-    → IsWordsOutput limits files before after words status text
-words_output limits files again words name lines before mid after status text word read same h o =
-    let all : again ≡ files = λ i other. same other i in
-    words_by limits files words name lines before mid after status text word read h
-    (subst (λ (f : Files). IsScriptOutput limits f mid after lines status text) all o)
+-- ---- once the script is read
 
 -- contents that were loaded are short
-pub loaded_short : (told : Files) (lines : List Numbered) (kept : Contents) → AreLoaded told lines kept → AreShort kept
-loaded_short told lines kept l name content g = held_short told kept name content l.held g
+pub loaded_short : (told : Files) (lost : List ℕ → Bool) (first : Contents) (lines : List Numbered) (kept : Contents) → AreLoaded told lost first lines kept → AreShort kept
+loaded_short told lost first lines kept l name content g = held_short told kept name content l.held g
+
+-- the bytes of the script are kept as they are held
+script_held : (held : Held) (kept : Contents) (script : List ℕ) (bytes : Vec ℕ Global) → AreHeld (all_of held) kept
+    → get_by_text kept script ≡ Some (Bytes bytes) → held script ≡ bytes.items
+script_held held kept script bytes h g = sym ((h script (Bytes bytes) g).0)
+
+-- what a run gives, over one reading of each file
+pub replayed : (limits : Limits) (files : FilesSeen) (script : List ℕ) (bytes : Vec ℕ Global) (lines : List Numbered) (first kept : Contents) (status : ℕ) (text : List ℕ)
+    → AreLoaded files.told files.lost first lines kept → get_by_text first script ≡ Some (Bytes bytes) → files.after ≡ files.before
+    → ((told : Files) → AreHeld told kept → IsRun limits told lines status text)
+    → IsReplay limits files script bytes.items lines status text
+replayed limits files script bytes lines first kept status text loaded at_hand steady run =
+    let h = holding files.told kept loaded.held in
+    record {
+      held = h.0;
+      agree = h.1.0;
+      same = script_held h.0 kept script bytes h.1.1 (loaded.still script (Bytes bytes) at_hand);
+      output = inl (
+        record {
+          there = each_file (λ name. files.lost name ≡ false) lines (read_there files.told files.lost first kept lines loaded);
+          steady = steady;
+        },
+        run (all_of h.0) h.1.1,
+      );
+    }
+
+-- a file of the script was not read
+pub replay_failed : (limits : Limits) (files : FilesSeen) (script bytes name given : List ℕ) (lines : List Numbered) (status : ℕ) (text : List ℕ)
+    → Holds (files.told script) bytes → Reaches files.lost (files_of lines) name
+    → HasFailed files.sure files.before files.after files.failed name → (status ≡ 4) × (text ≡ refused_read given) → given ≡ name
+    → IsReplay limits files script bytes lines status text
+replay_failed limits files script bytes name given lines status text holds reached fault p e =
+    let h = holding_bytes files.told script bytes holds in
+    record { held = h.0; agree = h.1.0; same = h.1.1; output = inr (p.0, (name, (reached, (fault, p.1 ∙ ap refused_read e)))) }
 
 pub can_run : (script : Script) (loaded : Loaded) → AreShort loaded.files
     → ((name : List ℕ) → NamesFile (lines_of script) name → IsKept loaded.files name)
@@ -103,6 +78,124 @@ pub run_ended : (limits : Limits) (files : Files) (lines : List Numbered) (full 
 run_ended limits files lines false status text is r = inl (is, r)
 run_ended limits files lines true status text is r = inr (is, r)
 
+-- ---- by the words
+
+-- the script that was read is the one that the words name
+scripts_are : (held : Held) (word : Option (List ℕ)) (name : List ℕ) (lines : List Numbered)
+    → word ≡ Some name → script_of (held name) ≡ Some lines → AreScripts held word (lines ∷ [])
+scripts_are held word name lines p read =
+    let P : Option (List ℕ) → Type 0 = λ w. AreScripts held w (lines ∷ []) in
+    subst P (sym p) (lines, (refl, read))
+
+module _ (held : Held) (words : List (List ℕ)) (name : List ℕ) (is : script_word words ≡ Some name) where
+  needed_script : needed held words ≡ name ∷ script_files (script_of (held name))
+  needed_script = ap (λ (w : Option (List ℕ)). needed_by held w (evaluation_words words)) is
+
+  needed_lines : (lines : List Numbered) → script_of (held name) ≡ Some lines → needed held words ≡ name ∷ files_of lines
+  needed_lines lines read = needed_script ∙ ap (λ (s : Option (List Numbered)). name ∷ script_files s) read
+
+  all_read : (files : FilesSeen) (lines : List Numbered) → script_of (held name) ≡ Some lines → files.lost name ≡ false
+      → AllRead files (files_of lines) → AllRead files (needed held words)
+  all_read files lines read found a = subst (AllRead files) (sym (needed_lines lines read)) (record { there = (found, a.there); steady = a.steady })
+
+  -- the report of the script is that of the words
+  reported_by : (limits : Limits) (files : FilesSeen) (lines : List Numbered) (full : Bool) (text : List ℕ)
+      → script_of (held name) ≡ Some lines → AllRead files (needed held words) → IsReport limits (all_of held) lines full text
+      → Reported limits files held words full text
+  reported_by limits files lines full text read a r = record {
+    all = a;
+    scripts = lines ∷ [];
+    journal = r.journal;
+    names = r.names;
+    rest = r.rest;
+    read = scripts_are held (script_word words) name lines is read;
+    legal = r.legal;
+    known = r.known;
+    woven = r.woven;
+    uncached = r.uncached;
+    met = r.met;
+    whole = r.whole;
+  }
+
+  -- what comes once the script is read is what comes by the words
+  printed_by : (limits : Limits) (files : FilesSeen) (lines : List Numbered) (status : ℕ) (text : List ℕ)
+      → script_of (held name) ≡ Some lines → files.lost name ≡ false
+      → IsScriptOutput limits files held lines status text → IsPrinted limits files held words status text
+  printed_by limits files lines status text read found (inl (a, inl (zero, r))) =
+      inl (zero, inl (reported_by limits files lines false text read (all_read files lines read found a) r))
+  printed_by limits files lines status text read found (inl (a, inr (eight, r))) =
+      inr (inl (eight, reported_by limits files lines true text read (all_read files lines read found a) r))
+  printed_by limits files lines status text read found (inr (four, (file, (reached, (fault, whole))))) =
+      inr (inr (inl (
+        four,
+        record {
+          name = file;
+          reached = subst (λ (ns : List (List ℕ)). Reaches files.lost ns file) (sym (needed_lines lines read)) (inr (found, reached));
+          fault = fault;
+          whole = whole;
+        },
+      )))
+
+  -- a script of no form that is built
+  unbuilt_by : (limits : Limits) (files : FilesSeen) (status : ℕ) (text : List ℕ)
+      → script_of (held name) ≡ None → files.lost name ≡ false → files.after ≡ files.before → (status ≡ 9) × (text ≡ refused_not_built)
+      → IsPrinted limits files held words status text
+  unbuilt_by limits files status text none found steady p =
+      let only : needed held words ≡ name ∷ [] = needed_script ∙ ap (λ (s : Option (List Numbered)). name ∷ script_files s) none in
+      inr (inr (inr (inl (
+        p.0,
+        record {
+          all = subst (AllRead files) (sym only) (record { there = (found, tt); steady = steady });
+          unbuilt = subst (λ (w : Option (List ℕ)). IsUnbuilt held w (evaluation_words words)) (sym is) none;
+          whole = p.1;
+        },
+      ))))
+
+-- what is seen since the script was read is seen since before
+seen_since : (limits : Limits) (old : FilesSeen) (resure : List ℕ → Bool) (middle : ℕ) (held : Held) (lines : List Numbered) (status : ℕ) (text : List ℕ)
+    → StayKnown old.sure resure → middle ≡ old.before
+    → IsScriptOutput limits (record { told = old.told; sure = resure; lost = old.lost; before = middle; after = old.after; failed = old.failed }) held lines status text
+    → IsScriptOutput limits old held lines status text
+seen_since limits old resure middle held lines status text s m (inl (a, run)) = inl (record { there = a.there; steady = a.steady ∙ m }, run)
+seen_since limits old resure middle held lines status text s m (inr (four, (file, (reached, (fault, whole))))) =
+    inr (four, (file, (reached, (failed_since old.sure resure old.before middle old.after old.failed file s (omega (arith, m)) fault, whole))))
+
+same_seen : (limits : Limits) (old : FilesSeen) (resure relost : List ℕ → Bool) (again : Files) (middle : ℕ) (script bytes : List ℕ) (lines : List Numbered) (status : ℕ) (text : List ℕ)
+    → ((other : List ℕ) → again other ≡ old.told other) → ((other : List ℕ) → relost other ≡ old.lost other)
+    → IsReplay limits (record { told = again; sure = resure; lost = relost; before = middle; after = old.after; failed = old.failed }) script bytes lines status text
+    → IsReplay limits (record { told = old.told; sure = resure; lost = old.lost; before = middle; after = old.after; failed = old.failed }) script bytes lines status text
+same_seen limits old resure relost again middle script bytes lines status text told lost r =
+    let all_told : again ≡ old.told = λ i other. told other i in
+    let all_lost : relost ≡ old.lost = λ i other. lost other i in
+    subst (λ (t : Files). IsReplay limits (record { told = t; sure = resure; lost = old.lost; before = middle; after = old.after; failed = old.failed }) script bytes lines status text) all_told
+    (subst (λ (l : List ℕ → Bool). IsReplay limits (record { told = again; sure = resure; lost = l; before = middle; after = old.after; failed = old.failed }) script bytes lines status text) all_lost r)
+
+pub words_output : (limits : Limits) (old : FilesSeen) (resure relost : List ℕ → Bool) (again : Files) (middle : ℕ) (words : List (List ℕ)) (name bytes given : List ℕ) (lines : List Numbered) (status : ℕ) (text : List ℕ)
+    → script_word words ≡ Some name → given ≡ bytes → script_of given ≡ Some lines → old.lost name ≡ false
+    → ((other : List ℕ) → again other ≡ old.told other) → ((other : List ℕ) → relost other ≡ old.lost other) → StayKnown old.sure resure → middle ≡ old.before
+    → IsReplay limits (record { told = again; sure = resure; lost = relost; before = middle; after = old.after; failed = old.failed }) name bytes lines status text
+    → IsWordsOutput limits old words status text
+words_output limits old resure relost again middle words name bytes given lines status text word e read found told lost sure m o =
+    let r = same_seen limits old resure relost again middle name bytes lines status text told lost o in
+    record {
+      held = r.held;
+      agree = r.agree;
+      printed = printed_by r.held words name word limits old lines status text (ap script_of (r.same ∙ sym e) ∙ read) found
+          (seen_since limits old resure middle r.held lines status text sure m r.output);
+    }
+
+-- a script of no form that is built
+pub unbuilt_output : (limits : Limits) (files : FilesSeen) (words : List (List ℕ)) (name bytes given : List ℕ) (status : ℕ) (text : List ℕ)
+    → script_word words ≡ Some name → Holds (files.told name) bytes → given ≡ bytes → script_of given ≡ None → files.lost name ≡ false → files.after ≡ files.before
+    → (status ≡ 9) × (text ≡ refused_not_built) → IsWordsOutput limits files words status text
+unbuilt_output limits files words name bytes given status text word holds e none found steady p =
+    let h = holding_bytes files.told name bytes holds in
+    record {
+      held = h.0;
+      agree = h.1.0;
+      printed = unbuilt_by h.0 words name word limits files status text (ap script_of (h.1.1 ∙ sym e) ∙ none) found steady p;
+    }
+
 past : (n most : ℕ) → most < n → nat_le n most ≡ false
 past n most h = grind (arith, nat_tests)
 
@@ -114,29 +207,40 @@ long_script : (bytes : List ℕ) → most_bytes < length bytes → script_of byt
 unfolding script_of
 long_script bytes h = none_kept (nat_le (length bytes) most_bytes) _ _ (past (length bytes) most_bytes h)
 
-script_too_long : (told : Option (List ℕ)) → LongerThan told most_bytes → ReadsAsNone script_of told
-script_too_long None h = tt
-script_too_long (Some bytes) h = long_script bytes h
-
 -- a script that is too long
-pub long_output : (limits : Limits) (files : Files) (words : List (List ℕ)) (name : List ℕ) (before after status : ℕ) (text : List ℕ)
-    → script_word words ≡ Some name → LongerThan (files name) most_bytes → (status ≡ 9) × (text ≡ refused_not_built)
-    → IsWordsOutput limits files before after words status text
-long_output limits files words name before after status text word long p =
-    inr (inr (inr (inl (p.0, record { unbuilt = unbuilt_is files (evaluation_words words) (script_word words) name word (script_too_long (files name) long); whole = p.1 }))))
+pub long_output : (limits : Limits) (files : FilesSeen) (words : List (List ℕ)) (name : List ℕ) (status : ℕ) (text : List ℕ)
+    → script_word words ≡ Some name → LongerThan (files.told name) most_bytes → files.lost name ≡ false → files.after ≡ files.before
+    → (status ≡ 9) × (text ≡ refused_not_built) → IsWordsOutput limits files words status text
+long_output limits files words name status text word long found steady p =
+    let h = holding_one (files.told name) TooLong long in
+    unbuilt_output limits files words name h.0 h.0 status text word h.1.0 refl (long_script h.0 h.1.1) found steady p
 
 -- a script that was not read
-pub unread_output : (limits : Limits) (files : Files) (words : List (List ℕ)) (name : List ℕ) (before after status : ℕ) (text : List ℕ)
-    → script_word words ≡ Some name → Rose before after → (status ≡ 4) × (text ≡ refused_read name)
-    → IsWordsOutput limits files before after words status text
-unread_output limits files words name before after status text word rose p =
-    inr (inr (inl (p.0, record { name = name; needed = inl word; rose = rose; whole = p.1 })))
+pub unread_output : (limits : Limits) (files : FilesSeen) (words : List (List ℕ)) (name : List ℕ) (status : ℕ) (text : List ℕ)
+    → script_word words ≡ Some name → HasFailed files.sure files.before files.after files.failed name → (status ≡ 4) × (text ≡ refused_read name)
+    → IsWordsOutput limits files words status text
+unread_output limits files words name status text word fault p =
+    let h = holding_none files.told in
+    record {
+      held = h.0;
+      agree = h.1;
+      printed = inr (inr (inl (
+        p.0,
+        record {
+          name = name;
+          reached = subst (λ (ns : List (List ℕ)). Reaches files.lost ns name) (sym (needed_script h.0 words name word)) (inl refl);
+          fault = fault;
+          whole = p.1;
+        },
+      )));
+    }
 
--- what was read of the bytes is read of what is told
-pub reads_as : (told : Option (List ℕ)) (bytes given : List ℕ) (lines : List Numbered)
-    → Holds told bytes → given ≡ bytes → script_of given ≡ Some lines → ReadsAs script_of told lines
-reads_as None bytes given lines h e read = tt
-reads_as (Some told) bytes given lines h e read = sym (ap script_of (e ∙ h)) ∙ read
+-- bytes that were read are those that are told
+pub bytes_told : (told : Option (List ℕ)) (content : Content) (bytes : Vec ℕ Global) → content ≡ Bytes bytes → HoldsContent told content
+    → Holds told bytes.items × (length bytes.items ≤ most_bytes)
+bytes_told told content bytes is h = subst (HoldsContent told) is h
+
+-- ---- the claim
 
 -- nothing more was written
 grows_none : (told : Option (List ℕ)) → Grows told told []
@@ -150,97 +254,124 @@ ends_otherwise status a b c d (inr (inr (inl e))) = c e
 ends_otherwise status a b c d (inr (inr (inr e))) = d e
 
 -- memory ran out before anything was written
-pub starved_run : (limits : Limits) (o : Outside) (words : List (List ℕ)) → o.new ≡ o.old → Correct limits o words 6
-starved_run limits o words same = record {
-  ended = λ e. absurd (omega (arith, e));
-  refused = λ e. absurd (omega (arith, e));
-  unread = λ e. absurd (omega (arith, e));
-  unwritten = λ e. absurd (omega (arith, e));
-  starved = λ _. subst (λ (t : Option (List ℕ)). Grows o.old t []) (sym same) (grows_none o.old);
-  filled = λ e. absurd (omega (arith, e));
-  unbuilt = λ e. absurd (omega (arith, e));
-  steady = λ e. absurd (ends_otherwise 6 (λ a. omega (arith, a)) (λ a. omega (arith, a)) (λ a. omega (arith, a)) (λ a. omega (arith, a)) e);
-  known = inr (inr (inr (inr (inl refl))));
-}
+pub starved_run : (limits : Limits) (o : Outside) (words : List (List ℕ)) → o.new ≡ o.old → o.out_after ≡ o.out_before → Correct limits o words 6
+starved_run limits o words same out_steady =
+    let h = holding_none o.files.told in
+    record {
+      held = h.0;
+      agree = h.1;
+      ended = λ e. absurd (omega (arith, e));
+      refused = λ e. absurd (omega (arith, e));
+      unread = λ e. absurd (omega (arith, e));
+      unwritten = λ e. absurd (omega (arith, e));
+      starved = λ _. subst (λ (t : Option (List ℕ)). Grows o.old t []) (sym same) (grows_none o.old);
+      filled = λ e. absurd (omega (arith, e));
+      unbuilt = λ e. absurd (omega (arith, e));
+      steady = λ e. absurd (ends_otherwise 6 (λ a. omega (arith, a)) (λ a. omega (arith, a)) (λ a. omega (arith, a)) (λ a. omega (arith, a)) e);
+      taken = λ _. out_steady;
+      known = inr (inr (inr (inr (inl refl))));
+    }
 
 -- all was written
+module _ (limits : Limits) (o : Outside) (words : List (List ℕ)) (status : ℕ) (text : List ℕ) (held : Held) (agree : Agree o.files.told held)
+    (grows : Grows o.old o.new text) (files_steady : (status ≡ 4 → ⊥) → o.files.after ≡ o.files.before) (out_steady : o.out_after ≡ o.out_before) where
+  written_by : IsPrinted limits o.files held words status text → Correct limits o words status
+  written_by (inl (is, done)) = record {
+    held = held;
+    agree = agree;
+    ended = λ _. (text, (done, grows));
+    refused = λ e. absurd (omega (arith, is, e));
+    unread = λ e. absurd (omega (arith, is, e));
+    unwritten = λ e. absurd (omega (arith, is, e));
+    starved = λ e. absurd (omega (arith, is, e));
+    filled = λ e. absurd (omega (arith, is, e));
+    unbuilt = λ e. absurd (omega (arith, is, e));
+    steady = λ _. files_steady (λ e. omega (arith, is, e));
+    taken = λ _. out_steady;
+    known = inl is;
+  }
+  written_by (inr (inl (is, done))) = record {
+    held = held;
+    agree = agree;
+    ended = λ e. absurd (omega (arith, is, e));
+    refused = λ e. absurd (omega (arith, is, e));
+    unread = λ e. absurd (omega (arith, is, e));
+    unwritten = λ e. absurd (omega (arith, is, e));
+    starved = λ e. absurd (omega (arith, is, e));
+    filled = λ _. (text, (done, grows));
+    unbuilt = λ e. absurd (omega (arith, is, e));
+    steady = λ _. files_steady (λ e. omega (arith, is, e));
+    taken = λ _. out_steady;
+    known = inr (inr (inr (inr (inr (inl is)))));
+  }
+  written_by (inr (inr (inl (is, done)))) = record {
+    held = held;
+    agree = agree;
+    ended = λ e. absurd (omega (arith, is, e));
+    refused = λ e. absurd (omega (arith, is, e));
+    unread = λ _. (text, (done, grows));
+    unwritten = λ e. absurd (omega (arith, is, e));
+    starved = λ e. absurd (omega (arith, is, e));
+    filled = λ e. absurd (omega (arith, is, e));
+    unbuilt = λ e. absurd (omega (arith, is, e));
+    steady = λ e. absurd (ends_otherwise status (λ a. omega (arith, is, a)) (λ a. omega (arith, is, a)) (λ a. omega (arith, is, a)) (λ a. omega (arith, is, a)) e);
+    taken = λ _. out_steady;
+    known = inr (inr (inl is));
+  }
+  written_by (inr (inr (inr (inl (is, done))))) = record {
+    held = held;
+    agree = agree;
+    ended = λ e. absurd (omega (arith, is, e));
+    refused = λ e. absurd (omega (arith, is, e));
+    unread = λ e. absurd (omega (arith, is, e));
+    unwritten = λ e. absurd (omega (arith, is, e));
+    starved = λ e. absurd (omega (arith, is, e));
+    filled = λ e. absurd (omega (arith, is, e));
+    unbuilt = λ _. (text, (done, grows));
+    steady = λ _. files_steady (λ e. omega (arith, is, e));
+    taken = λ _. out_steady;
+    known = inr (inr (inr (inr (inr (inr is)))));
+  }
+  written_by (inr (inr (inr (inr (is, done))))) = record {
+    held = held;
+    agree = agree;
+    ended = λ e. absurd (omega (arith, is, e));
+    refused = λ _. (text, (done, grows));
+    unread = λ e. absurd (omega (arith, is, e));
+    unwritten = λ e. absurd (omega (arith, is, e));
+    starved = λ e. absurd (omega (arith, is, e));
+    filled = λ e. absurd (omega (arith, is, e));
+    unbuilt = λ e. absurd (omega (arith, is, e));
+    steady = λ _. files_steady (λ e. omega (arith, is, e));
+    taken = λ _. out_steady;
+    known = inr (inl is);
+  }
+
 pub written_run : (limits : Limits) (o : Outside) (words : List (List ℕ)) (status : ℕ) (text : List ℕ)
-    → IsWordsOutput limits o.files o.files_before o.files_after words status text → Grows o.old o.new text
-    → ((status ≡ 4 → ⊥) → o.files_after ≡ o.files_before) → o.out_after ≡ o.out_before
+    → IsWordsOutput limits o.files words status text → Grows o.old o.new text
+    → ((status ≡ 4 → ⊥) → o.files.after ≡ o.files.before) → o.out_after ≡ o.out_before
     → Correct limits o words status
-written_run limits o words status text (inl (is, done)) grows files_steady out_steady = record {
-  ended = λ _. (text, (done, grows));
-  refused = λ e. absurd (omega (arith, is, e));
-  unread = λ e. absurd (omega (arith, is, e));
-  unwritten = λ e. absurd (omega (arith, is, e));
-  starved = λ e. absurd (omega (arith, is, e));
-  filled = λ e. absurd (omega (arith, is, e));
-  unbuilt = λ e. absurd (omega (arith, is, e));
-  steady = λ _. (files_steady (λ e. omega (arith, is, e)), out_steady);
-  known = inl is;
-}
-written_run limits o words status text (inr (inl (is, done))) grows files_steady out_steady = record {
-  ended = λ e. absurd (omega (arith, is, e));
-  refused = λ e. absurd (omega (arith, is, e));
-  unread = λ e. absurd (omega (arith, is, e));
-  unwritten = λ e. absurd (omega (arith, is, e));
-  starved = λ e. absurd (omega (arith, is, e));
-  filled = λ _. (text, (done, grows));
-  unbuilt = λ e. absurd (omega (arith, is, e));
-  steady = λ _. (files_steady (λ e. omega (arith, is, e)), out_steady);
-  known = inr (inr (inr (inr (inr (inl is)))));
-}
-written_run limits o words status text (inr (inr (inl (is, done)))) grows files_steady out_steady = record {
-  ended = λ e. absurd (omega (arith, is, e));
-  refused = λ e. absurd (omega (arith, is, e));
-  unread = λ _. (text, (done, grows));
-  unwritten = λ e. absurd (omega (arith, is, e));
-  starved = λ e. absurd (omega (arith, is, e));
-  filled = λ e. absurd (omega (arith, is, e));
-  unbuilt = λ e. absurd (omega (arith, is, e));
-  steady = λ e. absurd (ends_otherwise status (λ a. omega (arith, is, a)) (λ a. omega (arith, is, a)) (λ a. omega (arith, is, a)) (λ a. omega (arith, is, a)) e);
-  known = inr (inr (inl is));
-}
-written_run limits o words status text (inr (inr (inr (inl (is, done))))) grows files_steady out_steady = record {
-  ended = λ e. absurd (omega (arith, is, e));
-  refused = λ e. absurd (omega (arith, is, e));
-  unread = λ e. absurd (omega (arith, is, e));
-  unwritten = λ e. absurd (omega (arith, is, e));
-  starved = λ e. absurd (omega (arith, is, e));
-  filled = λ e. absurd (omega (arith, is, e));
-  unbuilt = λ _. (text, (done, grows));
-  steady = λ _. (files_steady (λ e. omega (arith, is, e)), out_steady);
-  known = inr (inr (inr (inr (inr (inr is)))));
-}
-written_run limits o words status text (inr (inr (inr (inr (is, done))))) grows files_steady out_steady = record {
-  ended = λ e. absurd (omega (arith, is, e));
-  refused = λ _. (text, (done, grows));
-  unread = λ e. absurd (omega (arith, is, e));
-  unwritten = λ e. absurd (omega (arith, is, e));
-  starved = λ e. absurd (omega (arith, is, e));
-  filled = λ e. absurd (omega (arith, is, e));
-  unbuilt = λ e. absurd (omega (arith, is, e));
-  steady = λ _. (files_steady (λ e. omega (arith, is, e)), out_steady);
-  known = inr (inl is);
-}
+written_run limits o words status text w grows files_steady out_steady =
+    written_by limits o words status text w.held w.agree grows files_steady out_steady w.printed
 
 -- what was to be written is what a run may print
-may_print : (limits : Limits) (o : Outside) (words : List (List ℕ)) (status : ℕ) (text : List ℕ)
-    → IsWordsOutput limits o.files o.files_before o.files_after words status text
-    → IsOutput limits o words text
-may_print limits o words status text (inl (is, inl r)) = inl (false, r)
-may_print limits o words status text (inl (is, inr e)) = inr (inl e)
-may_print limits o words status text (inr (inl p)) = inl (true, p.1)
-may_print limits o words status text (inr (inr (inl p))) = inr (inr (inr (inl p.1)))
-may_print limits o words status text (inr (inr (inr (inl p)))) = inr (inr (inr (inr p.1)))
-may_print limits o words status text (inr (inr (inr (inr p)))) = inr (inr (inl p.1))
+may_print : (limits : Limits) (files : FilesSeen) (held : Held) (words : List (List ℕ)) (status : ℕ) (text : List ℕ)
+    → IsPrinted limits files held words status text → IsOutput limits files held words text
+may_print limits files held words status text (inl (is, inl r)) = inl (false, r)
+may_print limits files held words status text (inl (is, inr e)) = inr (inl e)
+may_print limits files held words status text (inr (inl p)) = inl (true, p.1)
+may_print limits files held words status text (inr (inr (inl p))) = inr (inr (inr (inl p.1)))
+may_print limits files held words status text (inr (inr (inr (inl p)))) = inr (inr (inr (inr p.1)))
+may_print limits files held words status text (inr (inr (inr (inr p)))) = inr (inr (inl p.1))
 
 -- a front was written
 pub unwritten_run : (limits : Limits) (o : Outside) (words : List (List ℕ)) (status : ℕ) (text given : List ℕ)
-    → IsWordsOutput limits o.files o.files_before o.files_after words status text → given ≡ text
+    → IsWordsOutput limits o.files words status text → given ≡ text
     → Rose o.out_before o.out_after → (n : ℕ) → Grows o.old o.new (take n given)
     → Correct limits o words 5
 unwritten_run limits o words status text given output same rose n part = record {
+  held = output.held;
+  agree = output.agree;
   ended = λ e. absurd (omega (arith, e));
   refused = λ e. absurd (omega (arith, e));
   unread = λ e. absurd (omega (arith, e));
@@ -249,7 +380,7 @@ unwritten_run limits o words status text given output same rose n part = record 
     (
       text,
       (
-        may_print limits o words status text output,
+        may_print limits o.files output.held words status text output.printed,
         (n, subst (λ (t : List ℕ). Grows o.old o.new (take n t)) same part),
       ),
     ),
@@ -258,9 +389,6 @@ unwritten_run limits o words status text given output same rose n part = record 
   filled = λ e. absurd (omega (arith, e));
   unbuilt = λ e. absurd (omega (arith, e));
   steady = λ e. absurd (ends_otherwise 5 (λ a. omega (arith, a)) (λ a. omega (arith, a)) (λ a. omega (arith, a)) (λ a. omega (arith, a)) e);
+  taken = λ d. absurd (d refl);
   known = inr (inr (inr (inl refl)));
 }
-
--- bytes that were read are those that are told
-pub bytes_told : (told : Option (List ℕ)) (content : Content) (bytes : Vec ℕ Global) → content ≡ Bytes bytes → HoldsContent told content → Holds told bytes.items
-bytes_told told content bytes is h = (subst (HoldsContent told) is h).0

@@ -1,5 +1,5 @@
 -- What an evaluation prints.
-use Rattle.std.proofs.Common.{◌≡◌, ℕ, Option, Some, None, Result, Ok, Err, List, [], ◌++◌, refl, sym, ap, ◌∙◌, inl, inr, codes, decimal, subst}
+use Rattle.std.proofs.Common.{◌≡◌, ℕ, false, Option, Some, None, Result, Ok, Err, List, [], ◌++◌, refl, sym, ap, ◌∙◌, inl, inr, codes, decimal, subst}
 use Rattle.std.specs.Arc.{arc_value}
 use Rattle.std.specs.Option.{option_map_or}
 use Rattle.std.specs.declared.alloc.Global.{Global}
@@ -20,17 +20,19 @@ use Rattle.pf_model.specs.Report.{evaluated_text, evaluation_text}
 use Rattle.pf_model.specs.Resolving.{resolved_over}
 use Rattle.pf_model.specs.Scripts.{Evaluation, evaluation_words, script_word}
 use Rattle.pf_model.specs.Trees.{Tree}
-use Rattle.pf_model.specs.Weave.{Files}
 use Rattle.pf_types.specs.Errors.{words_of_error}
 use Rattle.pf_types.specs.declared.query.QueryError.{QueryError}
-use Rattle.pf_top.specs.Correct.{IsUnbuilt}
+use Rattle.pf_top.specs.Correct.{AllRead, FilesSeen, Held, IsUnbuilt, Reaches, needed, needed_by}
 use Rattle.pf_top.specs.Evaluations.{IsFileOutput, IsNamedOutput, IsText}
-use Rattle.pf_top.specs.Outputs.{IsWordsOutput}
+use Rattle.pf_top.specs.Files.{HoldsContent}
+use Rattle.pf_top.specs.Outputs.{IsPrinted, IsWordsOutput}
 use Rattle.pf_top.specs.Queries.{IsQueryRead}
 use Rattle.pf_top.specs.Refusals.{refused_not_built}
 use Rattle.pf_top.specs.declared.bound.BoundQuery.{BoundQuery}
+use Rattle.pf_top.specs.declared.loaded.Content.{Content}
 use Rattle.pf_top.specs.declared.queries.QueryRead.{QueryRead}
 use Rattle.pf_top.specs.declared.queries.QueryRead.TheVariants as query
+use Rattle.pf_top.proofs.Holding.{holding_bytes, holding_none, holding_one}
 
 -- an answer over samples
 pub answer_printed : (samples : List Row) (t : Tree) (g : GridData) (wanted : Asked) (a : Answer) (text : List ℕ)
@@ -75,28 +77,75 @@ times_printed batch words start end step error (query.Refused e) text told h gri
 
 -- ---- by the words
 
-unbuilt_words : (files : Files) (w w' : Option (List ℕ)) (e e' : Option Evaluation) → w ≡ w' → e ≡ e' → IsUnbuilt files w' e' → IsUnbuilt files w e
-unbuilt_words files w w' e e' p q h = subst (λ (x : Option (List ℕ)). IsUnbuilt files x e) (sym p) (subst (IsUnbuilt files w') (sym q) h)
+unbuilt_words : (held : Held) (w w' : Option (List ℕ)) (e e' : Option Evaluation) → w ≡ w' → e ≡ e' → IsUnbuilt held w' e' → IsUnbuilt held w e
+unbuilt_words held w w' e e' p q h = subst (λ (x : Option (List ℕ)). IsUnbuilt held x e) (sym p) (subst (IsUnbuilt held w') (sym q) h)
+
+needed_words : (held : Held) (words : List (List ℕ)) (e : Option Evaluation) → script_word words ≡ None → evaluation_words words ≡ e
+    → needed held words ≡ needed_by held None e
+needed_words held words e none is =
+    ap (λ (w : Option (List ℕ)). needed_by held w (evaluation_words words)) none ∙ ap (needed_by held None) is
 
 -- the words are of no form
-pub other_words : (limits : Limits) (files : Files) (words : List (List ℕ)) (before after status : ℕ) (text : List ℕ)
-    → script_word words ≡ None → evaluation_words words ≡ None → (status ≡ 9) × (text ≡ refused_not_built)
-    → IsWordsOutput limits files before after words status text
-other_words limits files words before after status text none neither p =
-    inr (inr (inr (inl (p.0, record { unbuilt = unbuilt_words files _ None _ None none neither tt; whole = p.1 }))))
+pub other_words : (limits : Limits) (files : FilesSeen) (words : List (List ℕ)) (status : ℕ) (text : List ℕ)
+    → script_word words ≡ None → evaluation_words words ≡ None → files.after ≡ files.before → (status ≡ 9) × (text ≡ refused_not_built)
+    → IsWordsOutput limits files words status text
+other_words limits files words status text none neither steady p =
+    let h = holding_none files.told in
+    record {
+      held = h.0;
+      agree = h.1;
+      printed = inr (inr (inr (inl (
+        p.0,
+        record {
+          all = subst (AllRead files) (sym (needed_words h.0 words None none neither)) (record { there = tt; steady = steady });
+          unbuilt = unbuilt_words h.0 (script_word words) None (evaluation_words words) None none neither tt;
+          whole = p.1;
+        },
+      ))));
+    }
 
-file_printed : (limits : Limits) (files : Files) (words : List (List ℕ)) (named : Evaluation) (before after status : ℕ) (text : List ℕ)
-    → script_word words ≡ None → evaluation_words words ≡ Some named → IsFileOutput (files named.file) named status text
-    → IsWordsOutput limits files before after words status text
-file_printed limits files words named before after status text none is (inl (batch, (gives, (zero, (reading, (read, whole)))))) =
-    inl (zero, inr (record { named = named; by_words = is; batch = batch; gives = gives; reading = reading; read = read; whole = whole }))
-file_printed limits files words named before after status text none is (inr (three, (refusal, (is_refused, whole)))) =
-    inr (inr (inr (inr (three, record { named = named; by_words = is; refusal = refusal; refused = is_refused; whole = whole }))))
+-- one file was read, or not
+pub named_read : (files : FilesSeen) (named : Evaluation) (content : Content) (status : ℕ) (text : List ℕ)
+    → HoldsContent (files.told named.file) content → files.lost named.file ≡ false → files.after ≡ files.before
+    → ((told : Option (List ℕ)) → HoldsContent told content → IsFileOutput told named status text)
+    → IsNamedOutput files named status text
+named_read files named content status text holds found steady output =
+    let h = holding_one (files.told named.file) content holds in
+    inl (h.0, (h.1.0, (output (Some h.0) h.1.1, record { there = (found, tt); steady = steady })))
+
+file_printed : (limits : Limits) (files : FilesSeen) (held : Held) (words : List (List ℕ)) (named : Evaluation) (status : ℕ) (text : List ℕ)
+    → evaluation_words words ≡ Some named → AllRead files (needed held words) → IsFileOutput (Some (held named.file)) named status text
+    → IsPrinted limits files held words status text
+file_printed limits files held words named status text is a (inl (batch, (gives, (zero, (reading, (read, whole)))))) =
+    inl (zero, inr (record { all = a; named = named; by_words = is; batch = batch; gives = gives; reading = reading; read = read; whole = whole }))
+file_printed limits files held words named status text is a (inr (three, (refusal, (is_refused, whole)))) =
+    inr (inr (inr (inr (three, record { all = a; named = named; by_words = is; refusal = refusal; refused = is_refused; whole = whole }))))
 
 -- an evaluation, whose file may not be read
-pub named_printed : (limits : Limits) (files : Files) (words : List (List ℕ)) (named : Evaluation) (before after status : ℕ) (text : List ℕ)
-    → script_word words ≡ None → evaluation_words words ≡ Some named → IsNamedOutput (files named.file) before after named status text
-    → IsWordsOutput limits files before after words status text
-named_printed limits files words named before after status text none is (inl h) = file_printed limits files words named before after status text none is h
-named_printed limits files words named before after status text none is (inr (four, (rose, whole))) =
-    inr (inr (inl (four, record { name = named.file; needed = inr (inr (named, (is, refl))); rose = rose; whole = whole })))
+pub named_printed : (limits : Limits) (files : FilesSeen) (words : List (List ℕ)) (named : Evaluation) (status : ℕ) (text : List ℕ)
+    → script_word words ≡ None → evaluation_words words ≡ Some named → IsNamedOutput files named status text
+    → IsWordsOutput limits files words status text
+named_printed limits files words named status text none is (inl (bytes, (holds, (output, a)))) =
+    let h = holding_bytes files.told named.file bytes holds in
+    record {
+      held = h.0;
+      agree = h.1.0;
+      printed = file_printed limits files h.0 words named status text is
+          (subst (AllRead files) (sym (needed_words h.0 words (Some named) none is)) a)
+          (subst (λ (b : List ℕ). IsFileOutput (Some b) named status text) (sym h.1.1) output);
+    }
+named_printed limits files words named status text none is (inr (four, (fault, whole))) =
+    let h = holding_none files.told in
+    record {
+      held = h.0;
+      agree = h.1;
+      printed = inr (inr (inl (
+        four,
+        record {
+          name = named.file;
+          reached = subst (λ (ns : List (List ℕ)). Reaches files.lost ns named.file) (sym (needed_words h.0 words (Some named) none is)) (inl refl);
+          fault = fault;
+          whole = whole;
+        },
+      )));
+    }

@@ -1,5 +1,5 @@
 -- Maps by text.
-use Rattle.std.proofs.Common.{◌≡◌, ◌≢◌, ℕ, zero, suc, ◌+◌, ◌<◌, ◌≤◌, get_or, length, map, take, arith, List, [], ◌∷◌, ◌++◌, refl, sym, ap, ◌∙◌, subst, Some, Option, ◌⊎◌, inl, inr}
+use Rattle.std.proofs.Common.{◌≡◌, ◌≢◌, ℕ, zero, suc, ◌+◌, ◌<◌, ◌≤◌, Bool, true, false, get_or, length, map, take, arith, List, [], ◌∷◌, ◌++◌, refl, sym, ap, ◌∙◌, subst, true≢false, Some, None, Option, Result, Err, ◌⊎◌, inl, inr}
 use Rattle.std.specs.BTreeMap.{BTreeMap, UpdatesBy, get_by_text}
 use Rattle.std.specs.declared.string.String.{String}
 use Rattle.std.specs.String.{string_bytes, string_cmp}
@@ -10,16 +10,19 @@ use Rattle.std.specs.declared.alloc.Global.{Global}
 use Rattle.std.proofs.lemmas.Map.Text.{btree_map_updates_text}
 use Rattle.std.proofs.lemmas.Slice.Eq.{bytes_eq-Decides}
 use Rattle.std.proofs.lemmas.List.{take_more}
-use Rattle.pf_io.specs.Outside.{Rose}
-use Rattle.pf_model.specs.Scripts.{Numbered}
+use Rattle.pf_io.specs.Outside.{Rose, StayKnown}
+use Rattle.pf_model.specs.Lists.{Each}
+use Rattle.pf_model.specs.Scripts.{Line, Numbered, ingest, delete, ask, answer}
 use Rattle.pf_script.specs.Lines.{numbered_of}
 use Rattle.pf_script.specs.declared.script.NumberedLine.{NumberedLine}
-use Rattle.pf_top.specs.Correct.{LineNames, NamesFile}
-use Rattle.pf_top.specs.Files.{Contents, AreHeld, AreLoaded, HoldsContent, IsKept, IsShort, IsLoaded, IsLoadedFor, IsUnread}
+use Rattle.pf_top.specs.Correct.{HasFailed, Reaches, files_of, with_file}
+use Rattle.pf_top.specs.Files.{Contents, AreHeld, AreLoaded, AreThere, HoldsContent, IsKept, IsShort, IsLoaded, IsLoadedFor, IsUnread, LineNames, NamesFile, StayKept}
 use Rattle.pf_top.specs.declared.loaded.LoadError.{LoadError}
 use Rattle.pf_top.specs.declared.loaded.LoadError.TheVariants.{Unread, OutOfMemory}
 use Rattle.pf_top.specs.declared.loaded.Content.{Content}
 use Rattle.pf_top.specs.declared.loaded.Content.TheVariants.{Bytes, TooLong}
+use Rattle.pf_io.specs.declared.outside.ReadError.{ReadError}
+use Rattle.pf_io.specs.declared.outside.ReadError.TheVariants.{Failed}
 use Rattle.pf_top.proofs.Lists.{map_push, some_is}
 use Rattle.pf_top.proofs.Machines.{bool_cases}
 
@@ -41,37 +44,53 @@ held_short told kept name content h g = short_by (told name) content (h name con
 pub kept_short : (kept : Contents) (name : List ℕ) (content : Content) → IsKept kept name → get_by_text kept name ≡ Some content → IsShort content
 kept_short kept name content k g = subst IsShort (some_is k.content content (sym k.there ∙ g)) k.short
 
-pub loaded_there : (told : List ℕ → Option (List ℕ)) (kept : Contents) (name : List ℕ) (content : Content) → AreHeld told kept → get_by_text kept name ≡ Some content → IsLoaded told kept name kept
-loaded_there told kept name content h g =
-    record { held = h; there = record { content = content; there = g; short = held_short told kept name content h g }; still = λ other o. o }
+pub loaded_there : (told : List ℕ → Option (List ℕ)) (lost : List ℕ → Bool) (kept : Contents) (name : List ℕ) (content : Content)
+    → AreHeld told kept → AreThere lost kept → get_by_text kept name ≡ Some content → IsLoaded told lost kept name kept
+loaded_there told lost kept name content h p g =
+    record { held = h; present = p; there = record { content = content; there = g; short = held_short told kept name content h g }; still = λ other c o. o }
 
-pub loaded_already : (told : List ℕ → Option (List ℕ)) (kept : Contents) (name : List ℕ) → AreHeld told kept → IsKept kept name → IsLoaded told kept name kept
-loaded_already told kept name h k = record { held = h; there = k; still = λ other o. o }
-
-pub loaded_new : (told : List ℕ → Option (List ℕ)) (old new : Contents) (name : List ℕ) (content : Content)
-    → AreHeld told old → HoldsContent (told name) content → get_by_text new name ≡ Some content
-    → ((other : List ℕ) → other ≢ name → get_by_text new other ≡ get_by_text old other) → IsLoaded told old name new
-loaded_new told old new name content h holds there others = record {
-  held = λ other c g. elim (bool_cases (bytes_eq other name)) [
+module _ (old new : Contents) (name : List ℕ) (content : Content) (there : get_by_text new name ≡ Some content)
+    (others : (other : List ℕ) → other ≢ name → get_by_text new other ≡ get_by_text old other) where
+  -- what holds of what was kept, and of what is kept now under the name, holds of all that is kept
+  each_new : (P : List ℕ → Content → Type 0) → ((other : List ℕ) (c : Content) → get_by_text old other ≡ Some c → P other c) → P name content
+      → (other : List ℕ) (c : Content) → get_by_text new other ≡ Some c → P other c
+  each_new P before now other c g = elim (bool_cases (bytes_eq other name)) [
     | inl t ↦
         let same : other ≡ name = (bytes_eq-Decides other name).0 t in
         let here : get_by_text new other ≡ Some content = subst (λ n. get_by_text new n ≡ Some content) (sym same) there in
         let found : content ≡ c = some_is content c (sym here ∙ g) in
-        subst (λ n. HoldsContent (told n) c) (sym same) (subst (HoldsContent (told name)) found holds)
+        subst (λ n. P n c) (sym same) (subst (P name) found now)
     | inr t ↦
         let differ : other ≢ name = λ s. let u = (bytes_eq-Decides other name).1 s in let v = rw t at u in cc in
-        h other c (sym (others other differ) ∙ g)
-  ];
-  there = record { content = content; there = there; short = short_by (told name) content holds };
-  still = λ other k. elim (bool_cases (bytes_eq other name)) [
+        before other c (sym (others other differ) ∙ g)
+  ]
+
+  pub held_new : (told : List ℕ → Option (List ℕ)) → AreHeld told old → HoldsContent (told name) content → AreHeld told new
+  held_new told h holds = each_new (λ n c. HoldsContent (told n) c) h holds
+
+  pub there_new : (lost : List ℕ → Bool) → AreThere lost old → lost name ≡ false → AreThere lost new
+  there_new lost p found = each_new (λ n c. lost n ≡ false) p found
+
+  -- what was kept is kept, where nothing was kept under the name
+  pub still_new : get_by_text old name ≡ None → StayKept old new
+  still_new none other c g = elim (bool_cases (bytes_eq other name)) [
     | inl t ↦
         let same : other ≡ name = (bytes_eq-Decides other name).0 t in
-        record { content = content; there = subst (λ n. get_by_text new n ≡ Some content) (sym same) there; short = short_by (told name) content holds }
+        let here : get_by_text old other ≡ None = subst (λ n. get_by_text old n ≡ None) (sym same) none in
+        let impossible : None ≡ Some c = sym here ∙ g in cc
     | inr t ↦
         let differ : other ≢ name = λ s. let u = (bytes_eq-Decides other name).1 s in let v = rw t at u in cc in
-        record { content = k.content; there = others other differ ∙ k.there; short = k.short }
-  ];
-}
+        others other differ ∙ g
+  ]
+
+  pub loaded_new : (told : List ℕ → Option (List ℕ)) (lost : List ℕ → Bool) → AreHeld told old → AreThere lost old → get_by_text old name ≡ None
+      → HoldsContent (told name) content → lost name ≡ false → IsLoaded told lost old name new
+  loaded_new told lost h p none holds found = record {
+    held = held_new told h holds;
+    present = there_new lost p found;
+    there = record { content = content; there = there; short = short_by (told name) content holds };
+    still = still_new none;
+  }
 
 names_push : (ls : List Numbered) (l : Numbered) (name : List ℕ) → NamesFile (ls ++ l ∷ []) name → NamesFile ls name ⊎ LineNames l.line name
 names_push [] l name (inl h) = inr h
@@ -96,23 +115,72 @@ length_map : {X Y : Type 0} (f : X → Y) (xs : List X) → length (map f xs) �
 length_map f [] = refl
 length_map f (x ∷ xs) = ap suc (length_map f xs)
 
+still_kept : (old new : Contents) → StayKept old new → (name : List ℕ) → IsKept old name → IsKept new name
+still_kept old new still name k = record { content = k.content; there = still name k.content k.there; short = k.short }
+
 -- the file of a further line
-pub loaded_more : (told again : List ℕ → Option (List ℕ)) (ls : List NumberedLine) (i : ℕ) (l : NumberedLine) (old new : Contents)
+pub loaded_more : (told again : List ℕ → Option (List ℕ)) (lost relost : List ℕ → Bool) (ls : List NumberedLine) (i : ℕ) (l : NumberedLine) (first old new : Contents)
     → i < length ls → l ≡ get_or ls i l
-    → ((name : List ℕ) → again name ≡ told name)
-    → AreLoaded told (map numbered_of (take i ls)) old → IsLoadedFor again old (numbered_of l) new
-    → AreLoaded told (map numbered_of (take (i + 1) ls)) new
-loaded_more told again ls i l old new p is same h n =
+    → ((name : List ℕ) → again name ≡ told name) → ((name : List ℕ) → relost name ≡ lost name)
+    → AreLoaded told lost first (map numbered_of (take i ls)) old → IsLoadedFor again relost old (numbered_of l) new
+    → AreLoaded told lost first (map numbered_of (take (i + 1) ls)) new
+loaded_more told again lost relost ls i l first old new p is same same_lost h n =
     let more : map numbered_of (take (i + 1) ls) ≡ map numbered_of (take i ls) ++ numbered_of l ∷ [] =
     ap (map numbered_of) (take_more ls i l p) ∙ map_push numbered_of (take i ls) (get_or ls i l)
     ∙ ap (λ (x : NumberedLine). map numbered_of (take i ls) ++ numbered_of x ∷ []) (sym is) in
     record {
       held = λ name content g. subst (λ (t : Option (List ℕ)). HoldsContent t content) (same name) (n.held name content g);
+      present = λ name content g. sym (same_lost name) ∙ n.present name content g;
       there = λ name named. elim (names_push (map numbered_of (take i ls)) (numbered_of l) name (subst (λ (xs : List Numbered). NamesFile xs name) more named)) [
-        | inl before ↦ n.still name (h.there name before)
+        | inl before ↦ still_kept old new n.still name (h.there name before)
         | inr here ↦ n.there name here
       ];
+      still = λ name content g. n.still name content (h.still name content g);
     }
+
+-- what was read before the first line
+pub loaded_none : (told : List ℕ → Option (List ℕ)) (lost : List ℕ → Bool) (kept : Contents) → AreHeld told kept → AreThere lost kept → AreLoaded told lost kept [] kept
+loaded_none told lost kept h p = record { held = h; present = p; there = λ name named. absurd named; still = λ name content g. g }
+
+-- a file that was read is not lost
+pub read_there : (told : List ℕ → Option (List ℕ)) (lost : List ℕ → Bool) (first kept : Contents) (lines : List Numbered) → AreLoaded told lost first lines kept
+    → (name : List ℕ) → NamesFile lines name → lost name ≡ false
+read_there told lost first kept lines l name named = let k = l.there name named in l.present name k.content k.there
+
+each_with : (P : List ℕ → Type 0) (line : Line) (names : List (List ℕ)) → ((name : List ℕ) → LineNames line name → P name) → Each P names → Each P (with_file line names)
+each_with P (ingest tenant file time) names h e = (h file refl, e)
+each_with P (delete tenant from to selector) names h e = e
+each_with P (ask id tenant start end step query) names h e = e
+each_with P (answer id asked) names h e = e
+
+-- what holds of each file that lines name
+pub each_file : (P : List ℕ → Type 0) (lines : List Numbered) → ((name : List ℕ) → NamesFile lines name → P name) → Each P (files_of lines)
+each_file P [] h = tt
+each_file P (l ∷ ls) h = each_with P l.line (files_of ls) (λ name n. h name (inl n)) (each_file P ls (λ name n. h name (inr n)))
+
+reach_here : (lost : List ℕ → Bool) (line : Line) (names : List (List ℕ)) (name : List ℕ) → LineNames line name → Reaches lost (with_file line names) name
+reach_here lost (ingest tenant file time) names name h = inl h
+reach_here lost (delete tenant from to selector) names name h = absurd h
+reach_here lost (ask id tenant start end step query) names name h = absurd h
+reach_here lost (answer id asked) names name h = absurd h
+
+reach_past : (lost : List ℕ → Bool) (line : Line) (names : List (List ℕ)) (name : List ℕ) → ((n : List ℕ) → LineNames line n → lost n ≡ false)
+    → Reaches lost names name → Reaches lost (with_file line names) name
+reach_past lost (ingest tenant file time) names name h r = inr (h file refl, r)
+reach_past lost (delete tenant from to selector) names name h r = r
+reach_past lost (ask id tenant start end step query) names name h r = r
+reach_past lost (answer id asked) names name h r = r
+
+-- where no file of the lines before is lost, a line's file is come to
+pub reaches_at : (lost : List ℕ → Bool) (ls : List NumberedLine) (i : ℕ) (l : NumberedLine) (name : List ℕ) → i < length ls → l ≡ get_or ls i l
+    → ((n : List ℕ) → NamesFile (map numbered_of (take i ls)) n → lost n ≡ false) → LineNames (numbered_of l).line name
+    → Reaches lost (files_of (map numbered_of ls)) name
+reaches_at lost [] i l name p is h here = absurd (omega (arith, p))
+reaches_at lost (k ∷ ks) zero l name p is h here =
+    reach_here lost (numbered_of k).line (files_of (map numbered_of ks)) name (subst (λ (x : NumberedLine). LineNames (numbered_of x).line name) is here)
+reaches_at lost (k ∷ ks) (suc i) l name p is h here =
+    reach_past lost (numbered_of k).line (files_of (map numbered_of ks)) name (λ n named. h n (inl named))
+    (reaches_at lost ks i l name (omega (arith, p)) is (λ n named. h n (inr named)) here)
 
 -- the line that names a file is one of the script's
 pub named_by : (ls : List NumberedLine) (i : ℕ) (l : NumberedLine) (name : List ℕ) → i < length ls → l ≡ get_or ls i l
@@ -122,10 +190,35 @@ named_by ls i l name p is h =
     names_at (map numbered_of ls) i (numbered_of l) name (omega (arith, p, long))
     (subst (λ (x : Numbered). LineNames x.line name) (ap numbered_of is ∙ sym (get_or_map numbered_of ls i l p)) h)
 
-pub unread_by : (needed wider : List ℕ → Type 0) (before middle after : ℕ) (e : LoadError) → ((name : List ℕ) → needed name → wider name) → before ≤ middle
-    → IsUnread needed middle after e → IsUnread wider before after e
-unread_by needed wider before middle after (Unread name) w p h = (w name h.0, rose h.1) where
-  rose : Rose middle after → Rose before after
-  rose (inl r) = inl (omega (arith, p, r))
-  rose (inr r) = inr r
-unread_by needed wider before middle after OutOfMemory w p h = tt
+unsure_before : (a b : Bool) → (a ≡ true → b ≡ true) → b ≡ false → a ≡ false
+unsure_before true b h e = absurd (true≢false (sym (h refl) ∙ e))
+unsure_before false b h e = refl
+
+-- a read that failed later failed since an earlier time
+pub failed_since : (sure again : List ℕ → Bool) (before middle after : ℕ) (failed : Bool) (name : List ℕ) → StayKnown sure again → before ≤ middle
+    → HasFailed again middle after failed name → HasFailed sure before after failed name
+failed_since sure again before middle after failed name s p h =
+    record { unsure = unsure_before (sure name) (again name) (s name) h.unsure; rose = rise h.rose; last = h.last } where
+      rise : Rose middle after → Rose before after
+      rise (inl r) = inl (omega (arith, p, r))
+      rise (inr r) = inr r
+
+pub unread_by : (IsNeeded wider : List ℕ → Type 0) (sure again : List ℕ → Bool) (before middle after : ℕ) (failed : Bool) (e : LoadError)
+    → ((name : List ℕ) → IsNeeded name → wider name) → StayKnown sure again → before ≤ middle
+    → IsUnread IsNeeded again middle after failed e → IsUnread wider sure before after failed e
+unread_by IsNeeded wider sure again before middle after failed (Unread name) w s p h =
+    (w name h.0, failed_since sure again before middle after failed name s p h.1)
+unread_by IsNeeded wider sure again before middle after failed OutOfMemory w s p h = tt
+
+-- a name of which a read did not fail is not lost, and one of which a read failed is not sure
+pub not_lost : (lost : Bool) (r : Result (Unit {0}) ReadError) → (lost ≡ true → r ≡ Err Failed) → (r ≡ Err Failed → ⊥) → lost ≡ false
+not_lost true r h d = absurd (d (h refl))
+not_lost false r h d = refl
+
+not_sure : (sure : Bool) (r : Result (Unit {0}) ReadError) → (sure ≡ true → r ≡ Err Failed → ⊥) → r ≡ Err Failed → sure ≡ false
+not_sure true r h e = absurd (h refl e)
+not_sure false r h e = refl
+
+pub has_failed : (sure : List ℕ → Bool) (name : List ℕ) (before after : ℕ) (failed : Bool) (r : Result (Unit {0}) ReadError)
+    → (sure name ≡ true → r ≡ Err Failed → ⊥) → r ≡ Err Failed → Rose before after → failed ≡ true → HasFailed sure before after failed name
+has_failed sure name before after failed r h e rose last = record { unsure = not_sure (sure name) r h e; rose = rose; last = last }

@@ -11,8 +11,8 @@ use Rattle.pf_model.specs.Weave.{Files, IsUncached, Known, Rest, Weave}
 use Rattle.pf_script.specs.Lines.{AllFollow, IsRead, lines_of}
 use Rattle.pf_script.specs.declared.script.Script.{Script}
 use Rattle.pf_top.specs.Clients.{IsStopped}
-use Rattle.pf_top.specs.Correct.{HaveMetFull, NamesFile}
-use Rattle.pf_top.specs.Files.{Contents, IsKept, IsShort}
+use Rattle.pf_top.specs.Correct.{HaveMetFull}
+use Rattle.pf_top.specs.Files.{Contents, IsKept, IsShort, NamesFile}
 use Rattle.pf_top.specs.Going.{Going}
 use Rattle.pf_top.specs.Queries.{AreReadAs, IsKeptFor, IsTold}
 use Rattle.pf_top.specs.declared.client.Client.{Client}

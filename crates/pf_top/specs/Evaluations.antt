@@ -1,5 +1,5 @@
 -- The evaluation of one query over a file: this project's own.
-use Rattle.std.specs.Prelude.{◌≡◌, ℕ, ◌⊎◌, Option, Some, List}
+use Rattle.std.specs.Prelude.{◌≡◌, ℕ, ◌⊎◌, Option, Some, List, [], ◌∷◌}
 use Rattle.pf_base.specs.Batches.{BatchData}
 use Rattle.pf_base.specs.Grids.{grid_of}
 use Rattle.pf_model.specs.Log.{batch_samples}
@@ -7,7 +7,8 @@ use Rattle.pf_model.specs.Queries.{IsReading, Reading, asked_with}
 use Rattle.pf_model.specs.Report.{evaluated_text}
 use Rattle.pf_model.specs.Scripts as script
 use Rattle.pf_model.specs.Weave.{Gives, IsRefusedAs, Refusal}
-use Rattle.pf_io.specs.Outside.{Rose}
+use Rattle.pf_io.specs.Outside.{Holds}
+use Rattle.pf_top.specs.Correct.{AllRead, FilesSeen, HasFailed}
 use Rattle.pf_top.specs.Refusals.{refused_file, refused_read}
 use Rattle.pf_top.specs.declared.words.Evaluation.{Evaluation}
 
@@ -34,7 +35,8 @@ IsFileOutput told named status text =
     ((batch : BatchData) × (Gives told 0 batch × IsBatchOutput batch named status text))
     ⊎ ((status ≡ 3) × ((refusal : Refusal) × (IsRefusedAs told 0 refusal × (text ≡ refused_file refusal))))
 
--- and one that may not be read
-abbrev pub IsNamedOutput : Option (List ℕ) → ℕ → ℕ → script.Evaluation → ℕ → List ℕ → Type 0
-IsNamedOutput told before after named status text =
-    IsFileOutput told named status text ⊎ ((status ≡ 4) × (Rose before after × (text ≡ refused_read named.file)))
+-- and one that may not be read: over one reading of it, which gave what is told
+abbrev pub IsNamedOutput : FilesSeen → script.Evaluation → ℕ → List ℕ → Type 0
+IsNamedOutput files named status text =
+    ((bytes : List ℕ) × (Holds (files.told named.file) bytes × (IsFileOutput (Some bytes) named status text × AllRead files (named.file ∷ []))))
+    ⊎ ((status ≡ 4) × (HasFailed files.sure files.before files.after files.failed named.file × (text ≡ refused_read named.file)))

@@ -1,15 +1,26 @@
 -- Files that were read: this project's own.
-use Rattle.std.specs.Prelude.{◌≡◌, ℕ, ◌≤◌, Option, Some, List, length}
+use Rattle.std.specs.Prelude.{◌≡◌, ℕ, ◌≤◌, ◌⊎◌, Bool, false, Option, Some, List, [], ◌∷◌, length}
 use Rattle.std.specs.BTreeMap.{BTreeMap, get_by_text}
 use Rattle.std.specs.declared.alloc.Global.{Global}
 use Rattle.std.specs.declared.string.String.{String}
-use Rattle.pf_io.specs.Outside.{Holds, LongerThan, Rose}
-use Rattle.pf_model.specs.Scripts.{Numbered, most_bytes}
-use Rattle.pf_top.specs.Correct.{LineNames, NamesFile}
+use Rattle.pf_io.specs.Outside.{Holds, LongerThan}
+use Rattle.pf_model.specs.Scripts.{Line, Numbered, ingest, delete, ask, answer, most_bytes}
+use Rattle.pf_top.specs.Correct.{HasFailed}
 use Rattle.pf_top.specs.declared.loaded.Content.{Content}
 use Rattle.pf_top.specs.declared.loaded.Content.TheVariants.{Bytes, TooLong}
 use Rattle.pf_top.specs.declared.loaded.LoadError.{LoadError}
 use Rattle.pf_top.specs.declared.loaded.LoadError.TheVariants.{Unread, OutOfMemory}
+
+-- a line names a file
+abbrev pub LineNames : Line → List ℕ → Type 0
+LineNames (ingest tenant file time) name = file ≡ name
+LineNames (delete tenant from to selector) name = ⊥
+LineNames (ask id tenant start end step query) name = ⊥
+LineNames (answer id asked) name = ⊥
+
+abbrev pub NamesFile : List Numbered → List ℕ → Type 0
+NamesFile [] name = ⊥
+NamesFile (l ∷ ls) name = LineNames l.line name ⊎ NamesFile ls name
 
 -- what files hold, by name
 abbrev pub Contents : Type 0
@@ -34,24 +45,36 @@ pub record IsKept (kept : Contents) (name : List ℕ) : Type 0 where
   pub there : get_by_text kept name ≡ Some content
   pub short : IsShort content
 
--- a file was read, and what was kept is kept
-pub record IsLoaded (told : List ℕ → Option (List ℕ)) (old : Contents) (name : List ℕ) (new : Contents) : Type 0 where
+-- nothing is kept under a name that is lost
+abbrev pub AreThere : (List ℕ → Bool) → Contents → Type 0
+AreThere lost kept = (name : List ℕ) (content : Content) → get_by_text kept name ≡ Some content → lost name ≡ false
+
+-- what was kept is kept
+abbrev pub StayKept : Contents → Contents → Type 0
+StayKept old new = (name : List ℕ) (content : Content) → get_by_text old name ≡ Some content → get_by_text new name ≡ Some content
+
+-- a file was read, if it was not before
+pub record IsLoaded (told : List ℕ → Option (List ℕ)) (lost : List ℕ → Bool) (old : Contents) (name : List ℕ) (new : Contents) : Type 0 where
   pub held : AreHeld told new
+  pub present : AreThere lost new
   pub there : IsKept new name
-  pub still : (other : List ℕ) → IsKept old other → IsKept new other
-
--- every file that lines name was read
-pub record AreLoaded (told : List ℕ → Option (List ℕ)) (lines : List Numbered) (kept : Contents) : Type 0 where
-  pub held : AreHeld told kept
-  pub there : (name : List ℕ) → NamesFile lines name → IsKept kept name
-
--- a file that is needed was not read, where the count of faults rose
-abbrev pub IsUnread : (List ℕ → Type 0) → ℕ → ℕ → LoadError → Type 0
-IsUnread needed before after (Unread name) = needed name × Rose before after
-IsUnread needed before after OutOfMemory = Unit {0}
+  pub still : StayKept old new
 
 -- the file that a line names was read, if it names one
-pub record IsLoadedFor (told : List ℕ → Option (List ℕ)) (old : Contents) (l : Numbered) (new : Contents) : Type 0 where
+pub record IsLoadedFor (told : List ℕ → Option (List ℕ)) (lost : List ℕ → Bool) (old : Contents) (l : Numbered) (new : Contents) : Type 0 where
   pub held : AreHeld told new
+  pub present : AreThere lost new
   pub there : (name : List ℕ) → LineNames l.line name → IsKept new name
-  pub still : (other : List ℕ) → IsKept old other → IsKept new other
+  pub still : StayKept old new
+
+-- every file that lines name was read
+pub record AreLoaded (told : List ℕ → Option (List ℕ)) (lost : List ℕ → Bool) (old : Contents) (lines : List Numbered) (new : Contents) : Type 0 where
+  pub held : AreHeld told new
+  pub present : AreThere lost new
+  pub there : (name : List ℕ) → NamesFile lines name → IsKept new name
+  pub still : StayKept old new
+
+-- a file that is needed was not read
+abbrev pub IsUnread : (List ℕ → Type 0) → (List ℕ → Bool) → ℕ → ℕ → Bool → LoadError → Type 0
+IsUnread IsNeeded sure before after failed (Unread name) = IsNeeded name × HasFailed sure before after failed name
+IsUnread IsNeeded sure before after failed OutOfMemory = Unit {0}

@@ -14,8 +14,7 @@ use Rattle.pf_script.specs.Lines.{Follows, IsAsk, IsRead, numbered_of}
 use Rattle.pf_script.specs.declared.script.NumberedLine.{NumberedLine}
 use Rattle.pf_top.specs.Asks.{SlotRight}
 use Rattle.pf_top.specs.Clients.{IsStopped}
-use Rattle.pf_top.specs.Correct.{LineNames}
-use Rattle.pf_top.specs.Files.{IsKept}
+use Rattle.pf_top.specs.Files.{IsKept, LineNames}
 use Rattle.pf_top.specs.Queries.{AreReadAs, IsKeptFor, IsTold}
 use Rattle.pf_top.specs.Sessions.{IsQuery, Stands, journal_of, machine_of}
 use Rattle.pf_top.specs.declared.client.Client.{Client}

@@ -1,23 +1,24 @@
 //! The call that does all that the program does.
 
-ghost use Rattle.std.specs.Prelude.{◌≡◌, ◌≢◌, ◌≤◌, ℕ, List, [], IfOk, None, Option, true, vec_len};
+ghost use Rattle.std.specs.Prelude.{◌≡◌, ◌≢◌, ◌≤◌, ℕ, List, [], IfOk, None, Option, false, length, true, vec_len};
 ghost use Rattle.pf_block.specs.Snaps.{are_timed};
 ghost use Rattle.pf_model.specs.Lists.{Each};
 ghost use Rattle.pf_script.specs.Lines.{AllFollow, IsRead, lines_of};
 ghost use Rattle.pf_model.specs.Weave.{Files};
-ghost use Rattle.pf_top.specs.Correct.{Correct, NamesFile, Outside};
+ghost use Rattle.pf_top.specs.Correct.{Correct, FilesSeen, Outside};
 ghost use Rattle.pf_top.specs.Drives.{AreShort};
-ghost use Rattle.pf_model.specs.Scripts.{script_word};
+ghost use Rattle.pf_io.specs.Outside.{Holds};
+ghost use Rattle.pf_model.specs.Scripts.{evaluation_words, most_bytes, script_word};
 ghost use Rattle.pf_top.specs.Clients.{refusal_in};
 ghost use Rattle.pf_top.specs.Evaluations.{IsBatchOutput, IsFileOutput, IsNamedOutput, evaluation_in};
-ghost use Rattle.pf_top.specs.Files.{AreHeld, HoldsContent, IsKept, IsShort};
-ghost use Rattle.pf_top.specs.Outputs.{IsRun, IsScriptOutput, IsWordsOutput, default_limits};
+ghost use Rattle.pf_top.specs.Files.{AreHeld, HoldsContent, IsKept, IsShort, NamesFile};
+ghost use Rattle.pf_top.specs.Outputs.{IsReplay, IsRun, IsWordsOutput, default_limits};
 ghost use Rattle.pf_top.specs.Refusals.{refused_file, refused_line, refused_not_built, refused_read};
 
 use crate::client::{FileFault, FileRead, read_content};
 use crate::drive::run_script;
 use crate::evaluation::evaluation_of;
-use crate::loaded::{Content, Contents, LoadError, Loaded, load_all, read_file};
+use crate::loaded::{Content, Contents, LoadError, Loaded, load_all, only, read_file};
 use crate::queries::read_queries;
 use crate::words::{Evaluation, evaluation_words, script_name};
 use pf_base::{Batch, Limits, OutOfMemory, Text};
@@ -95,24 +96,34 @@ fn run_loaded(
     })
 }
 
-/// Reads the files that a script names, and then its queries, and runs it.
+/// Reads the other files that a script names, and then its queries, and runs it. These are its own name and bytes, which
+/// are not read again.
 fn replay_script<F: Files>(
     alloc: Global,
     limits: Limits,
     files: &mut F,
     script: &Script,
+    name: &str,
+    bytes: Vec<u8>,
 ) -> Result<Output, OutOfMemory>
     requires journal { limits.journal ≤ 4000000 }
     requires some { 1 ≤ limits.outstanding }
     requires read { Each IsRead script.now.lines.items }
     requires following { AllFollow [] (lines_of script.now) }
-    ensures output { IfOk result (λ o. IsScriptOutput limits (F.told files.old) (F.faults files.old) (F.faults files.new) (lines_of script.now) o.status o.text.items) }
+    requires held { Holds (F.told files.old name.now) bytes.items }
+    requires short { length bytes.items ≤ most_bytes }
+    requires there { F.lost files.old name.now ≡ false }
+    ensures output { let seen : FilesSeen = record { told = F.told files.old; sure = F.sure files.old; lost = F.lost files.old; before = F.faults files.old; after = F.faults files.new; failed = F.failed files.new } in
+        IfOk result (λ o. IsReplay limits seen name.now bytes.items (lines_of script.now) o.status o.text.items) }
     ensures steady { IfOk result (λ o. o.status ≢ 4 → F.faults files.new ≡ F.faults files.old) }
     ensures counted { F.faults files.old ≤ F.faults files.new }
 {
-    match load_all(alloc, files, script) {
-        Ok(contents) => run_loaded(alloc, limits, script, contents),
-        Err(LoadError::Unread { name }) => unread(alloc, name.as_str()),
+    let Ok(mut contents) = only(alloc, name, Content::Bytes(bytes)) else {
+        return Err(OutOfMemory);
+    };
+    match load_all(alloc, files, &mut contents, script) {
+        Ok(()) => run_loaded(alloc, limits, script, contents),
+        Err(LoadError::Unread { name: missing }) => unread(alloc, missing.as_str()),
         Err(LoadError::OutOfMemory) => Err(OutOfMemory),
     }
 }
@@ -177,7 +188,8 @@ fn evaluate_file<F: Files>(
     files: &mut F,
     named: &Evaluation<'_>,
 ) -> Result<Output, OutOfMemory>
-    ensures output { IfOk result (λ o. IsNamedOutput (F.told files.old (evaluation_in named.now).file) (F.faults files.old) (F.faults files.new) (evaluation_in named.now) o.status o.text.items) }
+    ensures output { let seen : FilesSeen = record { told = F.told files.old; sure = F.sure files.old; lost = F.lost files.old; before = F.faults files.old; after = F.faults files.new; failed = F.failed files.new } in
+        IfOk result (λ o. IsNamedOutput seen (evaluation_in named.now) o.status o.text.items) }
     ensures steady { IfOk result (λ o. o.status ≢ 4 → F.faults files.new ≡ F.faults files.old) }
     ensures counted { F.faults files.old ≤ F.faults files.new }
 {
@@ -195,9 +207,11 @@ fn evaluate_words<F: Files>(
     files: &mut F,
 ) -> Result<Output, OutOfMemory>
     requires { script_word words.now ≡ None }
-    ensures output { IfOk result (λ o. (limits : Limits) → IsWordsOutput limits (F.told files.old) (F.faults files.old) (F.faults files.new) words.now o.status o.text.items) }
+    ensures output { let seen : FilesSeen = record { told = F.told files.old; sure = F.sure files.old; lost = F.lost files.old; before = F.faults files.old; after = F.faults files.new; failed = F.failed files.new } in
+        IfOk result (λ o. (limits : Limits) → IsWordsOutput limits seen words.now o.status o.text.items) }
     ensures steady { IfOk result (λ o. o.status ≢ 4 → F.faults files.new ≡ F.faults files.old) }
     ensures counted { F.faults files.old ≤ F.faults files.new }
+    ensures untouched { evaluation_words words.now ≡ None → files.new ≡ files.old }
 {
     match evaluation_words(words) {
         Some(named) => evaluate_file(alloc, files, &named),
@@ -214,9 +228,11 @@ fn run_words<F: Files>(
 ) -> Result<Output, OutOfMemory>
     requires journal { limits.journal ≤ 4000000 }
     requires some { 1 ≤ limits.outstanding }
-    ensures output { IfOk result (λ o. IsWordsOutput limits (F.told files.old) (F.faults files.old) (F.faults files.new) words.now o.status o.text.items) }
+    ensures output { let seen : FilesSeen = record { told = F.told files.old; sure = F.sure files.old; lost = F.lost files.old; before = F.faults files.old; after = F.faults files.new; failed = F.failed files.new } in
+        IfOk result (λ o. IsWordsOutput limits seen words.now o.status o.text.items) }
     ensures steady { IfOk result (λ o. o.status ≢ 4 → F.faults files.new ≡ F.faults files.old) }
     ensures counted { F.faults files.old ≤ F.faults files.new }
+    ensures untouched { script_word words.now ≡ None → evaluation_words words.now ≡ None → files.new ≡ files.old }
 {
     let Some(name) = script_name(words) else {
         return evaluate_words(alloc, words, files);
@@ -228,7 +244,7 @@ fn run_words<F: Files>(
         Err(_) => return Err(OutOfMemory),
     };
     match read_script(alloc, bytes.as_slice()) {
-        Ok(script) => replay_script(alloc, limits, files, &script),
+        Ok(script) => replay_script(alloc, limits, files, &script, name, bytes),
         Err(ScriptError::NotBuilt) => unbuilt(alloc),
         Err(ScriptError::OutOfMemory) => Err(OutOfMemory),
     }
@@ -244,8 +260,10 @@ pub fn run_within<F: Files, O: Sink>(
 ) -> u8
     requires journal { limits.journal ≤ 4000000 }
     requires some { 1 ≤ limits.outstanding }
-    ensures { let outside : Outside = record { files = F.told files.old; files_before = F.faults files.old; files_after = F.faults files.new; out_before = O.faults out.old; out_after = O.faults out.new; old = O.told out.old; new = O.told out.new } in
+    ensures claim { let seen : FilesSeen = record { told = F.told files.old; sure = F.sure files.old; lost = F.lost files.old; before = F.faults files.old; after = F.faults files.new; failed = F.failed files.new } in
+        let outside : Outside = record { files = seen; out_before = O.faults out.old; out_after = O.faults out.new; old = O.told out.old; new = O.told out.new } in
         Correct limits outside words.now result }
+    ensures untouched { script_word words.now ≡ None → evaluation_words words.now ≡ None → files.new ≡ files.old }
 {
     let Ok(output) = run_words(alloc, limits, words, files) else {
         return 6;
@@ -277,8 +295,10 @@ pub fn run<R, F: Files, O: Sink, H: Hop + Send + Drop, G: Gate + Sync, D: Doors>
 where
     R: AllocGlobal + Clock + Threads + Wait + Net + RandomSource + Sync,
     requires { vec_len hops ≡ 32 }
-    ensures { let outside : Outside = record { files = F.told files.old; files_before = F.faults files.old; files_after = F.faults files.new; out_before = O.faults out.old; out_after = O.faults out.new; old = O.told out.old; new = O.told out.new } in
+    ensures claim { let seen : FilesSeen = record { told = F.told files.old; sure = F.sure files.old; lost = F.lost files.old; before = F.faults files.old; after = F.faults files.new; failed = F.failed files.new } in
+        let outside : Outside = record { files = seen; out_before = O.faults out.old; out_after = O.faults out.new; old = O.told out.old; new = O.told out.new } in
         Correct default_limits outside words.now result }
+    ensures untouched { script_word words.now ≡ None → evaluation_words words.now ≡ None → files.new ≡ files.old }
 {
     run_within(alloc, DEFAULT_LIMITS, words, files, out)
 }

@@ -1,12 +1,12 @@
 //! What a script names: files and queries.
 
-ghost use Rattle.std.specs.Prelude.{◌≡◌, ◌≢◌, ◌≤◌, ℕ, Err, IfErr, IfOk, List, MatchOption, OnOk, Some, None, [], length, map};
+ghost use Rattle.std.specs.Prelude.{◌≡◌, ◌≢◌, ◌≤◌, ℕ, Bool, Err, IfErr, IfOk, List, MatchOption, OnOk, Option, Some, None, [], false, length, map};
 ghost use Rattle.std.specs.BTreeMap.{get_by_text};
-ghost use Rattle.pf_io.specs.Outside.{Holds, LongerThan, Rose};
+ghost use Rattle.pf_io.specs.Outside.{Holds, LongerThan, StayKnown};
 ghost use Rattle.pf_model.specs.Scripts.{most_bytes};
 ghost use Rattle.pf_script.specs.Lines.{lines_of, numbered_of};
-ghost use Rattle.pf_top.specs.Correct.{LineNames, NamesFile};
-ghost use Rattle.pf_top.specs.Files.{AreHeld, AreLoaded, HoldsContent, IsLoaded, IsLoadedFor, IsUnread};
+ghost use Rattle.pf_top.specs.Correct.{HasFailed, Reaches, files_of};
+ghost use Rattle.pf_top.specs.Files.{AreHeld, AreLoaded, AreThere, HoldsContent, IsLoaded, IsLoadedFor, IsUnread, LineNames};
 ghost use Rattle.pf_top.specs.declared.loaded.LoadError.{LoadError};
 
 use crate::queries::Queries;
@@ -78,13 +78,17 @@ impl<T: Drop> From<AllocFailed<T>> for LoadError {
 }
 
 /// What a file holds, of at most 64 MiB.
+#[tactic(auto, using(crate::proofs::Texts::not_lost, crate::proofs::Texts::has_failed))]
 pub fn read_file<F: Files>(alloc: Global, files: &mut F, name: &str) -> Result<Content, ReadError>
     ensures contents { IfOk result (HoldsContent (F.told files.old name.now)) }
-    ensures failed { result ≡ Err ReadError.Failed → Rose (F.faults files.old) (F.faults files.new) }
+    ensures failed { result ≡ Err ReadError.Failed → HasFailed (F.sure files.old) (F.faults files.old) (F.faults files.new) (F.failed files.new) name.now }
+    ensures there { result ≢ Err ReadError.Failed → F.lost files.old name.now ≡ false }
     ensures steady { result ≢ Err ReadError.Failed → F.faults files.new ≡ F.faults files.old }
     ensures short { result ≡ Err ReadError.TooLong → ⊥ }
     ensures counted { F.faults files.old ≤ F.faults files.new }
     ensures kept { (other : List ℕ) → F.told files.new other ≡ F.told files.old other }
+    ensures kept_sure { StayKnown (F.sure files.old) (F.sure files.new) }
+    ensures kept_lost { (other : List ℕ) → F.lost files.new other ≡ F.lost files.old other }
 {
     let mut bytes = Vec::new(alloc);
     match files.read(name, &mut bytes, MOST_BYTES) {
@@ -117,6 +121,18 @@ fn insert(
     Ok(())
 }
 
+/// What one file holds, under its name.
+pub fn only(alloc: Global, name: &str, content: Content) -> Result<Contents, LoadError>
+    ensures there { IfOk result (λ loaded. get_by_text loaded name.now ≡ Some content) }
+    ensures held { IfOk result (λ loaded. (told : List ℕ → Option (List ℕ)) → HoldsContent (told name.now) content → AreHeld told loaded) }
+    ensures present { IfOk result (λ loaded. (lost : List ℕ → Bool) → lost name.now ≡ false → AreThere lost loaded) }
+    ensures memory { IfErr result (λ e. e ≡ LoadError.OutOfMemory) }
+{
+    let mut loaded = BTreeMap::new(alloc);
+    insert(alloc, &mut loaded, name, content)?;
+    Ok(loaded)
+}
+
 /// Reads a file, where it was not read before.
 #[tactic(auto, using(crate::proofs::Texts::held_short))]
 fn load_one<F: Files>(
@@ -125,12 +141,15 @@ fn load_one<F: Files>(
     loaded: &mut Contents,
     name: &Text,
 ) -> Result<(), LoadError>
-    requires { AreHeld (F.told files.old) loaded.old }
-    ensures ok { OnOk result (IsLoaded (F.told files.old) loaded.old name.now loaded.new) }
-    ensures err { IfErr result (IsUnread (λ n. n ≡ name.now) (F.faults files.old) (F.faults files.new)) }
+    requires held { AreHeld (F.told files.old) loaded.old }
+    requires there { AreThere (F.lost files.old) loaded.old }
+    ensures ok { OnOk result (IsLoaded (F.told files.old) (F.lost files.old) loaded.old name.now loaded.new) }
+    ensures err { IfErr result (IsUnread (λ n. n ≡ name.now) (F.sure files.old) (F.faults files.old) (F.faults files.new) (F.failed files.new)) }
     ensures steady { OnOk result (F.faults files.new ≡ F.faults files.old) }
     ensures counted { F.faults files.old ≤ F.faults files.new }
     ensures kept { (other : List ℕ) → F.told files.new other ≡ F.told files.old other }
+    ensures kept_sure { StayKnown (F.sure files.old) (F.sure files.new) }
+    ensures kept_lost { (other : List ℕ) → F.lost files.new other ≡ F.lost files.old other }
 {
     if let Some(_known) = content_of(loaded, name.as_str()) {
         return Ok(());
@@ -154,12 +173,15 @@ fn load_for<F: Files>(
     loaded: &mut Contents,
     line: &NumberedLine,
 ) -> Result<(), LoadError>
-    requires { AreHeld (F.told files.old) loaded.old }
-    ensures ok { OnOk result (IsLoadedFor (F.told files.old) loaded.old (numbered_of line.now) loaded.new) }
-    ensures err { IfErr result (IsUnread (LineNames (numbered_of line.now).line) (F.faults files.old) (F.faults files.new)) }
+    requires held { AreHeld (F.told files.old) loaded.old }
+    requires there { AreThere (F.lost files.old) loaded.old }
+    ensures ok { OnOk result (IsLoadedFor (F.told files.old) (F.lost files.old) loaded.old (numbered_of line.now) loaded.new) }
+    ensures err { IfErr result (IsUnread (LineNames (numbered_of line.now).line) (F.sure files.old) (F.faults files.old) (F.faults files.new) (F.failed files.new)) }
     ensures steady { OnOk result (F.faults files.new ≡ F.faults files.old) }
     ensures counted { F.faults files.old ≤ F.faults files.new }
     ensures kept { (other : List ℕ) → F.told files.new other ≡ F.told files.old other }
+    ensures kept_sure { StayKnown (F.sure files.old) (F.sure files.new) }
+    ensures kept_lost { (other : List ℕ) → F.lost files.new other ≡ F.lost files.old other }
 {
     match &line.line {
         Line::Ingest { file, .. } => {
@@ -170,22 +192,24 @@ fn load_for<F: Files>(
     }
 }
 
-/// Reads each file that a script names, once and in the order of first mention.
+/// Reads each file that a script names, once and in the order of first mention, where it was not read before.
 pub fn load_all<F: Files>(
     alloc: Global,
     files: &mut F,
+    loaded: &mut Contents,
     script: &Script,
-) -> Result<Contents, LoadError>
-    ensures ok { IfOk result (AreLoaded (F.told files.old) (lines_of script.now)) }
-    ensures err { IfErr result (IsUnread (NamesFile (lines_of script.now)) (F.faults files.old) (F.faults files.new)) }
+) -> Result<(), LoadError>
+    requires held { AreHeld (F.told files.old) loaded.old }
+    requires there { AreThere (F.lost files.old) loaded.old }
+    ensures ok { OnOk result (AreLoaded (F.told files.old) (F.lost files.old) loaded.old (lines_of script.now) loaded.new) }
+    ensures err { IfErr result (IsUnread (Reaches (F.lost files.old) (files_of (lines_of script.now))) (F.sure files.old) (F.faults files.old) (F.faults files.new) (F.failed files.new)) }
     ensures steady { OnOk result (F.faults files.new ≡ F.faults files.old) }
     ensures counted { F.faults files.old ≤ F.faults files.new }
 {
-    let mut loaded = BTreeMap::new(alloc);
     for line in &script.lines {
-        if let Err(error) = load_for(alloc, files, &mut loaded, line) {
+        if let Err(error) = load_for(alloc, files, loaded, line) {
             return Err(error);
         }
     }
-    Ok(loaded)
+    Ok(())
 }

@@ -2,34 +2,44 @@
 use Rattle.std.proofs.Common.{rules}
 use Rattle.pf_script.specs.Lines.{lines_of}
 use Rattle.pf_top.proofs.Steps.{if_ok_map}
-use Rattle.pf_top.proofs.OutputLaws.{words_output, unread_output, long_output, reads_as, bytes_told}
+use Rattle.pf_top.proofs.OutputLaws.{bytes_told, long_output, unbuilt_output, unread_output, words_output}
+use Rattle.pf_top.specs.Correct.{FilesSeen}
 use Rattle.pf_top.proofs.driver.run_words.Goals as goal
 
 pub returns-in-Ok-TooLong-clause-output : goal.returns-in-Ok-TooLong-clause-output
 returns-in-Ok-TooLong-clause-output g c =
     let f = g.F.Files in
+    let seen : FilesSeen = record { told = f.told c.args.files.now; sure = f.sure c.args.files.now; lost = f.lost c.args.files.now; before = f.faults c.args.files.now; after = f.faults c.read_file.new.files; failed = f.failed c.read_file.new.files } in
     if_ok_map _ _ c.unbuilt.result
-    (λ o told. long_output c.args.limits (f.told c.args.files.now) c.args.words.now c.in-Some.name.now (f.faults c.args.files.now)
-    (f.faults c.read_file.new.files) o.status o.text.items c.in-Some.ensures (search rules) told)
+    (λ o p. long_output c.args.limits seen c.args.words.now c.in-Some.name.now o.status o.text.items c.in-Some.ensures (search rules) (search rules) (search rules) p)
     c.unbuilt.ensures
 
 pub returns-in-Ok-clause-output : goal.returns-in-Ok-clause-output
 returns-in-Ok-clause-output g c =
     let f = g.F.Files in
+    let seen : FilesSeen = record { told = f.told c.args.files.now; sure = f.sure c.args.files.now; lost = f.lost c.args.files.now; before = f.faults c.args.files.now; after = f.faults c.replay_script.new.files; failed = f.failed c.replay_script.new.files } in
     if_ok_map _ _ c.replay_script.result
-    (λ o told. words_output c.args.limits (f.told c.args.files.now) (f.told c.read_file.new.files) c.args.words.now c.in-Some.name.now (lines_of c.in-Ok.script)
-    (f.faults c.args.files.now) (f.faults c.read_file.new.files) (f.faults c.replay_script.new.files) o.status o.text.items c.in-Some.ensures
-    (reads_as (f.told c.args.files.now c.in-Some.name.now) c.in-Ok-Bytes.bytes.items c.as_slice.result.now (lines_of c.in-Ok.script)
-    (bytes_told (f.told c.args.files.now c.in-Some.name.now) c.in-Ok-Bytes.field-0 c.in-Ok-Bytes.bytes (search rules) c.in-Ok-Bytes.ensures.contents) (search rules) (search rules))
-    c.read_file.ensures.kept c.read_file.ensures.counted told)
+    (λ o replay. words_output c.args.limits seen (f.sure c.read_file.new.files) (f.lost c.read_file.new.files) (f.told c.read_file.new.files) (f.faults c.read_file.new.files)
+    c.args.words.now c.in-Some.name.now c.in-Ok-Bytes.bytes.items c.as_slice.result.now (lines_of c.in-Ok.script) o.status o.text.items c.in-Some.ensures
+    (search rules) (search rules) (search rules) c.read_file.ensures.kept c.read_file.ensures.kept_lost c.read_file.ensures.kept_sure (search rules) replay)
     c.replay_script.ensures.output
+
+pub returns-in-Err-NotBuilt-clause-output : goal.returns-in-Err-NotBuilt-clause-output
+returns-in-Err-NotBuilt-clause-output g c =
+    let f = g.F.Files in
+    let seen : FilesSeen = record { told = f.told c.args.files.now; sure = f.sure c.args.files.now; lost = f.lost c.args.files.now; before = f.faults c.args.files.now; after = f.faults c.read_file.new.files; failed = f.failed c.read_file.new.files } in
+    if_ok_map _ _ c.unbuilt-in-Err-NotBuilt.result
+    (λ o p. unbuilt_output c.args.limits seen c.args.words.now c.in-Some.name.now c.in-Ok-Bytes.bytes.items c.as_slice.result.now o.status o.text.items c.in-Some.ensures
+    (bytes_told (f.told c.args.files.now c.in-Some.name.now) c.in-Ok-Bytes.field-0 c.in-Ok-Bytes.bytes (search rules) c.in-Ok-Bytes.ensures.contents).0
+    (search rules) (search rules) (search rules) (search rules) p)
+    c.unbuilt-in-Err-NotBuilt.ensures
 
 pub returns-in-Err-Failed-clause-output : goal.returns-in-Err-Failed-clause-output
 returns-in-Err-Failed-clause-output g c =
     let f = g.F.Files in
+    let seen : FilesSeen = record { told = f.told c.args.files.now; sure = f.sure c.args.files.now; lost = f.lost c.args.files.now; before = f.faults c.args.files.now; after = f.faults c.read_file.new.files; failed = f.failed c.read_file.new.files } in
     if_ok_map _ _ c.unread.result
-    (λ o told. unread_output c.args.limits (f.told c.args.files.now) c.args.words.now c.in-Some.name.now (f.faults c.args.files.now)
-    (f.faults c.read_file.new.files) o.status o.text.items c.in-Some.ensures (search rules) told)
+    (λ o p. unread_output c.args.limits seen c.args.words.now c.in-Some.name.now o.status o.text.items c.in-Some.ensures (search rules) p)
     c.unread.ensures
 
 pub returns-in_default-clause-output : goal.returns-in_default-clause-output

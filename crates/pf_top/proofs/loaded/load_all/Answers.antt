@@ -1,23 +1,28 @@
-use Rattle.std.proofs.Common.{rules}
+use Rattle.std.proofs.Common.{rules, map, take}
 use Rattle.pf_script.specs.Lines.{lines_of, numbered_of}
-use Rattle.pf_top.specs.Correct.{LineNames, NamesFile}
-use Rattle.pf_top.proofs.Texts.{loaded_more, named_by, unread_by}
+use Rattle.pf_top.specs.Correct.{Reaches, files_of}
+use Rattle.pf_top.specs.Files.{LineNames}
+use Rattle.pf_top.proofs.Texts.{loaded_more, reaches_at, read_there, unread_by}
 use Rattle.pf_top.proofs.loaded.load_all.Goals as goal
 
--- src/loaded.rt:166:5
 pub loop-line-preserved : goal.loop-line-preserved
 loop-line-preserved g c = record {
-  loaded = loaded_more (g.F.Files.told c.args.files.now) (g.F.Files.told c.loop-line.files) c.args.script.now.lines.items c.loop-line.line-index c.line-item.result c.loop-line.loaded c.load_for.new.loaded
-      (search rules) (search rules) c.loop-line.invariant.told c.loop-line.invariant.loaded (search rules);
+  loaded = loaded_more (g.F.Files.told c.args.files.now) (g.F.Files.told c.loop-line.files) (g.F.Files.lost c.args.files.now) (g.F.Files.lost c.loop-line.files)
+      c.args.script.now.lines.items c.loop-line.line-index c.line-item.result c.args.loaded.now c.loop-line.loaded c.load_for.new.loaded
+      (search rules) (search rules) c.loop-line.invariant.told c.loop-line.invariant.lost c.loop-line.invariant.loaded (search rules);
   told = search rules;
+  sure = λ name h. c.load_for.ensures.kept_sure name (c.loop-line.invariant.sure name h);
+  lost = search rules;
   steady = search rules;
   counted = search rules;
 }
 
--- src/loaded.rt:167:9
 pub returns-in-Err-clause-err : goal.returns-in-Err-clause-err
 returns-in-Err-clause-err g c =
-    unread_by (LineNames (numbered_of c.line-item.result).line) (NamesFile (lines_of c.args.script.now)) (g.F.Files.faults c.args.files.now) (g.F.Files.faults c.loop-line.files)
-    (g.F.Files.faults c.load_for.new.files) c.in-Err.error
-    (λ name named. named_by c.args.script.now.lines.items c.loop-line.line-index c.line-item.result name (search rules) (search rules) named)
-    c.loop-line.invariant.counted (search rules)
+    unread_by (LineNames (numbered_of c.line-item.result).line) (Reaches (g.F.Files.lost c.args.files.now) (files_of (lines_of c.args.script.now)))
+    (g.F.Files.sure c.args.files.now) (g.F.Files.sure c.loop-line.files) (g.F.Files.faults c.args.files.now) (g.F.Files.faults c.loop-line.files)
+    (g.F.Files.faults c.load_for.new.files) (g.F.Files.failed c.load_for.new.files) c.in-Err.error
+    (λ name named. reaches_at (g.F.Files.lost c.args.files.now) c.args.script.now.lines.items c.loop-line.line-index c.line-item.result name (search rules) (search rules)
+    (read_there (g.F.Files.told c.args.files.now) (g.F.Files.lost c.args.files.now) c.args.loaded.now c.loop-line.loaded
+    (map numbered_of (take c.loop-line.line-index c.args.script.now.lines.items)) c.loop-line.invariant.loaded) named)
+    c.loop-line.invariant.sure c.loop-line.invariant.counted (search rules)

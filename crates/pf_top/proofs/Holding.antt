@@ -1,0 +1,76 @@
+-- One reading of each file that gave what is told and what was read.
+use Rattle.std.proofs.Common.{◌≡◌, ℕ, zero, suc, ◌<◌, cond, Option, Some, None, List, [], ◌∷◌, length, refl, sym, arith, subst, inl, inr}
+use Rattle.std.specs.BTreeMap.{get_by_text}
+use Rattle.std.specs.Str.{bytes_eq}
+use Rattle.std.proofs.lemmas.Slice.Eq.{bytes_eq-Decides}
+use Rattle.pf_io.specs.Outside.{Holds}
+use Rattle.pf_model.specs.Scripts.{most_bytes}
+use Rattle.pf_top.specs.Correct.{Agree, Held, all_of}
+use Rattle.pf_top.specs.Files.{AreHeld, Contents, HoldsContent}
+use Rattle.pf_top.specs.declared.loaded.Content.{Content}
+use Rattle.pf_top.specs.declared.loaded.Content.TheVariants.{Bytes, TooLong}
+use Rattle.pf_top.proofs.Lists.{some_is}
+use Rattle.pf_top.proofs.Machines.{bool_cases}
+
+-- some bytes are longer than a length
+longer : (n : ℕ) → (bytes : List ℕ) × (n < length bytes)
+longer zero = (0 ∷ [], omega arith)
+longer (suc n) = let l = longer n in (0 ∷ l.0, let p = l.1 in omega (arith, p))
+
+-- what was read; or what is told; or anything
+abbrev held_at : Option Content → Option (List ℕ) → List ℕ
+held_at (Some (Bytes bytes)) told = bytes.items
+held_at (Some TooLong) (Some there) = there
+held_at (Some TooLong) None = (longer most_bytes).0
+held_at None (Some there) = there
+held_at None None = []
+
+agree_at : (read : Option Content) (told : Option (List ℕ)) → ((c : Content) → read ≡ Some c → HoldsContent told c) → Holds told (held_at read told)
+agree_at (Some (Bytes bytes)) told h = (h (Bytes bytes) refl).0
+agree_at (Some TooLong) (Some there) h = refl
+agree_at (Some TooLong) None h = tt
+agree_at None (Some there) h = refl
+agree_at None None h = tt
+
+same_at : (read : Option Content) (told : Option (List ℕ)) → ((c : Content) → read ≡ Some c → HoldsContent told c)
+    → (c : Content) → read ≡ Some c → HoldsContent (Some (held_at read told)) c
+same_at (Some (Bytes bytes)) told h c e =
+    subst (HoldsContent (Some bytes.items)) (some_is (Bytes bytes) c e) (refl, (h (Bytes bytes) refl).1)
+same_at (Some TooLong) (Some there) h c e = subst (HoldsContent (Some there)) (some_is TooLong c e) (h TooLong refl)
+same_at (Some TooLong) None h c e = subst (HoldsContent (Some (longer most_bytes).0)) (some_is TooLong c e) (longer most_bytes).1
+same_at None told h c e = cc
+
+-- of what is kept
+pub holding : (told : List ℕ → Option (List ℕ)) (kept : Contents) → AreHeld told kept → (held : Held) × (Agree told held × AreHeld (all_of held) kept)
+holding told kept h = (
+  λ name. held_at (get_by_text kept name) (told name),
+  (
+    λ name. agree_at (get_by_text kept name) (told name) (h name),
+    λ name content e. same_at (get_by_text kept name) (told name) (h name) content e,
+  ),
+)
+
+-- of one file
+pub holding_one : (told : Option (List ℕ)) (content : Content) → HoldsContent told content → (bytes : List ℕ) × (Holds told bytes × HoldsContent (Some bytes) content)
+holding_one told content h =
+    let all : (c : Content) → Some content ≡ Some c → HoldsContent told c = λ c e. subst (HoldsContent told) (some_is content c e) h in
+    (held_at (Some content) told, (agree_at (Some content) told all, same_at (Some content) told all content refl))
+
+-- of no file
+pub holding_none : (told : List ℕ → Option (List ℕ)) → (held : Held) × Agree told held
+holding_none told = (λ name. held_at None (told name), λ name. agree_at None (told name) (λ c e. cc))
+
+-- of a file with these bytes
+pub holding_bytes : (told : List ℕ → Option (List ℕ)) (name bytes : List ℕ) → Holds (told name) bytes → (held : Held) × (Agree told held × (held name ≡ bytes))
+holding_bytes told name bytes h = (
+  λ n. cond (bytes_eq n name) bytes (held_at None (told n)),
+  (
+    λ n. elim (bool_cases (bytes_eq n name)) [
+      | inl t ↦
+          let same : n ≡ name = (bytes_eq-Decides n name).0 t in
+          rw t (subst (λ (m : List ℕ). Holds (told m) bytes) (sym same) h)
+      | inr t ↦ rw t (agree_at None (told n) (λ c e. cc))
+    ],
+    (let t = (bytes_eq-Decides name name).1 refl in rw t refl),
+  ),
+)
