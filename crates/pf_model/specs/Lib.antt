@@ -12,12 +12,10 @@ pub mod Exposition
 pub mod Grammar
 pub mod InstantFunctions
 pub mod Json
-pub mod Legal
 pub mod Legs
 pub mod LineEnds
 pub mod Lists
 pub mod Log
-pub mod Machine
 pub mod Matching
 pub mod Merging
 pub mod Micros
@@ -27,9 +25,7 @@ pub mod Patterns
 pub mod Queries
 pub mod RangeFunctions
 pub mod Reach
-pub mod Report
 pub mod Resolving
-pub mod Scripts
 pub mod Selection
 pub mod Sharding
 pub mod Tests
@@ -37,5 +33,4 @@ pub mod Tokens
 pub mod TreeCode
 pub mod Trees
 pub mod Typing
-pub mod Weave
 pub mod Words

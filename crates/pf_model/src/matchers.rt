@@ -217,16 +217,24 @@ impl Test {
 }
 
 impl<'m> Asking<'m> {
-    /// Whether the value of its label passes.
-    fn holds(&mut self, labels: &Labels) -> bool
-        ensures value { result ≡ holds self.old.sign (value_of labels.now self.old.label) self.old.text }
+    /// Whether a label's value passes.
+    fn holds(&mut self, value: &str) -> bool
+        ensures value { result ≡ holds self.old.sign value.now self.old.text }
         ensures same { self.new ≡ self.old }
     {
-        let value = labels.get(self.matcher.label.as_str());
         match &mut self.pattern {
             Some(pattern) => { pattern.matches(value) != (self.matcher.sign == MatchSign::NotLike) }
             None => self.matcher.sign.holds(value, self.matcher.text.as_str()),
         }
+    }
+
+    /// Whether the value of its label passes.
+    fn accepts(&mut self, labels: &Labels) -> bool
+        ensures value { result ≡ holds self.old.sign (value_of labels.now self.old.label) self.old.text }
+        ensures same { self.new ≡ self.old }
+    {
+        let value = labels.get(self.matcher.label.as_str());
+        self.holds(value)
     }
 }
 
@@ -263,11 +271,20 @@ impl<'m> MatchersAsker<'m> {
         ensures same { self.new ≡ self.old }
     {
         for i in 0..self.tests.len() {
-            if !self.tests[i].holds(labels) {
+            if !self.tests[i].accepts(labels) {
                 return false;
             }
         }
         true
+    }
+
+    /// Whether the matcher at a place holds of a value of its label. Want of memory makes it slower, and is never answered.
+    pub fn holds(&mut self, i: usize, value: &str) -> bool
+        requires { i < length self.old }
+        ensures value { (d : Matcher) → result ≡ holds (slice_index_or self.old i d).sign value.now (slice_index_or self.old i d).text }
+        ensures same { self.new ≡ self.old }
+    {
+        self.tests[i].holds(value)
     }
 }
 

@@ -2,7 +2,7 @@
 use Rattle.std.specs.Prelude.{ℕ, List, [], ◌∷◌, codes}
 use Rattle.std.specs.Fmt.{decimal}
 use Rattle.pf_model.specs.Log.{Verdict}
-use Rattle.pf_model.specs.Report.{count_refused, count_repeated, count_taken, reply_line}
+use Rattle.pf_script.specs.Report.{count_refused, count_repeated, count_taken, reply_line}
 
 -- the line of an answer: its code, and the steps that were cached and evaluated
 abbrev pub answer_line : ℕ → List ℕ → List ℕ → ℕ → ℕ → List ℕ

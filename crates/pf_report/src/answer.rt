@@ -4,7 +4,7 @@ ghost use Rattle.std.specs.Prelude.{◌≡◌, ◌++◌, OnOk, IfOk, take, vec_l
 ghost use Rattle.pf_model.specs.Direct.{failed};
 ghost use Rattle.pf_model.specs.ErrorTexts.{kind_text};
 ghost use Rattle.pf_model.specs.Json.{answer_text};
-ghost use Rattle.pf_model.specs.Machine.{code_of};
+ghost use Rattle.pf_script.specs.Machine.{code_of};
 ghost use Rattle.pf_report.specs.AnsweredQueries.{answer_in, failure_text};
 
 use crate::error_json::push_error;

@@ -1,7 +1,7 @@
 //! The lines of the journal's entries.
 
 ghost use Rattle.std.specs.Prelude.{◌≡◌, ◌∷◌, ◌++◌, codes, decimal, map, OnOk, take, vec_len};
-ghost use Rattle.pf_model.specs.Report.{line_text};
+ghost use Rattle.pf_script.specs.Report.{line_text};
 ghost use Rattle.pf_report.specs.Words.{word_text};
 
 use crate::word::{Word, push_line_of};

@@ -2,8 +2,8 @@
 
 ghost use Rattle.std.specs.Prelude.{◌≡◌, ◌++◌, ◌∷◌, [], codes, decimal, OnOk, take, vec_len};
 ghost use Rattle.pf_model.specs.Json.{answer_text, error_text};
-ghost use Rattle.pf_model.specs.Machine.{code_of};
-ghost use Rattle.pf_model.specs.Report.{evaluation_text, line_text};
+ghost use Rattle.pf_script.specs.Machine.{code_of};
+ghost use Rattle.pf_script.specs.Report.{evaluation_text, line_text};
 ghost use Rattle.pf_report.specs.AnsweredQueries.{answer_in};
 
 use crate::answer::{Answer, push_body};

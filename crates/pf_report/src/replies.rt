@@ -2,8 +2,8 @@
 
 ghost use Rattle.std.specs.Prelude.{◌≡◌, ◌++◌, codes, decimal, map, OnOk, take, vec_len};
 ghost use Rattle.pf_model.specs.Json.{answer_text, error_text};
-ghost use Rattle.pf_model.specs.Machine.{code_of};
-ghost use Rattle.pf_model.specs.Report.{answered, ingested, reply_line};
+ghost use Rattle.pf_script.specs.Machine.{code_of};
+ghost use Rattle.pf_script.specs.Report.{answered, ingested, reply_line};
 ghost use Rattle.pf_report.specs.AnsweredQueries.{answer_in};
 ghost use Rattle.pf_report.specs.Replies.{answer_line, ingest_line};
 ghost use Rattle.pf_report.specs.Words.{word_text};

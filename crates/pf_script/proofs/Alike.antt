@@ -5,7 +5,7 @@ use Rattle.std.specs.Option.{is_some}
 use Rattle.std.specs.Str.{bytes_eq, is_utf8}
 use Rattle.pf_base.specs.Tenants.{is_tenant}
 use Rattle.pf_model.specs.Cuts.{kept}
-use Rattle.pf_model.specs.Scripts.{Issued, Line, ingest, delete, ask, answer, answer_of, answer_with, ask_of, is_id, is_new, is_passed, issued_after, issued_as, line_of, line_with, lines_from, next_word, only_word, with_line}
+use Rattle.pf_script.specs.Scripts.{Issued, Line, ingest, delete, ask, answer, answer_of, answer_with, ask_of, is_id, is_new, is_passed, issued_after, issued_as, line_of, line_with, lines_from, next_word, only_word, with_line}
 use Rattle.pf_script.specs.IdLists.{Alike}
 use Rattle.pf_script.specs.LineCuts.{AskWords, ask_with, ask_words}
 use Rattle.pf_script.proofs.IdLists.{marked, marked_at}

@@ -11,8 +11,8 @@ use Rattle.pf_base.specs.Tenants.{is_tenant}
 use Rattle.pf_model.specs.Cuts.{kept}
 use Rattle.pf_model.specs.Exposition.{file_lines}
 use Rattle.pf_model.specs.Lists.{Each}
-use Rattle.pf_model.specs.Scripts.{Issued, Line, Numbered, ingest, delete, ask, answer, answer_of, answer_with, answered_as, ask_of, behind_word, delete_of, file_at, ingest_at, ingest_of, ingest_with, is_id, is_new, is_passed, issued_after, issued_as, line_of, line_with, lines_from, most_bytes, next_word, number_of, only_word, script_of, text_of, with_line}
-use Rattle.pf_model.specs.Weave.{asking_line, line_at}
+use Rattle.pf_script.specs.Scripts.{Issued, Line, Numbered, ingest, delete, ask, answer, answer_of, answer_with, answered_as, ask_of, behind_word, delete_of, file_at, ingest_at, ingest_of, ingest_with, is_id, is_new, is_passed, issued_after, issued_as, line_of, line_with, lines_from, most_bytes, next_word, number_of, only_word, script_of, text_of, with_line}
+use Rattle.pf_script.specs.Weave.{asking_line, line_at}
 use Rattle.pf_script.specs.LineCuts.{AskWords, ask_with, ask_words}
 use Rattle.pf_script.specs.Lines.{AllFollow, Follows, IsAsk, NamesAsk}
 use Rattle.pf_script.proofs.IdLists.{marked}

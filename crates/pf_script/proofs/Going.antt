@@ -4,7 +4,7 @@ use Rattle.std.specs.Prelude.{option_and_then}
 use Rattle.std.proofs.lemmas.Bool.{le-leb, lt-leb}
 use Rattle.pf_model.specs.Exposition.{file_lines}
 use Rattle.pf_model.specs.Lists.{Each}
-use Rattle.pf_model.specs.Scripts.{Issued, Line, Numbered, is_passed, issued_after, line_of, lines_from, script_of, with_line}
+use Rattle.pf_script.specs.Scripts.{Issued, Line, Numbered, is_passed, issued_after, line_of, lines_from, script_of, with_line}
 use Rattle.pf_script.specs.LineCuts.{Adds, issued_with, numbered, read_of}
 use Rattle.pf_script.specs.Lines.{IsRead, Reads, numbered_of}
 use Rattle.pf_script.specs.declared.fault.ScriptError.{ScriptError}

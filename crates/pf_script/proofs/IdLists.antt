@@ -9,7 +9,7 @@ use Rattle.std.specs.Str.{bytes_eq}
 use Rattle.std.proofs.lemmas.Cmp.{nat_list_eq_equiv}
 use Rattle.std.proofs.lemmas.Map.Text.{is_eq-slice_cmp, btree_map_updates_str}
 use Rattle.std.proofs.lemmas.Slice.Eq.{bytes_eq-Decides}
-use Rattle.pf_model.specs.Scripts.{Issued, answer, answer_with, answered_as, is_new, issued_as}
+use Rattle.pf_script.specs.Scripts.{Issued, answer, answer_with, answered_as, is_new, issued_as}
 use Rattle.pf_script.specs.IdLists.{Alike, issued_by}
 use Rattle.pf_script.specs.declared.ids.Asked.{Asked}
 use denote.Ref.{Bor}

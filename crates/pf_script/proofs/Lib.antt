@@ -5,3 +5,4 @@ pub mod Follows
 pub mod Going
 pub mod IdLists
 pub mod LineTexts
+mod Worked

@@ -4,7 +4,7 @@ use Rattle.std.specs.Prelude.{option_and_then}
 use Rattle.std.proofs.lemmas.Bool.{false_from_ne_true}
 use Rattle.std.proofs.lemmas.Str.{is_utf8-from_IsUtf8, IsUtf8-from_is_utf8}
 use Rattle.std.specs.Str.{IsUtf8, is_utf8}
-use Rattle.pf_model.specs.Scripts.{Issued, ask_of, delete_of, next_word, number_of, text_of}
+use Rattle.pf_script.specs.Scripts.{Issued, ask_of, delete_of, next_word, number_of, text_of}
 use Rattle.pf_script.specs.LineCuts.{AskWords, DeleteWords, ask_with, ask_words, delete_with, delete_words}
 
 pub is_text : (bs : List ℕ) → IsUtf8 bs → is_utf8 bs ≡ true

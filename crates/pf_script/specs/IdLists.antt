@@ -1,6 +1,6 @@
 -- What the IDs so far mean: this project's own.
 use Rattle.std.specs.Prelude.{◌≡◌, ℕ, map, List}
-use Rattle.pf_model.specs.Scripts.{Issued, Line, issued_after, issued_as}
+use Rattle.pf_script.specs.Scripts.{Issued, Line, issued_after, issued_as}
 use Rattle.pf_script.specs.declared.ids.Asked.{Asked}
 use Rattle.pf_script.specs.declared.ids.Ids.{Ids}
 use denote.Ref.{Bor}

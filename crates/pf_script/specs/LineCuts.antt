@@ -3,7 +3,7 @@ use Rattle.std.specs.Prelude.{◌≡◌, ℕ, ◌&&◌, cond, Option, Some, None
 use Rattle.pf_base.specs.Tenants.{is_tenant}
 use Rattle.pf_model.specs.Cuts.{◌>>=◌, kept}
 use Rattle.pf_model.specs.Lists.{Each}
-use Rattle.pf_model.specs.Scripts.{Issued, Line, Numbered, ask, delete, is_id, is_new, is_passed, issued_after, line_of, next_word, number_of, text_of}
+use Rattle.pf_script.specs.Scripts.{Issued, Line, Numbered, ask, delete, is_id, is_new, is_passed, issued_after, line_of, next_word, number_of, text_of}
 use Rattle.pf_script.specs.IdLists.{Alike}
 use Rattle.pf_script.specs.Lines.{IsRead, numbered_of}
 use Rattle.pf_script.specs.declared.lines.AskCut.{AskCut}

@@ -2,9 +2,9 @@
 use Rattle.std.specs.Prelude.{◌≡◌, ℕ, ◌<◌, ◌≤◌, Option, Some, None, Result, Ok, Err, map, List, [], ◌∷◌, ◌++◌}
 use Rattle.pf_base.specs.Grids.{maxt}
 use Rattle.pf_model.specs.Lists.{Each}
-use Rattle.pf_model.specs.Scripts as script
-use Rattle.pf_model.specs.Scripts.{Numbered}
-use Rattle.pf_model.specs.Weave.{asking_line, line_at}
+use Rattle.pf_script.specs.Scripts as script
+use Rattle.pf_script.specs.Scripts.{Numbered}
+use Rattle.pf_script.specs.Weave.{asking_line, line_at}
 use Rattle.pf_script.specs.declared.script.Line.{Line}
 use Rattle.pf_script.specs.declared.script.Line.TheVariants.{Ingest, Delete, Ask, Answer}
 use Rattle.pf_script.specs.declared.script.NumberedLine.{NumberedLine}

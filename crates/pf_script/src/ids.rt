@@ -1,7 +1,7 @@
 //! The IDs that a script issued.
 
 ghost use Rattle.std.specs.Prelude.{◌≡◌, ◌∷◌, [], MatchOption, None, Some, false, OnErr, OnOk};
-ghost use Rattle.pf_model.specs.Scripts.{answer, answer_with, answered_as, is_new, issued_as};
+ghost use Rattle.pf_script.specs.Scripts.{answer, answer_with, answered_as, is_new, issued_as};
 ghost use Rattle.pf_script.specs.IdLists.{Alike, issued_in};
 
 use pf_base::OutOfMemory;

@@ -7,7 +7,7 @@ ghost use Rattle.pf_base.specs.Grids.{maxt};
 ghost use Rattle.pf_base.specs.LabelSets.{goes_on};
 ghost use Rattle.pf_base.specs.Tenants.{is_tenant};
 ghost use Rattle.pf_model.specs.Cuts.{kept};
-ghost use Rattle.pf_model.specs.Scripts.{answer_of, ask_of, delete_of, ingest, ingest_of, ingest_with, is_id, is_passed, issued_after, line_of, line_with, only_word};
+ghost use Rattle.pf_script.specs.Scripts.{answer_of, ask_of, delete_of, ingest, ingest_of, ingest_with, is_id, is_passed, issued_after, line_of, line_with, only_word};
 ghost use Rattle.pf_script.specs.Cuts.{Finds};
 ghost use Rattle.pf_script.specs.IdLists.{Alike, IsIdle, issued_in};
 ghost use Rattle.pf_script.specs.LineCuts.{ask_in, ask_with, ask_words, delete_in, delete_with, delete_words, issued_with, read_of};

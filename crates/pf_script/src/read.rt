@@ -2,7 +2,7 @@
 
 ghost use Rattle.std.specs.Prelude.{◌≡◌, map, [], Err, IfOk, None, OnOk};
 ghost use Rattle.pf_model.specs.Lists.{Each};
-ghost use Rattle.pf_model.specs.Scripts.{script_of};
+ghost use Rattle.pf_script.specs.Scripts.{script_of};
 ghost use Rattle.pf_script.specs.IdLists.{issued_in};
 ghost use Rattle.pf_script.specs.LineCuts.{Adds, read_of};
 ghost use Rattle.pf_script.specs.Lines.{AllFollow, IsRead, Reads, lines_of, numbered_of};

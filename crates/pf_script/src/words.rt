@@ -3,7 +3,7 @@
 ghost use Rattle.std.specs.Prelude.{◌≡◌, ◌<◌, IfSome, length, not, position};
 ghost use Rattle.std.specs.List.{list_all};
 ghost use Rattle.pf_model.specs.Exposition.{is_blank, is_no_blank, is_word};
-ghost use Rattle.pf_model.specs.Scripts.{behind_word, next_word, number_of, past_blanks, text_of, without_blanks};
+ghost use Rattle.pf_script.specs.Scripts.{behind_word, next_word, number_of, past_blanks, text_of, without_blanks};
 ghost use Rattle.pf_script.specs.Cuts.{Finds};
 
 /// The first number that is too large.

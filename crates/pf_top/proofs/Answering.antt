@@ -8,13 +8,13 @@ use Rattle.pf_base.specs.declared.plain.Limits.{Limits}
 use Rattle.pf_base.specs.declared.plain.Row.{Row}
 use Rattle.pf_model.specs.Direct.{Answer, Asked, direct}
 use Rattle.pf_model.specs.Json.{answer_text, error_text}
-use Rattle.pf_model.specs.Legal.{Moment}
+use Rattle.pf_script.specs.Legal.{Moment}
 use Rattle.pf_model.specs.Log.{AreApart, store_of}
-use Rattle.pf_model.specs.Machine.{AnswersRight, IsCode, Machine, Open, What, full, no_tenant, answer, answer_of, closed, code_of, open_at}
-use Rattle.pf_model.specs.Report.{answered, body_of, body_by, unanswered}
-use Rattle.pf_model.specs.Scripts as script
-use Rattle.pf_model.specs.Scripts.{Line}
-use Rattle.pf_model.specs.Weave.{Known, IsNoQuery, what_of}
+use Rattle.pf_script.specs.Machine.{AnswersRight, IsCode, Machine, Open, What, full, no_tenant, answer, answer_of, closed, code_of, open_at}
+use Rattle.pf_script.specs.Report.{answered, body_of, body_by, unanswered}
+use Rattle.pf_script.specs.Scripts as script
+use Rattle.pf_script.specs.Scripts.{Line}
+use Rattle.pf_script.specs.Weave.{Known, IsNoQuery, what_of}
 use Rattle.pf_store.specs.Standing.{StandsFor}
 use Rattle.pf_top.specs.Asks.{SlotRight, StayOpenBut, IsFullWhat, IsNoTenantWhat, refused_answer}
 use Rattle.pf_top.specs.Clients.{IsStep}

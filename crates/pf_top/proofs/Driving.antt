@@ -4,10 +4,10 @@ use Rattle.std.specs.BTreeMap.{get}
 use Rattle.std.specs.Ordering.{nat_cmp}
 use Rattle.std.proofs.lemmas.List.{take_more}
 use Rattle.pf_base.specs.declared.plain.Limits.{Limits}
-use Rattle.pf_model.specs.Legal.{moments}
+use Rattle.pf_script.specs.Legal.{moments}
 use Rattle.pf_model.specs.Lists.{Each}
-use Rattle.pf_model.specs.Scripts.{Numbered}
-use Rattle.pf_model.specs.Weave.{Known, line_at, moment_of}
+use Rattle.pf_script.specs.Scripts.{Numbered}
+use Rattle.pf_script.specs.Weave.{Known, line_at, moment_of}
 use Rattle.pf_script.specs.Lines.{AllFollow, Follows, IsRead, numbered_of, lines_of}
 use Rattle.pf_script.specs.declared.script.NumberedLine.{NumberedLine}
 use Rattle.pf_script.specs.declared.script.Script.{Script}

@@ -6,9 +6,9 @@ use Rattle.pf_base.specs.Batches.{BatchData}
 use Rattle.pf_base.specs.declared.plain.By.{By}
 use Rattle.pf_base.specs.declared.plain.Limits.{Limits}
 use Rattle.pf_model.specs.declared.expr.Matcher.{Matcher}
-use Rattle.pf_model.specs.Legal.{Legal, machine_after}
+use Rattle.pf_script.specs.Legal.{Legal, machine_after}
 use Rattle.pf_model.specs.Log.{Change, Verdict, log_with, log_without, verdicts_of}
-use Rattle.pf_model.specs.Machine.{Machine, What, append, delete, no_tenant, Entry, Allowed, started, next, log_of, with_log, reserved}
+use Rattle.pf_script.specs.Machine.{Machine, What, append, delete, no_tenant, Entry, Allowed, started, next, log_of, with_log, reserved}
 use Rattle.pf_store.specs.Standing.{IsLog, LogData, verdicts_after, deleted_after}
 use Rattle.pf_store.specs.Verdicts.{VerdictsData}
 use Rattle.pf_store.specs.declared.tenant_log.Deleted.{Deleted}

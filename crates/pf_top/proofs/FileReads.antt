@@ -6,8 +6,8 @@ use Rattle.pf_block.specs.Snaps.{are_timed}
 use Rattle.pf_io.specs.Outside.{Holds, LongerThan}
 use Rattle.pf_model.specs.Exposition as exposition
 use Rattle.pf_model.specs.Exposition.{Given, nothing, no_number, sample, Fault, LinesGive, rows_of, file_lines, Stops}
-use Rattle.pf_model.specs.Scripts.{most_bytes}
-use Rattle.pf_model.specs.Weave.{Gives, IsRefusedAs, at_line, too_long}
+use Rattle.pf_script.specs.Scripts.{most_bytes}
+use Rattle.pf_script.specs.Weave.{Gives, IsRefusedAs, at_line, too_long}
 
 rows_timed : (default : ℕ) (lines : List (List ℕ)) (gs : List Given) → LinesGive default lines gs → are_timed (rows_of gs) ≡ true
 rows_timed default [] [] h = refl

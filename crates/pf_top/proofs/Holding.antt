@@ -4,7 +4,7 @@ use Rattle.std.specs.BTreeMap.{get_by_text}
 use Rattle.std.specs.Str.{bytes_eq}
 use Rattle.std.proofs.lemmas.Slice.Eq.{bytes_eq-Decides}
 use Rattle.pf_io.specs.Outside.{Holds}
-use Rattle.pf_model.specs.Scripts.{most_bytes}
+use Rattle.pf_script.specs.Scripts.{most_bytes}
 use Rattle.pf_top.specs.Correct.{Agree, Held, all_of}
 use Rattle.pf_top.specs.Files.{AreHeld, Contents, HoldsContent}
 use Rattle.pf_top.specs.declared.loaded.Content.{Content}

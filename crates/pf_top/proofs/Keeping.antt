@@ -2,10 +2,10 @@
 use Rattle.std.proofs.Common.{◌≡◌, ◌≢◌, ℕ, ◌+◌, ◌-◌, ◌<◌, ◌≤◌, inl, inr, true, false, cond, nat_eq, Some, None, List, [], ◌∷◌, ◌++◌, length, sym, ap, ◌∙◌, arith, slice_get, slice_set, subst}
 use Rattle.std.proofs.lemmas.Bool.Decides.{nat_tests}
 use Rattle.pf_base.specs.declared.plain.Limits.{Limits}
-use Rattle.pf_model.specs.Legal.{Legal, IsLawful, Moment, moments, machine_after}
+use Rattle.pf_script.specs.Legal.{Legal, IsLawful, Moment, moments, machine_after}
 use Rattle.pf_model.specs.Lists.{Each}
 use Rattle.pf_model.specs.Log.{Change}
-use Rattle.pf_model.specs.Machine.{Machine, Open, What, append, delete, ask, full, no_tenant, cancel, answer, Entry, Allowed, started, log_of, with_log, open_at, closed, open_of}
+use Rattle.pf_script.specs.Machine.{Machine, Open, What, append, delete, ask, full, no_tenant, cancel, answer, Entry, Allowed, started, log_of, with_log, open_at, closed, open_of}
 use Rattle.pf_store.specs.Standing.{IsLog, LogData}
 use Rattle.pf_top.specs.Sessions.{KeepsLogs, KeepsCounts, AreOpen, AreApart, Above}
 use Rattle.pf_top.proofs.Lists.{get_push, get_set_same, get_set_other, take_front, each_push, each_map}

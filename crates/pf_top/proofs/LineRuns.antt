@@ -3,9 +3,9 @@ use Rattle.std.proofs.Common.{◌≡◌, ℕ, ◌≤◌, Option, Some, None, Res
 use Rattle.std.specs.BTreeMap.{get}
 use Rattle.std.specs.Ordering.{nat_cmp}
 use Rattle.pf_base.specs.declared.memory.OutOfMemory.{OutOfMemory}
-use Rattle.pf_model.specs.Legal.{Moment, moments}
-use Rattle.pf_model.specs.Scripts.{Line, Numbered}
-use Rattle.pf_model.specs.Weave.{Known, asking_line, line_at, moment_of}
+use Rattle.pf_script.specs.Legal.{Moment, moments}
+use Rattle.pf_script.specs.Scripts.{Line, Numbered}
+use Rattle.pf_script.specs.Weave.{Known, asking_line, line_at, moment_of}
 use Rattle.pf_script.specs.Lines.{IsAsk}
 use Rattle.pf_top.specs.Asks.{IsAskStep, LeavesOpen, SlotRight}
 use Rattle.pf_top.specs.Clients.{AskRuns, IsStep, Runs, SameQueries}

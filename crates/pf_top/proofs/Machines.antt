@@ -1,10 +1,10 @@
 -- Laws of the journal machine: what one entry more changes.
 use Rattle.std.proofs.Common.{◌≡◌, ◌≢◌, ℕ, zero, suc, ◌+◌, ◌*◌, ◌<◌, ◌≤◌, ◌⊎◌, inl, inr, Bool, true, false, cond, max, nat_eq, Option, Some, None, List, [], ◌∷◌, ◌++◌, length, refl, ap, ◌∙◌, arith, subst}
 use Rattle.std.proofs.lemmas.Bool.Decides.{nat_tests}
-use Rattle.pf_model.specs.Legal.{moments_from, machine_after}
+use Rattle.pf_script.specs.Legal.{moments_from, machine_after}
 use Rattle.pf_model.specs.Lists.{Each}
 use Rattle.pf_model.specs.Log.{Change}
-use Rattle.pf_model.specs.Machine.{Machine, Open, Entry, next, log_of, with_log, open_at, closed, open_of, reserved, room_kept}
+use Rattle.pf_script.specs.Machine.{Machine, Open, Entry, next, log_of, with_log, open_at, closed, open_of, reserved, room_kept}
 use Rattle.pf_top.specs.Sessions.{Above}
 
 pub bool_cases : (b : Bool) → (b ≡ true) ⊎ (b ≡ false)

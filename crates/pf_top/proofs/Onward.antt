@@ -2,12 +2,12 @@
 use Rattle.std.proofs.Common.{◌≡◌, ℕ, ◌<◌, inl, inr, nat_eq, Option, Some, None, List, [], ◌∷◌, ◌++◌, refl, sym, ap, ◌∙◌, arith, subst, append-nil, append_assoc, codes, decimal}
 use Rattle.std.proofs.lemmas.Bool.Decides.{nat_tests}
 use Rattle.pf_base.specs.declared.plain.Limits.{Limits}
-use Rattle.pf_model.specs.Legal.{Moment, moments}
+use Rattle.pf_script.specs.Legal.{Moment, moments}
 use Rattle.pf_model.specs.Lists.{Each, joined}
-use Rattle.pf_model.specs.Machine.{What, Entry, started}
-use Rattle.pf_model.specs.Report.{line_text, reply_of}
-use Rattle.pf_model.specs.Scripts.{Numbered}
-use Rattle.pf_model.specs.Weave.{Known, FoundRoom, IsLineOf, IsMatched, IsUncached, IsWoven, Refusal, Refused, Rises, Turn, asked_of_line, asking_line, asking_of, line_at, moment_of, turn_of}
+use Rattle.pf_script.specs.Machine.{What, Entry, started}
+use Rattle.pf_script.specs.Report.{line_text, reply_of}
+use Rattle.pf_script.specs.Scripts.{Numbered}
+use Rattle.pf_script.specs.Weave.{Known, FoundRoom, IsLineOf, IsMatched, IsUncached, IsWoven, Refusal, Refused, Rises, Turn, asked_of_line, asking_line, asking_of, line_at, moment_of, turn_of}
 use Rattle.pf_script.specs.Lines.{Follows, IsAsk, NamesAsk}
 use Rattle.pf_top.specs.Clients.{IsStep, IsUncachedBy, entries_by, moment_with, turn_with}
 use Rattle.pf_top.specs.Going.{HaveTurns, IsAmong}

@@ -5,8 +5,8 @@ use Rattle.std.proofs.lemmas.Option.{slice_get_within}
 use Rattle.pf_base.specs.declared.plain.By.{By}
 use Rattle.pf_base.specs.declared.plain.Limits.{Limits}
 use Rattle.pf_model.specs.Direct.{Asked}
-use Rattle.pf_model.specs.Legal.{machine_after}
-use Rattle.pf_model.specs.Machine.{Machine, What, ask, full, answer, Entry, Open, AnswersRight, AnswersOpen, started, next, log_of, with_log, open_at, closed, open_of}
+use Rattle.pf_script.specs.Legal.{machine_after}
+use Rattle.pf_script.specs.Machine.{Machine, What, ask, full, answer, Entry, Open, AnswersRight, AnswersOpen, started, next, log_of, with_log, open_at, closed, open_of}
 use Rattle.pf_store.specs.Standing.{IsPin, LogData}
 use Rattle.pf_top.specs.Entries.{entry_of}
 use Rattle.pf_top.specs.Sessions.{Stands, AreTenants, AreWithin, IsAdmitted, IsEntered, IsEnteredFor, IsNoted, IsOpened, IsAsked, IsClosed, IsQuery, KeepsLogs, KeepsCounts, machine_of, journal_of}

@@ -7,8 +7,8 @@ use Rattle.pf_base.specs.declared.plain.Limits.{Limits}
 use Rattle.pf_io.specs.Outside.{Rose, Holds, Grows, LongerThan, StayKnown}
 use Rattle.pf_model.specs.Lists.{Each}
 use Rattle.pf_model.specs.Cuts.{kept}
-use Rattle.pf_model.specs.Scripts.{Numbered, evaluation_words, script_of, script_word, most_bytes}
-use Rattle.pf_model.specs.Weave.{Files}
+use Rattle.pf_script.specs.Scripts.{Numbered, evaluation_words, script_of, script_word, most_bytes}
+use Rattle.pf_script.specs.Weave.{Files}
 use Rattle.pf_script.specs.Lines.{AllFollow, IsRead, lines_of}
 use Rattle.pf_script.specs.declared.script.Script.{Script}
 use Rattle.pf_top.specs.Correct.{Agree, AllRead, AreScripts, Correct, EndsWell, FilesSeen, HasFailed, Held, IsOutput, IsUnbuilt, Outside, Reaches, Reported, all_of, files_of, needed, needed_by, script_files}

@@ -14,11 +14,11 @@ use Rattle.pf_model.specs.Direct.{Answer, Asked, direct}
 use Rattle.pf_model.specs.ErrorTexts.{QueryFault, grid_text, memory_text, query_text}
 use Rattle.pf_model.specs.Json.{answer_text, error_text}
 use Rattle.pf_model.specs.Log.{batch_samples}
-use Rattle.pf_model.specs.Machine.{code_of}
+use Rattle.pf_script.specs.Machine.{code_of}
 use Rattle.pf_model.specs.Queries.{Reading, asked_with, lawful, refused}
-use Rattle.pf_model.specs.Report.{evaluated_text, evaluation_text}
+use Rattle.pf_script.specs.Report.{evaluated_text, evaluation_text}
 use Rattle.pf_model.specs.Resolving.{resolved_over}
-use Rattle.pf_model.specs.Scripts.{Evaluation, evaluation_words, script_word}
+use Rattle.pf_script.specs.Scripts.{Evaluation, evaluation_words, script_word}
 use Rattle.pf_model.specs.Trees.{Tree}
 use Rattle.pf_types.specs.Errors.{words_of_error}
 use Rattle.pf_types.specs.declared.query.QueryError.{QueryError}

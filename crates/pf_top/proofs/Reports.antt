@@ -4,12 +4,12 @@ use Rattle.std.proofs.lemmas.Option.{slice_get-map}
 use Rattle.pf_script.specs.Lines.{numbered_of}
 use Rattle.pf_script.specs.declared.script.NumberedLine.{NumberedLine}
 use Rattle.pf_base.specs.declared.plain.Limits.{Limits}
-use Rattle.pf_model.specs.Legal.{Legal, moments, machine_after}
+use Rattle.pf_script.specs.Legal.{Legal, moments, machine_after}
 use Rattle.pf_model.specs.Lists.{Each, joined}
-use Rattle.pf_model.specs.Machine.{Entry, started, reserved}
-use Rattle.pf_model.specs.Report.{journal_text, line_text, reply_of, stop_reply}
-use Rattle.pf_model.specs.Scripts.{Numbered}
-use Rattle.pf_model.specs.Weave.{Files, Known, IsLineOf, MetFull, Rest, Stop, StopsAt, Woven, turn_of}
+use Rattle.pf_script.specs.Machine.{Entry, started, reserved}
+use Rattle.pf_script.specs.Report.{journal_text, line_text, reply_of, stop_reply}
+use Rattle.pf_script.specs.Scripts.{Numbered}
+use Rattle.pf_script.specs.Weave.{Files, Known, IsLineOf, MetFull, Rest, Stop, StopsAt, Woven, turn_of}
 use Rattle.pf_top.specs.Clients.{IsStopped}
 use Rattle.pf_top.specs.Correct.{HaveMetFull}
 use Rattle.pf_top.specs.Drives.{IsEnd, IsReport, RanTo}

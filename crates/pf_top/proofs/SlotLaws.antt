@@ -4,12 +4,12 @@ use Rattle.std.specs.BTreeMap.{get}
 use Rattle.std.specs.Ordering.{nat_cmp}
 use Rattle.std.proofs.lemmas.Bool.Decides.{nat_tests}
 use Rattle.pf_base.specs.declared.plain.Limits.{Limits}
-use Rattle.pf_model.specs.Legal.{Moment, moments}
+use Rattle.pf_script.specs.Legal.{Moment, moments}
 use Rattle.pf_model.specs.Lists.{Each}
-use Rattle.pf_model.specs.Machine.{Machine, Open as OpenQuery, Entry, started, open_at}
+use Rattle.pf_script.specs.Machine.{Machine, Open as OpenQuery, Entry, started, open_at}
 use Rattle.pf_model.specs.Queries.{Readings}
-use Rattle.pf_model.specs.Scripts.{Line, Numbered}
-use Rattle.pf_model.specs.Weave.{Known, IsLineOf, IsOfAsk, asked_of_line, asking_line, asking_of, line_at, moment_of}
+use Rattle.pf_script.specs.Scripts.{Line, Numbered}
+use Rattle.pf_script.specs.Weave.{Known, IsLineOf, IsOfAsk, asked_of_line, asking_line, asking_of, line_at, moment_of}
 use Rattle.pf_script.specs.Lines.{Follows, IsAsk, NamesAsk}
 use Rattle.pf_top.specs.Asks.{IsAskStep, LeavesOpen, SlotRight}
 use Rattle.pf_top.specs.Clients.{IsStep, SameQueries, moment_with}

@@ -6,9 +6,9 @@ use Rattle.std.proofs.Common.{cond, nat_eq}
 use Rattle.pf_base.specs.declared.grid.GridError.{GridError}
 use Rattle.pf_model.specs.Direct.{Asked}
 use Rattle.pf_model.specs.ErrorTexts.{grid_text}
-use Rattle.pf_model.specs.Machine.{open_at}
-use Rattle.pf_model.specs.Report.{ask_reply, asked_refused, refusal_text_of}
-use Rattle.pf_model.specs.Weave.{IsNamed, FitsAsk, IsNoAsk}
+use Rattle.pf_script.specs.Machine.{open_at}
+use Rattle.pf_script.specs.Report.{ask_reply, asked_refused, refusal_text_of}
+use Rattle.pf_script.specs.Weave.{IsNamed, FitsAsk, IsNoAsk}
 use Rattle.pf_top.specs.Asks.{IsAskStep, SlotRight, StayOpen}
 use Rattle.pf_top.specs.Clients.{moment_with}
 use Rattle.pf_top.specs.Sessions.{IsAsked, IsEnteredFor}
@@ -18,17 +18,17 @@ use Rattle.pf_top.specs.declared.slots.Slot.TheVariants.{Open, BadGrid, BadQuery
 use Rattle.pf_top.proofs.Machines.{open_at_front}
 use Rattle.pf_base.specs.declared.plain.By.{By}
 use Rattle.pf_base.specs.declared.plain.Limits.{Limits}
-use Rattle.pf_model.specs.Legal.{Moment}
+use Rattle.pf_script.specs.Legal.{Moment}
 use Rattle.pf_base.specs.Batches.{BatchData}
 use Rattle.pf_model.specs.declared.expr.Matcher.{Matcher}
-use Rattle.pf_model.specs.Machine as what
-use Rattle.pf_model.specs.Machine.{Machine, What, append, full, no_tenant, Entry, next, reserved}
+use Rattle.pf_script.specs.Machine as what
+use Rattle.pf_script.specs.Machine.{Machine, What, append, full, no_tenant, Entry, next, reserved}
 use Rattle.pf_model.specs.Queries.{IsSelector, asked_of}
-use Rattle.pf_model.specs.Report.{reply_of, reply_line, ingested}
-use Rattle.pf_model.specs.Scripts.{Line, Numbered, ingest, delete, ask}
+use Rattle.pf_script.specs.Report.{reply_of, reply_line, ingested}
+use Rattle.pf_script.specs.Scripts.{Line, Numbered, ingest, delete, ask}
 use Rattle.pf_store.specs.Verdicts.{VerdictsData}
 use Rattle.pf_store.specs.declared.tenant_log.Deleted.{Deleted}
-use Rattle.pf_model.specs.Weave.{Known, Fits, FoundRoom, Gives, IsMatched, IsUncached, Excepted, Refusal, room_of}
+use Rattle.pf_script.specs.Weave.{Known, Fits, FoundRoom, Gives, IsMatched, IsUncached, Excepted, Refusal, room_of}
 use Rattle.pf_top.specs.Clients.{IsStep, SameQueries, entries_by, turn_with}
 use Rattle.pf_top.specs.Sessions.{Stands, HasRoomFor, IsAppended, IsDeleted, IsEntered, journal_of, machine_of}
 use Rattle.pf_top.specs.declared.client.Client.{Client}

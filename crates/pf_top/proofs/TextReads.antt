@@ -30,7 +30,7 @@ use Rattle.pf_model.specs.Direct.{Asked}
 use Rattle.pf_model.specs.ErrorTexts.{QueryFault, of_grammar, of_kinds, refused_pattern, empty_selector, memory_text, query_text}
 use Rattle.pf_model.specs.Lists.{Each, at}
 use Rattle.pf_model.specs.Queries.{CanRefuse, Readings, asked_of, asked_with, first_empty, IsFaultOf, IsNoSelector, IsQuery, IsReading, IsSelector, Reading, is_plain, is_unmodified, lawful, may_be_no_selector, may_be_refused, no_selector, refused, selecting, selector}
-use Rattle.pf_model.specs.Scripts.{Line, Numbered, ingest, delete, ask, answer}
+use Rattle.pf_script.specs.Scripts.{Line, Numbered, ingest, delete, ask, answer}
 use Rattle.pf_model.specs.Resolving.{resolved_over}
 use Rattle.pf_model.specs.Selection.{accepts_empty, all_compared}
 use Rattle.pf_model.specs.Trees.{Tree, number, text, unary, binary, call, aggregate, select, subquery, instant, no_mods, tree_of}

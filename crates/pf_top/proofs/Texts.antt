@@ -12,7 +12,7 @@ use Rattle.std.proofs.lemmas.Slice.Eq.{bytes_eq-Decides}
 use Rattle.std.proofs.lemmas.List.{take_more}
 use Rattle.pf_io.specs.Outside.{Rose, StayKnown}
 use Rattle.pf_model.specs.Lists.{Each}
-use Rattle.pf_model.specs.Scripts.{Line, Numbered, ingest, delete, ask, answer}
+use Rattle.pf_script.specs.Scripts.{Line, Numbered, ingest, delete, ask, answer}
 use Rattle.pf_script.specs.Lines.{numbered_of}
 use Rattle.pf_script.specs.declared.script.NumberedLine.{NumberedLine}
 use Rattle.pf_top.specs.Correct.{HasFailed, Reaches, files_of, with_file}

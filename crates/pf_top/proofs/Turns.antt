@@ -1,12 +1,12 @@
 -- One line more: the turns of the lines before it stay as they were.
 use Rattle.std.proofs.Common.{◌≡◌, ◌≢◌, ℕ, ◌<◌, inl, inr, Bool, true, false, ◌&&◌, cond, nat_eq, Option, Some, None, List, [], ◌∷◌, ◌++◌, refl, sym, ap, ◌∙◌, arith, subst, append-nil, append_assoc}
 use Rattle.std.proofs.lemmas.Bool.Decides.{nat_tests}
-use Rattle.pf_model.specs.Legal.{Moment, moments_from, machine_after}
+use Rattle.pf_script.specs.Legal.{Moment, moments_from, machine_after}
 use Rattle.pf_model.specs.Lists.{Each, joined}
-use Rattle.pf_model.specs.Machine.{Machine, What, append, delete, ask, full, no_tenant, cancel, answer, Entry, next}
-use Rattle.pf_model.specs.Scripts as script
-use Rattle.pf_model.specs.Scripts.{Line, Numbered}
-use Rattle.pf_model.specs.Weave.{Known, Fits, IsLineOf, IsMatched, IsNamed, Refusal, Refused, Rises, Turn, asked_of_line, asking_line, asking_of, moment_of, is_of, refusal_of, turn_of}
+use Rattle.pf_script.specs.Machine.{Machine, What, append, delete, ask, full, no_tenant, cancel, answer, Entry, next}
+use Rattle.pf_script.specs.Scripts as script
+use Rattle.pf_script.specs.Scripts.{Line, Numbered}
+use Rattle.pf_script.specs.Weave.{Known, Fits, IsLineOf, IsMatched, IsNamed, Refusal, Refused, Rises, Turn, asked_of_line, asking_line, asking_of, moment_of, is_of, refusal_of, turn_of}
 use Rattle.pf_top.specs.Clients.{entries_by, moment_with, turn_with}
 use Rattle.pf_top.specs.Going.{IsAmong}
 use Rattle.pf_top.proofs.Lists.{get_front}

@@ -4,12 +4,12 @@ use Rattle.std.specs.BTreeMap.{BTreeMap, get}
 use Rattle.std.specs.Ordering.{nat_cmp}
 use Rattle.pf_model.specs.ErrorTexts.{full_text, grid_text, tenants_text}
 use Rattle.pf_model.specs.Json.{error_text}
-use Rattle.pf_model.specs.Legal.{Moment}
-use Rattle.pf_model.specs.Machine.{What, full, no_tenant, Machine, Open as OpenQuery, open_at}
+use Rattle.pf_script.specs.Legal.{Moment}
+use Rattle.pf_script.specs.Machine.{What, full, no_tenant, Machine, Open as OpenQuery, open_at}
 use Rattle.pf_model.specs.Queries.{Readings}
-use Rattle.pf_model.specs.Report.{answered, asking_text}
-use Rattle.pf_model.specs.Scripts.{Line, Numbered}
-use Rattle.pf_model.specs.Weave.{Known, IsOfAsk, what_of}
+use Rattle.pf_script.specs.Report.{answered, asking_text}
+use Rattle.pf_script.specs.Scripts.{Line, Numbered}
+use Rattle.pf_script.specs.Weave.{Known, IsOfAsk, what_of}
 use Rattle.pf_types.specs.Errors.{words_of_error}
 use Rattle.pf_top.specs.Clients.{IsStep, moment_with}
 use Rattle.pf_top.specs.Sessions.{IsQuery, machine_of}

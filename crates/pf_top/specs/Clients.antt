@@ -3,11 +3,11 @@ use Rattle.std.specs.Prelude.{◌≡◌, ℕ, ◌≤◌, Option, Some, None, Lis
 use Rattle.std.specs.Prelude.{true}
 use Rattle.pf_block.specs.Snaps.{are_timed}
 use Rattle.pf_model.specs.Exposition.{bad_line, late_line, too_many}
-use Rattle.pf_model.specs.Legal.{Moment}
-use Rattle.pf_model.specs.Machine.{What, Entry, Machine}
-use Rattle.pf_model.specs.Report.{reply_of}
-use Rattle.pf_model.specs.Scripts.{Line, Numbered}
-use Rattle.pf_model.specs.Weave.{Known, FoundRoom, Gives, IsMatched, IsRefusedAs, IsUncached, Refusal, Turn, WantsRoom, at_line, too_long}
+use Rattle.pf_script.specs.Legal.{Moment}
+use Rattle.pf_script.specs.Machine.{What, Entry, Machine}
+use Rattle.pf_script.specs.Report.{reply_of}
+use Rattle.pf_script.specs.Scripts.{Line, Numbered}
+use Rattle.pf_script.specs.Weave.{Known, FoundRoom, Gives, IsMatched, IsRefusedAs, IsUncached, Refusal, Turn, WantsRoom, at_line, too_long}
 use Rattle.pf_top.specs.Sessions.{Stands, IsFull, journal_of, machine_of}
 use Rattle.pf_top.specs.declared.client.Client.{Client}
 use Rattle.pf_top.specs.declared.client.FileFault.{FileFault}

@@ -4,14 +4,14 @@ use Rattle.pf_base.specs.Batches.{BatchData}
 use Rattle.pf_base.specs.Grids.{grid_of}
 use Rattle.pf_base.specs.declared.plain.Limits.{Limits}
 use Rattle.pf_io.specs.Outside.{Rose, Grows, Holds}
-use Rattle.pf_model.specs.Legal.{Legal, AreNames}
+use Rattle.pf_script.specs.Legal.{Legal, AreNames}
 use Rattle.pf_model.specs.Lists.{Each}
 use Rattle.pf_model.specs.Log.{batch_samples}
-use Rattle.pf_model.specs.Machine.{Entry}
+use Rattle.pf_script.specs.Machine.{Entry}
 use Rattle.pf_model.specs.Queries.{IsReading, Reading, asked_with}
-use Rattle.pf_model.specs.Report.{evaluated_text, report}
-use Rattle.pf_model.specs.Scripts.{Evaluation, Line, Numbered, ingest, delete, ask, answer, evaluation_words, script_of, script_word}
-use Rattle.pf_model.specs.Weave.{Files, Gives, IsRefusedAs, IsUncached, Refusal, Rest, Stop, Weave}
+use Rattle.pf_script.specs.Report.{evaluated_text, report}
+use Rattle.pf_script.specs.Scripts.{Evaluation, Line, Numbered, ingest, delete, ask, answer, evaluation_words, script_of, script_word}
+use Rattle.pf_script.specs.Weave.{Files, Gives, IsRefusedAs, IsUncached, Refusal, Rest, Stop, Weave}
 use Rattle.pf_top.specs.Refusals.{refused_file, refused_not_built, refused_read}
 
 -- ---- what a run sees of its outside

@@ -3,11 +3,11 @@ use Rattle.std.specs.Prelude.{◌≡◌, ℕ, ◌≤◌, Bool, Option, Some, Non
 use Rattle.std.specs.BTreeMap.{get_by_text}
 use Rattle.pf_base.specs.declared.plain.Limits.{Limits}
 use Rattle.pf_model.specs.Lists.{Each}
-use Rattle.pf_model.specs.Legal.{AreNames, Legal}
-use Rattle.pf_model.specs.Machine.{Entry}
-use Rattle.pf_model.specs.Report.{report}
-use Rattle.pf_model.specs.Scripts.{Numbered}
-use Rattle.pf_model.specs.Weave.{Files, IsUncached, Known, Rest, Weave}
+use Rattle.pf_script.specs.Legal.{AreNames, Legal}
+use Rattle.pf_script.specs.Machine.{Entry}
+use Rattle.pf_script.specs.Report.{report}
+use Rattle.pf_script.specs.Scripts.{Numbered}
+use Rattle.pf_script.specs.Weave.{Files, IsUncached, Known, Rest, Weave}
 use Rattle.pf_script.specs.Lines.{AllFollow, IsRead, lines_of}
 use Rattle.pf_script.specs.declared.script.Script.{Script}
 use Rattle.pf_top.specs.Clients.{IsStopped}

@@ -1,6 +1,6 @@
 -- The entries of the journal as the code has them, seen as those of the journal machine. This project's own.
 use Rattle.std.specs.Arc.{arc_value}
-use Rattle.pf_model.specs.Machine as machine
+use Rattle.pf_script.specs.Machine as machine
 use Rattle.pf_model.specs.Direct as direct
 use Rattle.pf_model.specs.Resolving.{resolved_over}
 use Rattle.pf_top.specs.declared.entry.Asked.{Asked}

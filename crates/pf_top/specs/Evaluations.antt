@@ -4,9 +4,9 @@ use Rattle.pf_base.specs.Batches.{BatchData}
 use Rattle.pf_base.specs.Grids.{grid_of}
 use Rattle.pf_model.specs.Log.{batch_samples}
 use Rattle.pf_model.specs.Queries.{IsReading, Reading, asked_with}
-use Rattle.pf_model.specs.Report.{evaluated_text}
-use Rattle.pf_model.specs.Scripts as script
-use Rattle.pf_model.specs.Weave.{Gives, IsRefusedAs, Refusal}
+use Rattle.pf_script.specs.Report.{evaluated_text}
+use Rattle.pf_script.specs.Scripts as script
+use Rattle.pf_script.specs.Weave.{Gives, IsRefusedAs, Refusal}
 use Rattle.pf_io.specs.Outside.{Holds}
 use Rattle.pf_top.specs.Correct.{AllRead, FilesSeen, HasFailed}
 use Rattle.pf_top.specs.Refusals.{refused_file, refused_read}

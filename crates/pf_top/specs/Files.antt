@@ -4,7 +4,7 @@ use Rattle.std.specs.BTreeMap.{BTreeMap, get_by_text}
 use Rattle.std.specs.declared.alloc.Global.{Global}
 use Rattle.std.specs.declared.string.String.{String}
 use Rattle.pf_io.specs.Outside.{Holds, LongerThan}
-use Rattle.pf_model.specs.Scripts.{Line, Numbered, ingest, delete, ask, answer, most_bytes}
+use Rattle.pf_script.specs.Scripts.{Line, Numbered, ingest, delete, ask, answer, most_bytes}
 use Rattle.pf_top.specs.Correct.{HasFailed}
 use Rattle.pf_top.specs.declared.loaded.Content.{Content}
 use Rattle.pf_top.specs.declared.loaded.Content.TheVariants.{Bytes, TooLong}

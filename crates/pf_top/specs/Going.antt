@@ -4,12 +4,12 @@ use Rattle.std.specs.BTreeMap.{get}
 use Rattle.std.specs.Fmt.{decimal}
 use Rattle.std.specs.Ordering.{nat_cmp}
 use Rattle.pf_base.specs.declared.plain.Limits.{Limits}
-use Rattle.pf_model.specs.Legal.{moments}
+use Rattle.pf_script.specs.Legal.{moments}
 use Rattle.pf_model.specs.Lists.{Each, joined}
 use Rattle.pf_model.specs.Queries.{Readings}
-use Rattle.pf_model.specs.Report.{line_text, reply_of}
-use Rattle.pf_model.specs.Scripts.{Numbered}
-use Rattle.pf_model.specs.Weave.{Known, FoundRoom, IsLineOf, IsUncached, IsWoven, Refused, Rises, asking_line, line_at, moment_of, turn_of}
+use Rattle.pf_script.specs.Report.{line_text, reply_of}
+use Rattle.pf_script.specs.Scripts.{Numbered}
+use Rattle.pf_script.specs.Weave.{Known, FoundRoom, IsLineOf, IsUncached, IsWoven, Refused, Rises, asking_line, line_at, moment_of, turn_of}
 use Rattle.pf_script.specs.Lines.{Follows, IsAsk, IsRead, numbered_of}
 use Rattle.pf_script.specs.declared.script.NumberedLine.{NumberedLine}
 use Rattle.pf_top.specs.Asks.{SlotRight}

@@ -1,8 +1,8 @@
 -- What a replay gives, before it is written: this project's own.
 use Rattle.std.specs.Prelude.{◌≡◌, ℕ, ◌⊎◌, true, false, List}
 use Rattle.pf_base.specs.declared.plain.Limits.{Limits}
-use Rattle.pf_model.specs.Scripts.{Numbered}
-use Rattle.pf_model.specs.Weave.{Files}
+use Rattle.pf_script.specs.Scripts.{Numbered}
+use Rattle.pf_script.specs.Weave.{Files}
 use Rattle.pf_top.specs.Correct.{Agree, AllRead, Ended, FileRefused, FilesSeen, HasFailed, Held, Reaches, Reported, Unread, Unbuilt, all_of, files_of}
 use Rattle.pf_top.specs.Drives.{IsReport}
 use Rattle.pf_top.specs.Refusals.{refused_read}

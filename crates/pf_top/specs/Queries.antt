@@ -6,9 +6,9 @@ use Rattle.std.specs.declared.alloc.Global.{Global}
 use Rattle.std.specs.declared.string.String.{String}
 use Rattle.pf_model.specs.ErrorTexts.{QueryFault}
 use Rattle.pf_model.specs.Queries.{IsFaultOf, IsNoSelector, IsReading, IsSelector, Reading, Readings, lawful, may_be_no_selector, no_selector, refused, selecting, selector}
-use Rattle.pf_model.specs.Scripts.{Line, ingest, delete, ask, answer}
+use Rattle.pf_script.specs.Scripts.{Line, ingest, delete, ask, answer}
 use Rattle.pf_model.specs.Trees.{Tree}
-use Rattle.pf_model.specs.Weave.{Known}
+use Rattle.pf_script.specs.Weave.{Known}
 use Rattle.pf_types.specs.Errors.{query_fault}
 use Rattle.pf_top.specs.Files.{AreHeld}
 use Rattle.pf_top.specs.declared.loaded.Loaded.{Loaded}

@@ -2,8 +2,8 @@
 use Rattle.std.specs.Prelude.{ℕ, List, [], ◌∷◌, codes}
 use Rattle.std.specs.Fmt.{decimal}
 use Rattle.pf_model.specs.Exposition.{bad_line, late_line, too_many}
-use Rattle.pf_model.specs.Report.{line_text}
-use Rattle.pf_model.specs.Weave.{Refusal, at_line, too_long}
+use Rattle.pf_script.specs.Report.{line_text}
+use Rattle.pf_script.specs.Weave.{Refusal, at_line, too_long}
 
 -- a file with this name was not read
 abbrev pub refused_read : List ℕ → List ℕ

@@ -4,12 +4,12 @@ use Rattle.std.specs.Prelude.{◌≡◌, ℕ, ◌+◌, ◌-◌, ◌*◌, ◌<◌
 use Rattle.pf_base.specs.Batches.{BatchData}
 use Rattle.pf_base.specs.declared.plain.By.{By}
 use Rattle.pf_base.specs.declared.plain.Row.{Row}
-use Rattle.pf_model.specs.Legal.{Legal, machine_after}
+use Rattle.pf_script.specs.Legal.{Legal, machine_after}
 use Rattle.pf_model.specs.Lists.{Each}
 use Rattle.pf_model.specs.Log.{Change, log_with, log_without, verdicts_of}
 use Rattle.pf_model.specs.declared.expr.Matcher.{Matcher}
 use Rattle.pf_model.specs.Direct as direct
-use Rattle.pf_model.specs.Machine.{Entry, What, append, delete, ask, full, no_tenant, answer, Machine, Open, IsTenant, most_tenants, started, log_of, open_at, open_of, reserved}
+use Rattle.pf_script.specs.Machine.{Entry, What, append, delete, ask, full, no_tenant, answer, Machine, Open, IsTenant, most_tenants, started, log_of, open_at, open_of, reserved}
 use Rattle.pf_store.specs.Standing.{IsLog, IsPin, LogData, deleted_after, verdicts_after}
 use Rattle.pf_store.specs.Verdicts.{VerdictsData}
 use Rattle.pf_store.specs.declared.tenant_log.Deleted.{Deleted}

@@ -1,11 +1,11 @@
 //! The run of a script.
 
 ghost use Rattle.std.specs.Prelude.{◌≡◌, ◌≤◌, ◌++◌, [], IfOk, List, is_some, slice_get};
-ghost use Rattle.pf_model.specs.Report.{journal_text, stop_reply};
+ghost use Rattle.pf_script.specs.Report.{journal_text, stop_reply};
 ghost use Rattle.pf_top.specs.Files.{AreHeld};
 ghost use Rattle.pf_top.specs.Sessions.{journal_of};
-ghost use Rattle.pf_model.specs.Scripts.{Numbered};
-ghost use Rattle.pf_model.specs.Weave.{Files, Known};
+ghost use Rattle.pf_script.specs.Scripts.{Numbered};
+ghost use Rattle.pf_script.specs.Weave.{Files, Known};
 ghost use Rattle.pf_script.specs.Lines.{lines_of};
 ghost use Rattle.pf_top.specs.Drives.{CanRun, IsGoing, IsReport, RanTo};
 ghost use Rattle.pf_top.specs.Going.{Going};

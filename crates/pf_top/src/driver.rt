@@ -4,11 +4,11 @@ ghost use Rattle.std.specs.Prelude.{◌≡◌, ◌≢◌, ◌≤◌, ℕ, List, 
 ghost use Rattle.pf_block.specs.Snaps.{are_timed};
 ghost use Rattle.pf_model.specs.Lists.{Each};
 ghost use Rattle.pf_script.specs.Lines.{AllFollow, IsRead, lines_of};
-ghost use Rattle.pf_model.specs.Weave.{Files};
+ghost use Rattle.pf_script.specs.Weave.{Files};
 ghost use Rattle.pf_top.specs.Correct.{Correct, FilesSeen, Outside};
 ghost use Rattle.pf_top.specs.Drives.{AreShort};
 ghost use Rattle.pf_io.specs.Outside.{Holds};
-ghost use Rattle.pf_model.specs.Scripts.{evaluation_words, most_bytes, script_word};
+ghost use Rattle.pf_script.specs.Scripts.{evaluation_words, most_bytes, script_word};
 ghost use Rattle.pf_top.specs.Clients.{refusal_in};
 ghost use Rattle.pf_top.specs.Evaluations.{IsBatchOutput, IsFileOutput, IsNamedOutput, evaluation_in};
 ghost use Rattle.pf_top.specs.Files.{AreHeld, HoldsContent, IsKept, IsShort, NamesFile};

@@ -8,7 +8,7 @@ ghost use Rattle.pf_block.specs.Snaps.{are_timed};
 ghost use Rattle.pf_model.specs.ErrorTexts.{grid_text};
 ghost use Rattle.pf_model.specs.Json.{error_text};
 ghost use Rattle.pf_model.specs.Log.{AreApart, batch_samples};
-ghost use Rattle.pf_model.specs.Report.{evaluated_text, evaluation_text};
+ghost use Rattle.pf_script.specs.Report.{evaluated_text, evaluation_text};
 ghost use Rattle.pf_model.specs.Resolving.{resolved_over};
 ghost use Rattle.pf_store.specs.Standing.{StandsFor};
 ghost use Rattle.pf_top.specs.Entries.{asked_in};

@@ -1,8 +1,8 @@
 //! The journal's part of the report.
 
 ghost use Rattle.std.specs.Prelude.{◌≡◌, ◌++◌, ◌∷◌, [], OnOk, codes, decimal, map};
-ghost use Rattle.pf_model.specs.Machine.{full};
-ghost use Rattle.pf_model.specs.Report.{entries_from, entry_text, floor_text, journal_text, line_text, name_of};
+ghost use Rattle.pf_script.specs.Machine.{full};
+ghost use Rattle.pf_script.specs.Report.{entries_from, entry_text, floor_text, journal_text, line_text, name_of};
 ghost use Rattle.pf_report.specs.Words.{word_text};
 ghost use Rattle.pf_top.specs.Entries.{entry_of};
 ghost use Rattle.pf_top.specs.Sessions.{journal_of};

@@ -3,7 +3,7 @@
 ghost use Rattle.std.specs.Prelude.{◌≡◌, ◌≢◌, ◌≤◌, ℕ, Bool, Err, IfErr, IfOk, List, MatchOption, OnOk, Option, Some, None, [], false, length, map};
 ghost use Rattle.std.specs.BTreeMap.{get_by_text};
 ghost use Rattle.pf_io.specs.Outside.{Holds, LongerThan, StayKnown};
-ghost use Rattle.pf_model.specs.Scripts.{most_bytes};
+ghost use Rattle.pf_script.specs.Scripts.{most_bytes};
 ghost use Rattle.pf_script.specs.Lines.{lines_of, numbered_of};
 ghost use Rattle.pf_top.specs.Correct.{HasFailed, Reaches, files_of};
 ghost use Rattle.pf_top.specs.Files.{AreHeld, AreLoaded, AreThere, HoldsContent, IsLoaded, IsLoadedFor, IsUnread, LineNames};

@@ -5,7 +5,7 @@ ghost use Rattle.std.specs.Arc.{arc_value};
 ghost use Rattle.pf_block.specs.Snaps.{are_timed};
 ghost use Rattle.pf_model.specs.Log.{Change};
 ghost use Rattle.pf_store.specs.Standing.{IsLog, IsPin, LogData};
-ghost use Rattle.pf_model.specs.Machine.{AnswersRight, Open, answer, append, ask, full, no_tenant, open_at};
+ghost use Rattle.pf_script.specs.Machine.{AnswersRight, Open, answer, append, ask, full, no_tenant, open_at};
 ghost use Rattle.pf_top.specs.Entries.{asked_in, what_of};
 ghost use Rattle.pf_top.specs.Sessions.{Admits, IsAdded, IsAppended, IsAsked, IsClosed, IsCutOut, IsDeleted, IsEntered, IsNoted, IsOpened, IsQuery, IsRefused, IsTakenIn, IsUnasked, HasRoomFor, Stands, journal_of, machine_of};
 

@@ -1,7 +1,7 @@
 //! The reply to the line that met the full journal.
 
 ghost use Rattle.std.specs.Prelude.{◌≡◌, ◌++◌, OnOk};
-ghost use Rattle.pf_model.specs.Report.{full_reply, journal_words, reply_line};
+ghost use Rattle.pf_script.specs.Report.{full_reply, journal_words, reply_line};
 ghost use Rattle.pf_script.specs.Lines.{line_of};
 
 use pf_base::OutOfMemory;

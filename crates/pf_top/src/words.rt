@@ -2,7 +2,7 @@
 
 ghost use Rattle.std.specs.Prelude.{◌≡◌, MatchOption, None, Some};
 ghost use Rattle.std.specs.Option.{option_map};
-ghost use Rattle.pf_model.specs.Scripts.{evaluation_words, is_script_word, script_word, with_times};
+ghost use Rattle.pf_script.specs.Scripts.{evaluation_words, is_script_word, script_word, with_times};
 ghost use Rattle.pf_top.specs.Evaluations.{evaluation_in};
 
 use pf_base::Text;

@@ -1,6 +1,6 @@
 use Rattle.std.proofs.Common.{◌≡◌, ◌++◌, ◌∷◌, [], ap, ◌∙◌, decimal}
-use Rattle.pf_model.specs.Machine.{code_of}
-use Rattle.pf_model.specs.Report.{line_text}
+use Rattle.pf_script.specs.Machine.{code_of}
+use Rattle.pf_script.specs.Report.{line_text}
 use Rattle.pf_report.specs.AnsweredQueries.{answer_in}
 use Rattle.pf_report.proofs.Answers.{answer_after}
 use Rattle.pf_report.proofs.evaluations.push_evaluation.Goals as goal

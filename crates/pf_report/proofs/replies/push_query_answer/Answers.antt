@@ -1,5 +1,5 @@
 use Rattle.std.proofs.Common.{◌≡◌, ◌++◌, ap, ◌∙◌, decimal}
-use Rattle.pf_model.specs.Machine.{code_of}
+use Rattle.pf_script.specs.Machine.{code_of}
 use Rattle.pf_report.specs.AnsweredQueries.{answer_in}
 use Rattle.pf_report.specs.Replies.{answer_line}
 use Rattle.pf_report.proofs.Answers.{answer_after}

@@ -1,7 +1,7 @@
 use Rattle.std.proofs.Common.{rules, ap, ◌≡◌, ◌∙◌, ◌++◌, List, ℕ, codes}
 use Rattle.pf_model.specs.ErrorTexts.{grid_text}
 use Rattle.pf_model.specs.Json.{error_text}
-use Rattle.pf_model.specs.Report.{answered}
+use Rattle.pf_script.specs.Report.{answered}
 use Rattle.pf_top.proofs.client.push_bad_grid.Goals as goal
 
 pub returns : goal.returns

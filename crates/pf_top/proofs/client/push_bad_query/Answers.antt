@@ -1,6 +1,6 @@
 use Rattle.std.proofs.Common.{rules, ap, ◌≡◌, ◌∙◌, ◌++◌, List, ℕ, codes}
 use Rattle.pf_model.specs.Json.{error_text}
-use Rattle.pf_model.specs.Report.{answered}
+use Rattle.pf_script.specs.Report.{answered}
 use Rattle.pf_types.specs.Errors.{words_of_error}
 use Rattle.pf_top.proofs.client.push_bad_query.Goals as goal
 

@@ -1,6 +1,6 @@
 use Rattle.std.proofs.Common.{rules, [], subst, sym}
 use Rattle.pf_base.specs.declared.plain.Limits.{Limits}
-use Rattle.pf_model.specs.Weave.{Known}
+use Rattle.pf_script.specs.Weave.{Known}
 use Rattle.pf_script.specs.Lines.{lines_of}
 use Rattle.pf_top.specs.Drives.{RanTo}
 use Rattle.pf_top.specs.Going.{Going}

@@ -1,5 +1,5 @@
 use Rattle.std.proofs.Common.{◌≡◌, ◌++◌, drop, map}
-use Rattle.pf_model.specs.Report.{entries_from}
+use Rattle.pf_script.specs.Report.{entries_from}
 use Rattle.pf_top.specs.Entries.{entry_of}
 use Rattle.pf_top.proofs.journal.push_entries.Given as goal
 

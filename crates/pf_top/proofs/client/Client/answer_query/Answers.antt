@@ -1,5 +1,5 @@
 use Rattle.std.proofs.Common.{rules, refl}
-use Rattle.pf_model.specs.Machine.{code_of}
+use Rattle.pf_script.specs.Machine.{code_of}
 use Rattle.pf_report.specs.AnsweredQueries.{answer_in}
 use Rattle.pf_top.proofs.Answering.{step_answered, leaves_answered, counted_answered}
 use Rattle.pf_top.proofs.client.Client.answer_query.Goals as goal

@@ -1,6 +1,6 @@
 use Rattle.std.proofs.Common.{rules, ◌≤◌, refl, None}
 use Rattle.std.specs.Arc.{arc_value}
-use Rattle.pf_model.specs.Machine.{no_tenant}
+use Rattle.pf_script.specs.Machine.{no_tenant}
 use Rattle.pf_top.proofs.Steps.{entered_roomy, step_entered, same_entered, step_deleted, same_deleted}
 use Rattle.pf_top.proofs.client.Client.delete_selected.Goals as goal
 

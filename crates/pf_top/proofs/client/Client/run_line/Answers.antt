@@ -1,5 +1,5 @@
 use Rattle.std.proofs.Common.{rules, refl, subst, sym, ℕ, IfOk}
-use Rattle.pf_model.specs.Scripts.{Numbered}
+use Rattle.pf_script.specs.Scripts.{Numbered}
 use Rattle.pf_script.specs.Lines.{line_of}
 use Rattle.pf_script.specs.declared.script.Line.{Line}
 use Rattle.pf_top.specs.Going.{GoesOn}

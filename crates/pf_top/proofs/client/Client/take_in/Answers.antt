@@ -1,6 +1,6 @@
 use Rattle.std.proofs.Common.{rules, refl, None}
 use Rattle.std.specs.Arc.{arc_value}
-use Rattle.pf_model.specs.Machine.{no_tenant}
+use Rattle.pf_script.specs.Machine.{no_tenant}
 use Rattle.pf_top.proofs.Steps.{entered_roomy, step_entered, same_entered, step_ingested, same_ingested}
 use Rattle.pf_top.proofs.client.Client.take_in.Goals as goal
 

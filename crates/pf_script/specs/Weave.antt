@@ -7,12 +7,12 @@ use Rattle.pf_model.specs.declared.expr.Matcher.{Matcher}
 use Rattle.pf_model.specs.Direct.{Asked}
 use Rattle.pf_model.specs.Exposition.{Fault, bad_line, late_line, file_lines, Stops}
 use Rattle.pf_model.specs.Exposition as exposition
-use Rattle.pf_model.specs.Legal.{Moment, moments, machine_after}
+use Rattle.pf_script.specs.Legal.{Moment, moments, machine_after}
 use Rattle.pf_model.specs.Lists.{Each}
-use Rattle.pf_model.specs.Machine.{What, append, delete, ask, full, no_tenant, cancel, answer, Entry, started, reserved}
+use Rattle.pf_script.specs.Machine.{What, append, delete, ask, full, no_tenant, cancel, answer, Entry, started, reserved}
 use Rattle.pf_model.specs.Queries.{IsNoSelector, IsReading, IsSelector, Reading, Readings, asked_of}
-use Rattle.pf_model.specs.Scripts.{Line, Numbered, most_bytes}
-use Rattle.pf_model.specs.Scripts as script
+use Rattle.pf_script.specs.Scripts.{Line, Numbered, most_bytes}
+use Rattle.pf_script.specs.Scripts as script
 
 -- ---- what files hold, by name, where that is told
 

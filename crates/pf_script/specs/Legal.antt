@@ -2,7 +2,7 @@
 use Rattle.std.specs.Prelude.{◌≡◌, ℕ, ◌≤◌, Some, List, [], ◌∷◌, length, slice_get}
 use Rattle.pf_base.specs.declared.plain.Limits.{Limits}
 use Rattle.pf_model.specs.Lists.{Each}
-use Rattle.pf_model.specs.Machine.{Machine, Entry, started, next, Allowed, HasRoom}
+use Rattle.pf_script.specs.Machine.{Machine, Entry, started, next, Allowed, HasRoom}
 
 -- an entry with the machine that met it
 pub record Moment : Type 0 where

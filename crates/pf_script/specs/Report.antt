@@ -9,14 +9,14 @@ use Rattle.pf_model.specs.Direct.{Asked, direct}
 use Rattle.pf_model.specs.ErrorTexts.{full_text, tenants_text}
 use Rattle.pf_model.specs.Exposition.{bad_line, late_line, too_many}
 use Rattle.pf_model.specs.Json.{answer_text, error_text}
-use Rattle.pf_model.specs.Legal.{Moment, moments}
+use Rattle.pf_script.specs.Legal.{Moment, moments}
 use Rattle.pf_model.specs.Lists.{joined}
 use Rattle.pf_model.specs.Log.{Verdict, taken, too_old, repeated, differs}
-use Rattle.pf_model.specs.Machine.{What, append, delete, ask, full, no_tenant, cancel, answer, Entry, Open, answer_of, code_of, open_at}
+use Rattle.pf_script.specs.Machine.{What, append, delete, ask, full, no_tenant, cancel, answer, Entry, Open, answer_of, code_of, open_at}
 use Rattle.pf_model.specs.Queries.{Readings, asked_of}
-use Rattle.pf_model.specs.Scripts.{Line, Numbered}
-use Rattle.pf_model.specs.Scripts as script
-use Rattle.pf_model.specs.Weave.{Refusal, at_line, too_long, Rest, Stop, Turn, turn_of, what_of}
+use Rattle.pf_script.specs.Scripts.{Line, Numbered}
+use Rattle.pf_script.specs.Scripts as script
+use Rattle.pf_script.specs.Weave.{Refusal, at_line, too_long, Rest, Stop, Turn, turn_of, what_of}
 
 -- words with one blank between them, and a line feed behind the last
 abbrev pub line_text : List (List ℕ) → List ℕ
