@@ -3,6 +3,7 @@ mod Examples
 pub mod FrozenSteps
 pub mod Going
 pub mod Growing
+pub mod Opened
 mod Sessions
 mod WorkedFrozen
 mod WorkedRefusals
