@@ -3,12 +3,14 @@ use Rattle.std.proofs.Math.Nat.{div-le_self}
 use Rattle.std.proofs.Common.{◌≡◌, ◌≤◌, ◌-◌, ◌/◌, ℕ, ℤ, pos, negsuc, ◌+ℤ◌, ◌-ℤ◌, ◌≤ℤ◌, ◌<ℤ◌, FitsSigned, to_z, w64, sym, ◌∙◌, subst, arith}
 use Rattle.std.specs.Prelude.{int_div, unsigned_abs}
 use Rattle.std.proofs.lemmas.Int.{ints, fits_signed_from_abs}
+use Rattle.pf_base.specs.Arithmetic.{IsValue}
 use Rattle.pf_model.specs.RangeFunctions.{gap}
 use Rattle.pf_range.specs.Extrapolation.{Extends, IsLength, IsStretched, stretch_of}
 use Rattle.pf_range.specs.Windows.{IsTime}
 use Rattle.pf_range.specs.declared.extrapolation.Change.{Change}
 use Rattle.pf_range.specs.declared.extrapolation.Stretch.{Stretch}
 use Rattle.pf_range.proofs.Quotients.{length_abs, short, short_is}
+use Rattle.pf_range.proofs.Sums.{value_small}
 use Rattle.pf_range.proofs.Windows.{Steps}
 
 quot_length : (p : ℤ) (d : ℕ) → IsLength p → IsLength (int_div p (pos d))
@@ -74,16 +76,20 @@ pub record Measured (c : Change) (value span covered : ℤ) : Type 0 where
   pub same : c ≡ record { value = value; span = span; covered = covered }
   pub times : IsStretched c
 
-pub measured : (v w s a b s' a' b' : ℤ) → v ≡ w → s ≡ s' → a ≡ a' → b ≡ b' → pos 0 <ℤ s → s ≤ℤ pos 2251799813685248 → IsLength a → IsLength b
-    → Measured (record { value = v; span = short s; covered = short (short (short s +ℤ short a) +ℤ short b) }) w s' (s' +ℤ a' +ℤ b')
-measured v w s a b s' a' b' vw es ea eb low high al bl =
+pub measured : (v w s a b s' a' b' : ℤ) → IsValue v → v ≡ w → s ≡ s' → a ≡ a' → b ≡ b' → pos 0 <ℤ s → s ≤ℤ pos 2251799813685248 → IsLength a → IsLength b
+    → Measured (record { value = short v; span = short s; covered = short (short (short s +ℤ short a) +ℤ short b) }) w s' (s' +ℤ a' +ℤ b')
+measured v w s a b s' a' b' value vw es ea eb low high al bl =
+    let small = value_small v value in
+    let kept : short v ≡ v = short_is v (omega (arith, small)) in
+    let value' = kept ∙ vw in
     let span : short s ≡ s = omega (arith, ints, low, high) in
     let all : short (short (short s +ℤ short a) +ℤ short b) ≡ s +ℤ a +ℤ b = omega (arith, ints, low, high, al.0, al.1, bl.0, bl.1) in
     let all' = all ∙ (λ i. es i +ℤ ea i +ℤ eb i) in
     let span' = span ∙ es in
     record {
-      same = λ i. record { value = vw i; span = span' i; covered = all' i };
+      same = λ i. record { value = value' i; span = span' i; covered = all' i };
       times = record {
+        value = subst IsValue (sym kept) value;
         span = omega (arith, ints, span, low);
         short = omega (arith, ints, span, high);
         covered = omega (arith, ints, all, low, al.0, bl.0);

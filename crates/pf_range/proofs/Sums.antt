@@ -49,3 +49,12 @@ grown a b x y s t i av bv small few ax by st =
     let sum : FitsSigned w128 (a -ℤ b +ℤ s) = fits_signed_from_abs w128 (a -ℤ b +ℤ s) (omega (arith, ints, asmall, bsmall, small, few)) in
     let whole : s ≡ t = omega (arith, ints, st) in
     rw (wide_is a asmall, wide_is b bsmall, to_z-of_z w128 (a -ℤ b) change, to_z-of_z w128 (a -ℤ b +ℤ s) sum) (λ j. ax j -ℤ by j +ℤ whole j)
+
+pub grown_fits : (a b s : ℤ) (i : ℕ) → IsValue a → IsValue b → unsigned_abs s ≤ i * 1000000000000000000 → i ≤ 2251799813685248
+    → FitsSigned w128 (to_z w128 (of_z w128 (to_z w128 (of_z w128 (wide a -ℤ wide b)) +ℤ s)))
+grown_fits a b s i av bv small few =
+    let asmall = value_small a av in
+    let bsmall = value_small b bv in
+    let change : FitsSigned w128 (a -ℤ b) = fits_signed_from_abs w128 (a -ℤ b) (omega (arith, ints, asmall, bsmall)) in
+    let sum : FitsSigned w128 (a -ℤ b +ℤ s) = fits_signed_from_abs w128 (a -ℤ b +ℤ s) (omega (arith, ints, asmall, bsmall, small, few)) in
+    rw (wide_is a asmall, wide_is b bsmall, to_z-of_z w128 (a -ℤ b) change, to_z-of_z w128 (a -ℤ b +ℤ s) sum) sum

@@ -2,6 +2,7 @@
 use Rattle.std.specs.Prelude.{ℕ, ◌≤◌, ◌-◌, ℤ, pos, ◌≤ℤ◌, ◌<ℤ◌, ◌+ℤ◌, ◌-ℤ◌, ◌*ℤ◌, int_div, int_le, int_lt, ◌&&◌, cond, List}
 use Rattle.std.specs.Int.{int_min}
 use Rattle.pf_base.specs.declared.plain.Sample.{Sample}
+use Rattle.pf_base.specs.Arithmetic.{IsValue}
 use Rattle.pf_model.specs.RangeFunctions.{change, counter_covered, covered, gap, growth, span}
 use Rattle.pf_range.specs.Windows.{IsTime}
 use Rattle.pf_range.specs.declared.extrapolation.Change.{Change}
@@ -37,8 +38,9 @@ pub record Extends (after upto first last : ℤ) (count : ℕ) : Type 0 where
 abbrev pub IsLength : ℤ → Type 0
 IsLength z = (pos 0 ≤ℤ z) × (z ≤ℤ pos 2251799813685248)
 
--- a change whose times are those of a window
+-- a change by a value, whose times are those of a window
 pub record IsStretched (c : Change) : Type 0 where
+  pub value : IsValue c.value
   pub span : pos 0 <ℤ c.span
   pub short : c.span ≤ℤ pos 2251799813685248
   pub covered : pos 0 ≤ℤ c.covered

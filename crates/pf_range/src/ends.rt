@@ -1,6 +1,7 @@
 //! The ends of a window, and what a counter grew by between them.
 
-ghost use Rattle.std.specs.Prelude.{◌≡◌, ◌<◌, ◌≤◌, pos, int_lt, cond, length, MatchOption};
+ghost use Rattle.std.specs.Prelude.{◌≡◌, ◌<◌, ◌≤◌, pos, int_lt, cond, length, FitsSigned, MatchOption};
+ghost use Rattle.std.specs.Int.{w128};
 ghost use Rattle.pf_base.specs.Arithmetic.{IsValue};
 ghost use Rattle.pf_range.specs.Ends.{counter_of, ends_of};
 ghost use Rattle.pf_range.specs.Windows.{IsFew};
@@ -16,13 +17,13 @@ pub(crate) struct Ends {
     pub(crate) count: u64,
 }
 
-/// The ends of a window, and what its samples grew by as those of a counter.
+/// The ends of a window, and what its samples grew by as those of a counter, in micros.
 #[derive(Clone, Copy)]
 pub(crate) struct Counter {
     pub(crate) first: Sample,
     pub(crate) last: Sample,
     pub(crate) count: u64,
-    pub(crate) growth: Value,
+    pub(crate) growth: i128,
 }
 
 /// The ends of a window. None of one without a sample.
@@ -55,7 +56,7 @@ fn lost_at(before: Value, after: Value) -> i64
 /// What is kept of the samples of a counter. None of a window without a sample.
 pub(crate) fn counter_in(mut window: Window<'_>) -> Option<Counter>
     requires { IsFew window }
-    ensures { MatchOption result (length window.entry < 1) (λ c. (c ≡ counter_of window.entry) × (1 ≤ length window.entry)) }
+    ensures { MatchOption result (length window.entry < 1) (λ c. (c ≡ counter_of window.entry) × (1 ≤ length window.entry) × FitsSigned w128 c.growth) }
 {
     let first = window.next()?;
     let mut last = first;
@@ -71,6 +72,6 @@ pub(crate) fn counter_in(mut window: Window<'_>) -> Option<Counter>
         first,
         last,
         count,
-        growth: Value::new(change + lost),
+        growth: change + lost,
     })
 }

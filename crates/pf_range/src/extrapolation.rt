@@ -20,10 +20,10 @@ struct Stretch {
     end: i64,
 }
 
-/// What the samples changed by, the time from the first to the last, and the time that is covered with both gaps.
+/// What the samples changed by in micros, the time from the first to the last, and the time that is covered with both gaps.
 #[derive(Clone, Copy)]
 struct Change {
-    value: Value,
+    value: i64,
     span: i64,
     covered: i64,
 }
@@ -105,9 +105,10 @@ fn counter_change(window: Window<'_>, from: i64, to: i64) -> Option<Change>
         return None;
     }
     let stretch = stretch_over(first.time, last.time, count, from, to);
+    let growth = Value::new(growth);
     let start = limited(first.value, growth, stretch.span, stretch.start);
     Some(Change {
-        value: growth,
+        value: growth.micros(),
         span: stretch.span,
         covered: stretch.span + start + stretch.end,
     })
@@ -125,7 +126,7 @@ fn gauge_change(window: Window<'_>, from: i64, to: i64) -> Option<Change>
     }
     let stretch = stretch_over(first.time, last.time, count, from, to);
     Some(Change {
-        value: last.value.sub(first.value),
+        value: last.value.sub(first.value).micros(),
         span: stretch.span,
         covered: stretch.span + stretch.start + stretch.end,
     })
@@ -136,7 +137,7 @@ fn stretched(change: Change) -> Value
     requires { IsStretched change }
     ensures { result ≡ clamp (int_div (change.value *ℤ change.covered) change.span) }
 {
-    let product = change.value.micros() as i128 * change.covered as i128;
+    let product = change.value as i128 * change.covered as i128;
     Value::new(quotient(product, change.span as i128))
 }
 
@@ -146,7 +147,7 @@ fn per_second(change: Change, range: i64) -> Value
     requires range { (pos 0 <ℤ range) × (range ≤ℤ pos 2251799813685248) }
     ensures { result ≡ clamp (int_div (change.value *ℤ change.covered *ℤ pos 1000) (change.span *ℤ range)) }
 {
-    let product = change.value.micros() as i128 * change.covered as i128 * 1000;
+    let product = change.value as i128 * change.covered as i128 * 1000;
     Value::new(quotient(product, change.span as i128 * range as i128))
 }
 

@@ -1,9 +1,8 @@
 use mir.Syntax.{w128}
 use Rattle.std.proofs.Common.{◌≡◌, ◌≤◌, ◌+ℤ◌, ◌∷◌, length, to_z, sym, ap, ◌∙◌, arith}
 use Rattle.std.proofs.lemmas.Int.{ints}
-use Rattle.pf_base.specs.Arithmetic.{clamp}
 use Rattle.pf_model.specs.RangeFunctions.{first, last, lost}
-use Rattle.pf_range.proofs.Sums.{grown, sum_next, sum_small}
+use Rattle.pf_range.proofs.Sums.{grown, grown_fits, sum_next, sum_small}
 use Rattle.pf_range.proofs.ends.counter_in.Goals as goal
 
 pub loop-sample-init : goal.loop-sample-init
@@ -50,6 +49,6 @@ returns c =
     let few : l.count ≤ 2251799813685248 = omega (arith, i.count, c.requires) in
     let count_is : l.count ≡ length c.args.window = omega (arith, all, i.count) in
     let lost_is = sym (ap (λ r. to_z w128 l.lost-bits +ℤ lost (l.last ∷ r)) e) ∙ i.lost in
-    let growth_is = c.new.ensures ∙ ap clamp (grown _ _ _ _ _ _ l.count c.micros.ensures.within c.micros-2.ensures.within i.small few
-    (c.micros.ensures.value ∙ ap (λ s. s.value) last_is) (c.micros-2.ensures.value ∙ ap (λ s. s.value) i.first) lost_is) in
-    (λ j. record { first = i.first j; last = last_is j; count = count_is j; growth = growth_is j }, omega (arith, count_is, i.some))
+    let growth_is = grown _ _ _ _ _ _ l.count c.micros.ensures.within c.micros-2.ensures.within i.small few
+    (c.micros.ensures.value ∙ ap (λ s. s.value) last_is) (c.micros-2.ensures.value ∙ ap (λ s. s.value) i.first) lost_is in
+    (λ j. record { first = i.first j; last = last_is j; count = count_is j; growth = growth_is j }, omega (arith, count_is, i.some), grown_fits _ _ _ l.count c.micros.ensures.within c.micros-2.ensures.within i.small few)

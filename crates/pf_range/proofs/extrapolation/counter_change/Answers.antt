@@ -1,5 +1,7 @@
+use mir.Syntax.{w128}
 use Rattle.std.proofs.Common.{◌≤◌, length, sym, ap, ◌∙◌, subst, arith}
-use Rattle.std.proofs.lemmas.Int.{ints}
+use Rattle.std.proofs.lemmas.Int.{ints, to_z-of_z}
+use Rattle.pf_base.specs.Arithmetic.{clamp}
 use Rattle.pf_model.specs.RangeFunctions.{growth}
 use Rattle.pf_range.specs.Extrapolation.{Extends, limited, stretch_of}
 use Rattle.pf_range.specs.declared.ends.Counter.{Counter}
@@ -28,7 +30,8 @@ returns c =
     let st_is = is.value ∙ stretch_same _ _ _ _ _ times ∙ ap (λ (k : Counter). stretch_of k.first.time k.last.time k.count c.args.from c.args.to) e in
     let span_is = short_is st.span (omega (arith, ints, is.span.0, is.span.1)) ∙ ap (λ (k : Stretch). k.span) st_is in
     let start_is = short_is st.start (omega (arith, ints, is.start.0, is.start.1)) ∙ ap (λ (k : Stretch). k.start) st_is in
-    let gap_is = c.limited-start.ensures.value ∙ (λ i. limited (e i).first.value (e i).growth (span_is i) (start_is i)) in
-    let m = measured c.in_ok-first.field-0.growth (growth c.args.window) st.span c.limited-start.result st.end _ _ _
-    (ap (λ (k : Counter). k.growth) e) (ap (λ (k : Stretch). k.span) st_is) gap_is (ap (λ (k : Stretch). k.end) st_is) is.span.0 is.span.1 c.limited-start.ensures.within is.end in
+    let growth_is = c.new-growth.ensures ∙ ap clamp (to_z-of_z w128 c.in_ok-first.field-0.growth c.in_ok-first.ensures.2) ∙ ap (λ (k : Counter). clamp k.growth) e in
+    let gap_is = c.limited-start.ensures.value ∙ (λ i. limited (e i).first.value (growth_is i) (span_is i) (start_is i)) in
+    let m = measured c.micros.result (growth c.args.window) st.span c.limited-start.result st.end _ _ _
+    c.micros.ensures.within (c.micros.ensures.value ∙ growth_is) (ap (λ (k : Stretch). k.span) st_is) gap_is (ap (λ (k : Stretch). k.end) st_is) is.span.0 is.span.1 c.limited-start.ensures.within is.end in
     (m.same, m.times, two)

@@ -25,7 +25,7 @@ returns c =
     let st = c.stretch_over-stretch.result in
     let is = c.stretch_over-stretch.ensures in
     let st_is = is.value ∙ stretch_same _ _ _ _ _ times ∙ ap (λ (k : Ends). stretch_of k.first.time k.last.time k.count c.args.from c.args.to) e in
-    let value_is = c.sub.ensures ∙ ap (λ (k : Ends). difference k.last.value k.first.value) e in
-    let m = measured c.sub.result (change c.args.window) st.span st.start st.end _ _ _
-    value_is (ap (λ (k : Stretch). k.span) st_is) (ap (λ (k : Stretch). k.start) st_is) (ap (λ (k : Stretch). k.end) st_is) is.span.0 is.span.1 is.start is.end in
+    let value_is = c.micros.ensures.value ∙ c.sub.ensures ∙ ap (λ (k : Ends). difference k.last.value k.first.value) e in
+    let m = measured c.micros.result (change c.args.window) st.span st.start st.end _ _ _
+    c.micros.ensures.within value_is (ap (λ (k : Stretch). k.span) st_is) (ap (λ (k : Stretch). k.start) st_is) (ap (λ (k : Stretch). k.end) st_is) is.span.0 is.span.1 is.start is.end in
     (m.same, m.times, two)
