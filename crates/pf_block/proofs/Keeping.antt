@@ -12,7 +12,7 @@ use Rattle.pf_base.specs.LabelSets.{Pairs}
 use Rattle.pf_base.specs.LabelOrder.{labels_cmp}
 use Rattle.pf_block.specs.Samples.{rises, rises_after, value_at, put_sample, is_timed, is_series, is_outside}
 use Rattle.pf_block.specs.SeriesIds.{id_of}
-use Rattle.pf_block.specs.Snaps.{SnapData, IsSnap, samples_of, cut_from, cut_marked}
+use Rattle.pf_block.specs.Snaps.{SnapData, IsSnap, samples_of, cut_from}
 use Rattle.pf_block.proofs.Searches.{both, rises_filter, series_rises, series_timed}
 
 -- ---- ids
@@ -126,22 +126,6 @@ module _ (from to : ℤ) where
     cut_length : (n : ℕ) (xss : List (List Sample)) → length (cut_from n series from to xss) ≡ length xss
     cut_length n [] = refl
     cut_length n (xs ∷ xss) = let r = cut_length (n + 1) xss in omega (arith, r)
-
-    cut_marks : (n : ℕ) (marks : List Bool) (xss : List (List Sample)) → length marks ≡ length xss → ((k : ℕ) → k < length xss → get_or marks k false ≡ list_any (nat_eq (n + k)) series) →
-        cut_marked marks from to xss ≡ cut_from n series from to xss
-    cut_marks n marks [] l h = refl
-    cut_marks n [] (xs ∷ xss) l h = absurd (omega arith)
-    cut_marks n (m ∷ ms) (xs ∷ xss) l h =
-        let z : n + 0 ≡ n = omega arith in
-        let e : m ≡ list_any (nat_eq n) series = h 0 (omega arith) ∙ ap (λ i. list_any (nat_eq i) series) z in
-        let r : cut_marked ms from to xss ≡ cut_from (n + 1) series from to xss =
-        cut_marks (n + 1) ms xss (omega arith) (λ k j. let w : n + suc k ≡ (n + 1) + k = omega arith in h (suc k) (omega arith) ∙ ap (λ i. list_any (nat_eq i) series) w) in
-        λ i. cond (e i) (filter (is_outside from to) xs) xs ∷ r i
-
-pub marked_is : (series : List ℕ) (from to : ℤ) (marks : List Bool) (xss new : List (List Sample)) → length marks ≡ length xss → ((k : ℕ) → k < length xss → get_or marks k false ≡ list_any (nat_eq k) series) →
-    new ≡ cut_marked marks from to xss → new ≡ cut_from 0 series from to xss
-marked_is series from to marks xss new l h e =
-    e ∙ cut_marks from to series 0 marks xss l (λ k j. let z : k ≡ 0 + k = omega arith in h k j ∙ ap (λ i. list_any (nat_eq i) series) z)
 
 pub cut_snap : (s : SnapData) (series : List ℕ) (from to : ℤ) (labels : List Pairs) (new : List (List Sample)) → IsSnap s → labels ≡ s.labels → new ≡ cut_from 0 series from to s.samples → IsSnap (record { labels = labels; samples = new })
 cut_snap s series from to labels new h f e = subst (λ x. IsSnap (record { labels = x; samples = new })) (sym f) (record {

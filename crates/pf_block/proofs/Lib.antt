@@ -6,11 +6,13 @@ pub mod LabelOrdering
 mod Merging
 mod Numbering
 mod Runs
+mod Parts
 mod Pairing
 mod SortedEntries
 mod Canonical
 mod Taking
 mod Stacking
+mod Layering
 mod Walks
 mod Totals
 mod Worked

@@ -8,7 +8,7 @@ use Rattle.std.proofs.lemmas.List.{length-append, length-drop}
 use Rattle.std.proofs.Math.Seq.{take-length}
 use Rattle.std.proofs.lemmas.Bool.Decides.{nat_tests}
 use Rattle.pf_base.specs.declared.plain.Sample.{Sample}
-use Rattle.pf_block.specs.Blocks.{Entries, ascends, ascends_after, entry_of, is_left, is_upto, leads, merged, no_entry, samples_in}
+use Rattle.pf_block.specs.Blocks.{Entries, ascends, ascends_after, entry_of, is_upto, leads, merged, no_entry, samples_in}
 use Rattle.pf_block.specs.Runs.{are_runs, count_by, laid, last_run, paired, run_end, run_noted, spread}
 use Rattle.pf_block.proofs.Runs.{id_at, last_spread, noted_runs, noted_spread, places_are, runs_last, spread_length}
 use Rattle.pf_block.proofs.Canonical.{ascends_behind}
@@ -321,9 +321,3 @@ module _ (p : ℕ × Sample → Bool) (es : Entries) (k : ℕ) (e : ℕ × Sampl
 
 pub filter_done : (p : ℕ × Sample → Bool) (out es : Entries) (k : ℕ) → length es ≤ k → out ++ filter p (drop k es) ≡ filter p es → out ≡ filter p es
 filter_done p out es k l e = sym (ap (λ x. out ++ filter p x) (drop_past k es l) ∙ append_none out) ∙ e
-
-pub left_same : (marks : List Bool) (from to f t : ℤ) (es new : Entries) → f ≡ from → t ≡ to → new ≡ filter (is_left marks f t) es → new ≡ filter (is_left marks from to) es
-left_same marks from to f t es new p q e = e ∙ (λ i. filter (is_left marks (p i) (q i)) es)
-
-pub left_at : (marks : List Bool) (from to : ℤ) (e : ℕ × Sample) (t : ℤ) → t ≡ e.1.time → is_left marks from to e ≡ is_left marks from to (e.0, record { time = t; value = e.1.value })
-left_at marks from to e t h = ap (λ u. is_left marks from to (e.0, record { time = u; value = e.1.value })) (sym h)

@@ -1,12 +1,11 @@
 -- How many samples blocks have, and a snapshot.
-use Rattle.std.proofs.Common.{◌≡◌, ℕ, zero, suc, ◌+◌, ◌<◌, ◌≤◌, Bool, true, false, cond, List, [], ◌∷◌, length, map, get_or, refl, sym, ap, ◌∙◌, arith}
+use Rattle.std.proofs.Common.{◌≡◌, ℕ, zero, suc, ◌+◌, ◌<◌, ◌≤◌, Bool, true, false, cond, List, [], ◌∷◌, length, map, refl, ap, arith}
 use Rattle.std.specs.Prelude.{nat_eq}
 use Rattle.std.proofs.lemmas.Bool.Decides.{nat_tests}
 use Rattle.std.proofs.lemmas.List.{length-append}
 use Rattle.pf_base.specs.declared.plain.Sample.{Sample}
 use Rattle.pf_block.specs.Blocks.{Entries, samples_in}
 use Rattle.pf_block.specs.Stacks.{series_from, series_in, total}
-use Rattle.pf_block.proofs.Walks.{map_at, map_length}
 
 -- the samples that a block has of some series
 abbrev part : ℕ → ℕ → Entries → ℕ
@@ -52,14 +51,3 @@ more_total i (suc n) b bs = let r = more_total (i + 1) n b bs in let a = length-
 pub total_most : (i n : ℕ) (bs : List Entries) → total (map length (series_from i n bs)) ≤ total (map length bs)
 total_most i n [] = let r = none_total i n in omega (arith, r)
 total_most i n (b ∷ bs) = let r = total_most i n bs in let m = more_total i n b bs in let p = part_most i n b in omega (arith, r, m, p)
-
-pub place_in : {X : Type 0} (f : X → Entries) (xs : List X) (k : ℕ) → k < length (map length (map f xs)) → k < length xs
-place_in f xs k l = let a = map_length f xs in let b = map_length length (map f xs) in omega (arith, a, b, l)
-
-pub sizes_count : {X : Type 0} (f : X → Entries) (xs : List X) → length (map length (map f xs)) ≡ length xs
-sizes_count f xs = map_length length (map f xs) ∙ map_length f xs
-
-pub size_at : {X : Type 0} (f : X → Entries) (xs : List X) (k : ℕ) (a : X) (b : Entries) → k < length xs → a ≡ get_or xs k a → b ≡ f a → length b ≡ get_or (map length (map f xs)) k 0
-size_at f xs k a b l h e =
-    let m : k < length (map f xs) = let z = map_length f xs in omega (arith, z, l) in
-    ap length (e ∙ ap f h ∙ sym (map_at f xs k a [] l)) ∙ sym (map_at length (map f xs) k [] 0 m)

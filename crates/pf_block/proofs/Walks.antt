@@ -1,14 +1,14 @@
 -- Walks over blocks, from the newest to the oldest and on.
 use Rattle.std.proofs.Common.{◌≡◌, ℕ, zero, suc, ◌+◌, ◌-◌, ◌*◌, ◌/◌, ◌<◌, ◌≤◌, ℤ, pos, Bool, true, false, ◌&&◌, ◌||◌, List, [], ◌∷◌, ◌++◌, length, map, take, drop, get_or, min, refl, sym, ap, ◌∙◌, subst, arith, Some, None, Option}
-use Rattle.std.specs.Prelude.{◌-ℤ◌, int_le, int_lt, nat_eq, nat_lt, nat_le}
-use Rattle.std.specs.List.{filter, list_all, slice_get}
+use Rattle.std.specs.Prelude.{int_le, int_lt, nat_eq, nat_lt, nat_le}
+use Rattle.std.specs.List.{list_all, slice_get}
 use Rattle.std.specs.Cmp.{first_so, second_so}
 use Rattle.std.proofs.lemmas.Int.{ints}
 use Rattle.std.proofs.lemmas.Bool.Decides.{nat_tests}
 use Rattle.pf_base.specs.declared.plain.Sample.{Sample}
-use Rattle.pf_block.specs.Blocks.{Entries, ascends, ascends_after, is_left, is_upto, merged, samples_in}
+use Rattle.pf_block.specs.Blocks.{Entries, ascends, ascends_after, is_upto, merged, samples_in}
 use Rattle.pf_block.specs.Samples.{is_within, last_of, last_onto, rises, rises_after, window_of}
-use Rattle.pf_block.specs.Stacks.{IsCut, IsStacked, cut_all, doubles, is_clear, is_not_after, merged_into, series_in, takes_in, topped}
+use Rattle.pf_block.specs.Stacks.{IsStacked, doubles, is_clear, is_not_after, merged_into, series_in, takes_in, topped}
 use Rattle.pf_block.proofs.Canonical.{rises_back, rises_front}
 use Rattle.pf_block.proofs.Pairing.{drop_at}
 use Rattle.pf_block.proofs.Searches.{both, last_is}
@@ -219,12 +219,6 @@ clear_again bs es k e f a l h g s c =
 pub into_next : (bs : List Entries) (n : ℕ) (b top new es : Entries) → n < length bs → b ≡ get_or bs n [] → top ≡ merged_into (drop (suc n) bs) es → new ≡ merged b top → new ≡ merged_into (drop n bs) es
 into_next bs n b top new es l h e q = q ∙ ap (merged b) e ∙ ap (λ x. merged x (merged_into (drop (suc n) bs) es)) h ∙ ap (λ x. merged_into x es) (sym (drop_at n bs [] l))
 
-pub cut_next : (marks : List Bool) (from to : ℤ) (bs : List Entries) (n : ℕ) (b left top new : Entries) → n < length bs → b ≡ get_or bs n [] → left ≡ filter (is_left marks from to) b → top ≡ cut_all marks from to (drop (suc n) bs) → new ≡ merged left top →
-    new ≡ cut_all marks from to (drop n bs)
-cut_next marks from to bs n b left top new l h f e q =
-    q ∙ ap (λ x. merged x top) f ∙ ap (merged (filter (is_left marks from to) b)) e ∙ ap (λ x. merged (filter (is_left marks from to) x) (cut_all marks from to (drop (suc n) bs))) h
-    ∙ ap (cut_all marks from to) (sym (drop_at n bs [] l))
-
 doubles_one : (ns : List ℕ) (m : ℕ) → doubles (m ∷ ns) ≡ true → doubles ns ≡ true
 doubles_one [] m h = refl
 doubles_one (n ∷ ns) m h = second_so (nat_le (2 * n) m) (doubles (n ∷ ns)) h
@@ -252,35 +246,32 @@ map_append : {X Y : Type 0} (f : X → Y) (xs ys : List X) → map f (xs ++ ys) 
 map_append f [] ys = refl
 map_append f (x ∷ xs) ys = ap (λ l. f x ∷ l) (map_append f xs ys)
 
-sizes : (bs : List Entries) (k : ℕ) → k < length bs → get_or (map length bs) k 0 ≡ length (get_or bs k [])
-sizes bs k l = map_at length bs k [] 0 l
-
-stack_doubles : (bs : List Entries) (count : ℕ) (top : Entries) → count ≤ length bs → doubles (map length bs) ≡ true → ((k : ℕ) → count ≡ suc k → 2 * length top ≤ length (get_or bs k [])) → doubles (map length (take count bs ++ topped top)) ≡ true
-stack_doubles bs count [] l h d = ap doubles (map_append length (take count bs) [] ∙ append_none (map length (take count bs)) ∙ map_take length count bs) ∙ take_doubles (map length bs) count h
-stack_doubles bs zero (e ∷ es) l h d = refl
-stack_doubles bs (suc k) (e ∷ es) l h d =
-    ap doubles (map_append length (take (suc k) bs) ((e ∷ es) ∷ []) ∙ ap (λ x. x ++ length (e ∷ es) ∷ []) (map_take length (suc k) bs))
-    ∙ front_doubles (map length bs) k (length (e ∷ es)) h (let z = map_length length bs in omega (arith, z, l)) (let z = sizes bs k (omega (arith, l)) in let w = d k refl in omega (arith, z, w))
+topped_doubles : (sizes : List ℕ) (count : ℕ) (top : Entries) → count ≤ length sizes → doubles sizes ≡ true → ((k : ℕ) → count ≡ suc k → 2 * length top ≤ get_or sizes k 0) → doubles (take count sizes ++ map length (topped top)) ≡ true
+topped_doubles sizes count [] l h d = ap doubles (append_none (take count sizes)) ∙ take_doubles sizes count h
+topped_doubles sizes zero (e ∷ es) l h d = refl
+topped_doubles sizes (suc k) (e ∷ es) l h d = front_doubles sizes k (length (e ∷ es)) h (omega (arith, l)) (d k refl)
 
 half : (m n : ℕ) → nat_lt (m / 2) n ≡ false → 2 * n ≤ m
 half m n h = grind (arith, nat_tests)
 
-pub stack_made : (bs : List Entries) (clear count : ℕ) (es top : Entries) (stack : List Entries) → count ≤ length bs → top ≡ merged_into (drop count bs) es → doubles (map length bs) ≡ true → takes_in bs clear count top ≡ false →
-    stack ≡ take count bs ++ topped top → IsStacked bs clear es stack
-stack_made bs clear zero es top stack l e h t q = record {
+pub stack_made : (bs : List Entries) (sizes : List ℕ) (clear count : ℕ) (es top : Entries) (stack : List Entries) (numbers : List ℕ) → count ≤ length sizes → top ≡ merged_into (drop count bs) es → doubles sizes ≡ true → takes_in sizes clear count top ≡ false →
+    stack ≡ take count bs ++ topped top → numbers ≡ take count sizes ++ map length (topped top) → IsStacked bs sizes clear es stack numbers
+stack_made bs sizes clear zero es top stack numbers l e h t q m = record {
   count = 0;
   within = omega arith;
   same = q ∙ ap (λ x. take 0 bs ++ topped x) e;
-  doubles = ap (λ x. doubles (map length x)) q ∙ stack_doubles bs 0 top l h (λ k z. absurd (omega (arith, z)));
+  numbered = m ∙ ap (λ x. take 0 sizes ++ map length (topped x)) e;
+  doubles = ap doubles m ∙ topped_doubles sizes 0 top l h (λ k z. absurd (omega (arith, z)));
 }
-stack_made bs clear (suc k) es top stack l e h t q =
-    let f : nat_lt clear (suc k) ≡ false = (neither (nat_lt clear (suc k)) (nat_lt (length (get_or bs k []) / 2) (length top)) t).0 in
-    let g : nat_lt (length (get_or bs k []) / 2) (length top) ≡ false = (neither (nat_lt clear (suc k)) (nat_lt (length (get_or bs k []) / 2) (length top)) t).1 in
+stack_made bs sizes clear (suc k) es top stack numbers l e h t q m =
+    let f : nat_lt clear (suc k) ≡ false = (neither (nat_lt clear (suc k)) (nat_lt (get_or sizes k 0 / 2) (length top)) t).0 in
+    let g : nat_lt (get_or sizes k 0 / 2) (length top) ≡ false = (neither (nat_lt clear (suc k)) (nat_lt (get_or sizes k 0 / 2) (length top)) t).1 in
     record {
       count = suc k;
       within = grind (arith, nat_tests);
       same = q ∙ ap (λ x. take (suc k) bs ++ topped x) e;
-      doubles = ap (λ x. doubles (map length x)) q ∙ stack_doubles bs (suc k) top l h (λ j z. let i : j ≡ k = omega (arith, z) in subst (λ n. 2 * length top ≤ length (get_or bs n [])) (sym i) (half (length (get_or bs k [])) (length top) g));
+      numbered = m ∙ ap (λ x. take (suc k) sizes ++ map length (topped x)) e;
+      doubles = ap doubles m ∙ topped_doubles sizes (suc k) top l h (λ j z. let i : j ≡ k = omega (arith, z) in subst (λ n. 2 * length top ≤ get_or sizes n 0) (sym i) (half (get_or sizes k 0) (length top) g));
     } where
       neither : (a b : Bool) → (a || b) ≡ false → (a ≡ false) × (b ≡ false)
       neither true b h = cc
@@ -300,16 +291,21 @@ push_map f xs old new k a x p q e h l =
     ap (map f) p ∙ map_append f old (a ∷ []) ∙ ap (λ y. map f old ++ y ∷ []) (e ∙ ap f h ∙ sym (map_at f xs k x [] l)) ∙ ap (λ y. y ++ get_or (map f xs) k [] ∷ []) q
     ∙ sym (take_next k (map f xs) (get_or (map f xs) k []) [] (in_map f xs k l) refl) ∙ ap (λ m. take m (map f xs)) n
 
-pub takes_last : (bs : List Entries) (clear count : ℕ) (top b : Entries) (v : Bool) → 0 < count → count ≤ clear → b ≡ get_or bs (count - 1) [] → v ≡ nat_lt (length b / 2) (length top) → v ≡ takes_in bs clear count top
-takes_last bs clear zero top b v l m h e = absurd (omega arith)
-takes_last bs clear (suc k) top b v l m h e =
+pub takes_last : (sizes : List ℕ) (clear count : ℕ) (top : Entries) (v : Bool) → 0 < count → count ≤ clear → v ≡ nat_lt (get_or sizes (count - 1) 0 / 2) (length top) → v ≡ takes_in sizes clear count top
+takes_last sizes clear zero top v l m e = absurd (omega arith)
+takes_last sizes clear (suc k) top v l m e =
     let z : (suc k) - 1 ≡ k = omega arith in
     let f : nat_lt clear (suc k) ≡ false = grind (arith, nat_tests) in
-    e ∙ ap (λ x. nat_lt (length x / 2) (length top)) (h ∙ ap (λ j. get_or bs j []) z) ∙ sym (ap (λ w. w || nat_lt (length (get_or bs k []) / 2) (length top)) f)
+    e ∙ ap (λ j. nat_lt (get_or sizes j 0 / 2) (length top)) z ∙ sym (ap (λ w. w || nat_lt (get_or sizes k 0 / 2) (length top)) f)
 
-pub takes_none : (bs : List Entries) (clear count : ℕ) (top : Entries) → takes_in bs clear count top ≡ true → 0 < count
-takes_none bs clear zero top h = cc
-takes_none bs clear (suc k) top h = omega arith
+pub takes_none : (sizes : List ℕ) (clear count : ℕ) (top : Entries) → takes_in sizes clear count top ≡ true → 0 < count
+takes_none sizes clear zero top h = cc
+takes_none sizes clear (suc k) top h = omega arith
+
+pub push_taken : (xs old new : List ℕ) (k x : ℕ) → new ≡ old ++ x ∷ [] → old ≡ take k xs → x ≡ get_or xs k x → k < length xs → new ≡ take (k + 1) xs
+push_taken xs old new k x p q h l =
+    let n : suc k ≡ k + 1 = omega arith in
+    p ∙ ap (λ y. y ++ x ∷ []) q ∙ sym (take_next k xs x x l h) ∙ ap (λ m. take m xs) n
 
 pub down : (k : ℕ) → 0 < k → k ≡ suc (k - 1)
 down k l = omega (arith, l)
@@ -358,9 +354,6 @@ first_rises id b bs r = rises_front (samples_in id b) (series_in id bs) r
 pub behind_rises : (id : ℕ) (b : Entries) (bs : List Entries) → rises (series_in id (b ∷ bs)) ≡ true → rises (series_in id bs) ≡ true
 behind_rises id b bs r = rises_back (samples_in id b) (series_in id bs) r
 
-pub cut_same_at : (marks : List Bool) (from to : ℤ) (bs : List Entries) (m n : ℕ) (top : Entries) → m ≡ suc n → top ≡ cut_all marks from to (drop m bs) → top ≡ cut_all marks from to (drop (suc n) bs)
-cut_same_at marks from to bs m n top e h = h ∙ ap (λ k. cut_all marks from to (drop k bs)) e
-
 module _ {X : Type 0} (f : X → Entries) (id : ℕ) (more behind : List X) (x : X) (b : Entries) (m : more ≡ x ∷ behind) (e : b ≡ f x) where
   pub walk_on : (a u : ℤ) (rest ws target : List Sample) → rest ≡ [] → ws ≡ window_of (samples_in id b) a u → rest ++ window_of (series_in id (map f more)) a u ≡ target → ws ++ window_of (series_in id (map f behind)) a u ≡ target
   walk_on a u rest ws target n w t =
@@ -376,61 +369,16 @@ module _ {X : Type 0} (f : X → Entries) (id : ℕ) (more behind : List X) (x :
   pub walk_behind : rises (series_in id (map f more)) ≡ true → rises (series_in id (map f behind)) ≡ true
   walk_behind r = behind_rises id b (map f behind) (rises_all r)
 
--- ---- first blocks with no sample in a window
-
 pub none_left : (xs : List Sample) → length xs ≡ 0 → xs ≡ []
 none_left [] h = refl
 none_left (x ∷ xs) h = absurd (omega (arith, h))
 
-module _ (id : ℕ) (bs : List Entries) (a u : ℤ) where
-  abbrev HasNone : ℕ → Type 0
-  HasNone n = window_of (series_in id (take n bs)) a u ≡ []
+-- ---- each block cut
 
-  front_none : (xs ys : List Sample) → xs ++ ys ≡ [] → xs ≡ []
-  front_none [] ys h = refl
-  front_none (x ∷ xs) ys h = cc
-
-  take_less : (m n : ℕ) → m ≤ n → (cs : List Entries) → (rest : List Entries) × (take n cs ≡ take m cs ++ rest)
-  take_less zero n l cs = (take n cs, refl)
-  take_less (suc m) zero l cs = absurd (omega (arith, l))
-  take_less (suc m) (suc n) l [] = ([], refl)
-  take_less (suc m) (suc n) l (c ∷ cs) = let r = take_less m n (omega (arith, l)) cs in (r.0, ap (λ l. c ∷ l) r.1)
-
-  pub fewer_none : (m n : ℕ) → m ≤ n → HasNone n → HasNone m
-  fewer_none m n l h =
-      let r = take_less m n l bs in
-      front_none (window_of (series_in id (take m bs)) a u) (window_of (series_in id r.0) a u)
-      (sym (filter_append (is_within a u) (series_in id (take m bs)) (series_in id r.0)) ∙ ap (λ x. window_of x a u) (sym (series_append id (take m bs) r.0) ∙ ap (series_in id) (sym r.1)) ∙ h)
-
-  pub one_more_none : (n : ℕ) (b : Entries) (ws : List Sample) → n < length bs → b ≡ get_or bs n [] → ws ≡ window_of (samples_in id b) a u → length ws ≡ 0 → HasNone n → HasNone (n + 1)
-  one_more_none n b ws l e w z h =
-      let p : n + 1 ≡ suc n = omega arith in
-      ap (λ k. window_of (series_in id (take k bs)) a u) p ∙ window_next id a u bs n b l e ws w ∙ ap (λ x. x ++ ws) h ∙ none_left ws z
-
-same_at : (ids : List ℕ) (i d e : ℕ) → i < length ids → get_or ids i d ≡ get_or ids i e
-same_at [] i d e l = absurd (omega arith)
-same_at (x ∷ ids) zero d e l = refl
-same_at (x ∷ ids) (suc i) d e l = same_at ids i d e (omega arith)
-
--- one more of some ids
-pub all_none : (ids : List ℕ) (bs : List Entries) (a u : ℤ) (i m n new : ℕ) → i < length ids → new ≤ m → new ≤ n → ((k : ℕ) → k < i → (d : ℕ) → window_of (series_in (get_or ids k d) (take m bs)) a u ≡ [])
-    → window_of (series_in (get_or ids i 0) (take n bs)) a u ≡ [] → (k : ℕ) → k < i + 1 → (d : ℕ) → window_of (series_in (get_or ids k d) (take new bs)) a u ≡ []
-all_none ids bs a u i m n new w x y f h k l d = by (nat_lt k i) refl where
-  by : (v : Bool) → nat_lt k i ≡ v → window_of (series_in (get_or ids k d) (take new bs)) a u ≡ []
-  by true e = fewer_none (get_or ids k d) bs a u new m x (f k (grind (arith, nat_tests)) d)
-  by false e =
-      let p : k ≡ i = grind (arith, nat_tests) in
-      ap (λ j. window_of (series_in j (take new bs)) a u) (ap (λ j. get_or ids j d) p ∙ same_at ids i d 0 w) ∙ fewer_none (get_or ids i 0) bs a u new n y h
-
-pub kept_doubles : {X : Type 0} (f : X → Entries) (xs : List X) (n : ℕ) → doubles (map length (map f xs)) ≡ true → doubles (map length (map f (take n xs))) ≡ true
-kept_doubles f xs n h = ap (λ l. doubles (map length l)) (map_take f n xs) ∙ ap doubles (map_take length n (map f xs)) ∙ take_doubles (map length (map f xs)) n h
-
-pub cut_is : (ids : List ℕ) (marks : List Bool) (from to : ℤ) (bs : List Entries) (keep count : ℕ) (top : Entries) (cs stack : List Entries) (f t a u : ℤ) → cs ≡ take keep bs → top ≡ cut_all marks f t (drop count bs) → count ≡ keep → f ≡ from → t ≡ to
-    → a ≡ from -ℤ pos 1 → u ≡ to → ((k : ℕ) → k < length ids → (d : ℕ) → window_of (series_in (get_or ids k d) (take keep bs)) a u ≡ []) → IsStacked cs keep top stack → IsCut ids marks from to bs stack
-cut_is ids marks from to bs keep count top cs stack f t a u p q r x y z w h s = record {
-  count = keep;
-  none = λ k l d. sym (λ i. window_of (series_in (get_or ids k d) (take keep bs)) (z i) (w i)) ∙ h k l d;
-  stacked =
-      subst (λ l. IsStacked l keep (cut_all marks from to (drop keep bs)) stack) p
-      (subst (λ e. IsStacked cs keep e stack) (q ∙ (λ i. cut_all marks (x i) (y i) (drop (r i) bs))) s);
-}
+pub push_cut : {X : Type 0} (f : X → Entries) (g : Entries → Entries) (xs old new : List X) (k : ℕ) (a x : X) → new ≡ old ++ a ∷ [] → map f old ≡ take k (map g (map f xs)) → f a ≡ g (f x) → x ≡ get_or xs k x → k < length xs → map f new ≡ take (k + 1) (map g (map f xs))
+push_cut f g xs old new k a x p q e h l =
+    let n : suc k ≡ k + 1 = omega arith in
+    let m : k < length (map g (map f xs)) = let z = map_length g (map f xs) in let w = map_length f xs in omega (arith, z, w, l) in
+    let w : k < length (map f xs) = in_map f xs k l in
+    ap (map f) p ∙ map_append f old (a ∷ []) ∙ ap (λ y. y ++ f a ∷ []) q
+    ∙ sym (take_next k (map g (map f xs)) (f a) [] m (e ∙ ap g (ap f h ∙ sym (map_at f xs k x [] l)) ∙ sym (map_at g (map f xs) k [] [] w))) ∙ ap (λ i. take i (map g (map f xs))) n

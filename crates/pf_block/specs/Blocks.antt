@@ -1,10 +1,9 @@
 -- The samples of a snapshot in blocks, the newest last. Each block has samples of some series, by rising id and then by
 -- time. Prometheus keeps samples so in time-ordered blocks; that they double is this project's own.
-use Rattle.std.specs.Prelude.{ℕ, ◌+◌, ℤ, pos, Bool, true, false, not, ◌&&◌, ◌||◌, cond, Option, None, Some, List, [], ◌∷◌, ◌++◌, length, slice_index_or, int_le, nat_eq, nat_lt, nat_le}
+use Rattle.std.specs.Prelude.{ℕ, ◌+◌, ℤ, pos, Bool, true, ◌&&◌, ◌||◌, cond, Option, None, Some, List, [], ◌∷◌, ◌++◌, length, slice_index_or, int_le, nat_eq, nat_lt, nat_le}
 use Rattle.pf_base.specs.declared.plain.Row.{Row}
 use Rattle.pf_base.specs.declared.plain.Sample.{Sample}
 use Rattle.pf_base.specs.LabelSets.{Pairs}
-use Rattle.pf_block.specs.Samples.{is_outside}
 use Rattle.pf_block.specs.SeriesIds.{id_of}
 use Rattle.pf_block.specs.Snaps.{sample_of}
 
@@ -45,10 +44,6 @@ leads es i fs j = nat_le (length fs) j || (nat_lt i (length es) && is_upto (slic
 abbrev pub samples_in : ℕ → Entries → List Sample
 samples_in id [] = []
 samples_in id (e ∷ es) = cond (nat_eq id e.0) (e.1 ∷ samples_in id es) (samples_in id es)
-
--- an entry that stays where the samples of marked series at times from `from` to `to` go
-abbrev pub is_left : List Bool → ℤ → ℤ → ℕ × Sample → Bool
-is_left marks from to e = not (slice_index_or marks e.0 false) || is_outside from to e.1
 
 -- the labels with those of a row
 abbrev pub noted_at : List Pairs → Pairs → Option ℕ → List Pairs

@@ -1,6 +1,7 @@
 pub mod Blocks
 pub mod Indexes
 pub mod LabelOrders
+pub mod Layers
 pub mod Runs
 pub mod Samples
 pub mod SeriesIds

@@ -77,12 +77,6 @@ cut_from first series from to [] = []
 cut_from first series from to (xs ∷ xss) =
     cond (list_any (nat_eq first) series) (filter (is_outside from to) xs) xs ∷ cut_from (first + 1) series from to xss
 
--- the same where the named series are marked
-abbrev pub cut_marked : List Bool → ℤ → ℤ → List (List Sample) → List (List Sample)
-cut_marked marks from to [] = []
-cut_marked [] from to (xs ∷ xss) = xs ∷ xss
-cut_marked (m ∷ ms) from to (xs ∷ xss) = cond m (filter (is_outside from to) xs) xs ∷ cut_marked ms from to xss
-
 abbrev pub without_rows : SnapData → List ℕ → ℕ → ℕ → SnapData
 without_rows s series from to = record { labels = s.labels; samples = cut_from 0 series (pos from) (pos to) s.samples }
 

@@ -1,10 +1,10 @@
 -- Blocks on one another, the newest last, and what they stand for. This project's own.
-use Rattle.std.specs.Prelude.{◌≡◌, ℕ, zero, suc, ◌+◌, ◌*◌, ◌/◌, ◌<◌, ◌≤◌, ℤ, pos, ◌-ℤ◌, Bool, true, false, ◌||◌, ◌&&◌, List, [], ◌∷◌, ◌++◌, length, map, filter, take, drop, slice_index_or, int_le, nat_le, nat_lt}
+use Rattle.std.specs.Prelude.{◌≡◌, ℕ, zero, suc, ◌+◌, ◌*◌, ◌/◌, ◌≤◌, ℤ, Bool, true, false, ◌||◌, ◌&&◌, List, [], ◌∷◌, ◌++◌, length, map, take, drop, slice_index_or, int_le, nat_le, nat_lt}
 use Rattle.std.specs.List.{list_all}
 use Rattle.pf_base.specs.declared.plain.Sample.{Sample}
 use Rattle.pf_base.specs.LabelSets.{Pairs}
-use Rattle.pf_block.specs.Blocks.{Entries, ascends, samples_in, merged, is_left}
-use Rattle.pf_block.specs.Samples.{window_of}
+use Rattle.pf_block.specs.Blocks.{Entries, ascends, samples_in, merged}
+use Rattle.pf_block.specs.Layers.{cut_by}
 use Rattle.pf_block.specs.Snaps.{SnapData, IsSnap}
 
 -- the samples of a series in all blocks
@@ -32,13 +32,21 @@ doubles [] = true
 doubles (a ∷ []) = true
 doubles (a ∷ b ∷ ns) = nat_le (2 * b) a && doubles (b ∷ ns)
 
--- what the blocks of every snapshot are: each is sorted, each series' samples rise from block to block, no block has
--- samples of another series, and each block has at least twice the rows of the next
-pub record IsKept (labels : List Pairs) (blocks : List Entries) : Type 0 where
+-- each block has at most the rows of its number
+abbrev pub covers : List ℕ → List Entries → Bool
+covers [] [] = true
+covers [] (b ∷ bs) = false
+covers (n ∷ ns) [] = false
+covers (n ∷ ns) (b ∷ bs) = nat_le (length b) n && covers ns bs
+
+-- what the blocks of every snapshot are, with the numbers of the rows that they were built of: each is sorted, each series'
+-- samples rise from block to block, no block has samples of another series, and each number is at least twice the next
+pub record IsKept (labels : List Pairs) (blocks : List Entries) (sizes : List ℕ) : Type 0 where
   pub snap : IsSnap (snap_of labels blocks)
   pub sorted : list_all ascends blocks ≡ true
   pub known : (id : ℕ) → length labels ≤ id → series_in id blocks ≡ []
-  pub doubles : doubles (map length blocks) ≡ true
+  pub doubles : doubles sizes ≡ true
+  pub covers : covers sizes blocks ≡ true
 
 -- a sample is not after a time
 abbrev pub is_not_after : ℤ → Sample → Bool
@@ -58,27 +66,21 @@ abbrev pub topped : Entries → List Entries
 topped [] = []
 topped (e ∷ es) = (e ∷ es) ∷ []
 
--- the last of the first `count` blocks goes into a further one: it is behind the first `clear`, or has fewer than twice
--- the rows
-abbrev pub takes_in : List Entries → ℕ → ℕ → Entries → Bool
-takes_in blocks clear zero top = false
-takes_in blocks clear (suc last) top = nat_lt clear (suc last) || nat_lt (length (slice_index_or blocks last []) / 2) (length top)
+-- the last of the first `count` blocks goes into a further one: it is behind the first `clear`, or its number is less than
+-- twice the rows
+abbrev pub takes_in : List ℕ → ℕ → ℕ → Entries → Bool
+takes_in sizes clear zero top = false
+takes_in sizes clear (suc last) top = nat_lt clear (suc last) || nat_lt (slice_index_or sizes last 0 / 2) (length top)
 
 -- a further block on at most the first `clear` blocks
-pub record IsStacked (blocks : List Entries) (clear : ℕ) (es : Entries) (stack : List Entries) : Type 0 where
+pub record IsStacked (blocks : List Entries) (sizes : List ℕ) (clear : ℕ) (es : Entries) (stack : List Entries) (numbers : List ℕ) : Type 0 where
   pub count : ℕ
   pub within : count ≤ clear
   pub same : stack ≡ take count blocks ++ topped (merged_into (drop count blocks) es)
-  pub doubles : doubles (map length stack) ≡ true
+  pub numbered : numbers ≡ take count sizes ++ map length (topped (merged_into (drop count blocks) es))
+  pub doubles : doubles numbers ≡ true
 
--- all blocks in one, without the samples of marked series at times from `from` to `to`
-abbrev pub cut_all : List Bool → ℤ → ℤ → List Entries → Entries
-cut_all marks from to [] = []
-cut_all marks from to (b ∷ bs) = merged (filter (is_left marks from to) b) (cut_all marks from to bs)
-
--- blocks without the samples of marked series, which are those of some ids, at times from `from` to `to`: on first blocks
--- that have none of them there is what is left of the others
-pub record IsCut (ids : List ℕ) (marks : List Bool) (from to : ℤ) (blocks stack : List Entries) : Type 0 where
-  pub count : ℕ
-  pub none : (k : ℕ) → k < length ids → (d : ℕ) → window_of (series_in (slice_index_or ids k d) (take count blocks)) (from -ℤ pos 1) to ≡ []
-  pub stacked : IsStacked (take count blocks) count (cut_all marks from to (drop count blocks)) stack
+-- blocks without the samples of some series at times from `from` to `to`: some first ones, and all others in one
+pub record IsCut (ids : List ℕ) (from to : ℤ) (blocks : List Entries) (sizes : List ℕ) (stack : List Entries) (numbers : List ℕ) : Type 0 where
+  pub clear : ℕ
+  pub stacked : IsStacked (map (cut_by ids from to) blocks) sizes clear [] stack numbers

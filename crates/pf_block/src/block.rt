@@ -1,8 +1,8 @@
 //! Blocks of samples, sorted by series and time.
 
-ghost use Rattle.std.specs.Prelude.{◌≡◌, ◌+◌, ◌++◌, ◌∷◌, ℕ, ℤ, ◌<◌, ◌≤◌, true, [], IfOk, drop, length, filter, map, nat_le, nat_lt, slice_index_or};
+ghost use Rattle.std.specs.Prelude.{◌≡◌, ◌+◌, ◌++◌, ◌∷◌, ℕ, ◌<◌, ◌≤◌, true, [], IfOk, drop, length, map, nat_le, nat_lt, slice_index_or};
 ghost use Rattle.pf_base.specs.declared.plain.Sample.{Sample};
-ghost use Rattle.pf_block.specs.Blocks.{ascends, entry_of, is_left, is_upto, leads, merged, samples_in, times_in};
+ghost use Rattle.pf_block.specs.Blocks.{ascends, entry_of, is_upto, leads, merged, samples_in, times_in};
 ghost use Rattle.pf_block.specs.Runs.{are_apart, are_runs, count_by, ends_with, run_end, run_noted};
 ghost use Rattle.pf_block.specs.Samples.{last_of, rises, window_of};
 
@@ -138,14 +138,6 @@ fn is_upto(one: (u32, Sample), other: (u32, Sample)) -> bool
     one.0 < other.0 || one.0 == other.0 && one.1.time <= other.1.time
 }
 
-/// Whether an entry stays where the samples of marked series at times from `from` to `to` go.
-fn is_left(marks: &[bool], from: i64, to: i64, id: u32, time: i64) -> bool
-    ensures { (value : ℤ) → result ≡ is_left marks.now from to (id, record { time = time; value = value }) }
-{
-    let marked = marks.get(id as usize).copied().unwrap_or(false);
-    !marked || time < from || to < time
-}
-
 /// A block of entries that are sorted.
 fn sorted(alloc: Global, entries: &[Entry]) -> Result<Block, OutOfMemory>
     requires { ascends (map entry_of entries.now) ≡ true }
@@ -181,7 +173,7 @@ impl Block {
     }
 
     /// With a further entry at the end.
-    fn with(self, id: u32, sample: Sample) -> Result<Block, OutOfMemory>
+    pub fn with(self, id: u32, sample: Sample) -> Result<Block, OutOfMemory>
         requires { ascends (self ++ (id, sample) ∷ []) ≡ true }
         ensures { IfOk result (λ b. b ≡ self ++ (id, sample) ∷ []) }
     {
@@ -281,24 +273,6 @@ impl Block {
                 block = block.with(id, sample)?;
                 j += 1;
             }
-        }
-        Ok(block)
-    }
-
-    /// Without the samples of the marked series at times from `from` to `to`.
-    pub fn without(&self, marks: &[bool], from: i64, to: i64) -> Result<Block, OutOfMemory>
-        ensures { IfOk result (λ b. b ≡ filter (is_left marks.now from to) self.now) }
-    {
-        let alloc = *self.samples.allocator();
-        let mut block = Block::new(alloc);
-        let mut near = 0;
-        for i in 0..self.rows() {
-            let (run, (id, sample)) = self.entry_near(i, near);
-            near = run;
-            if !is_left(marks, from, to, id, sample.time) {
-                continue;
-            }
-            block = block.with(id, sample)?;
         }
         Ok(block)
     }

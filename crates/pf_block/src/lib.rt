@@ -4,14 +4,16 @@
 //! order of time. A window of a series is a filter over its samples, `find` and `postings` are look-ups in the list of
 //! labels, and `with` and `without` give the two lists that they leave.
 //!
-//! The code keeps the samples in blocks that are shared, each sorted by series and time and with at least twice the samples
-//! of the next, and an index that is shared as long as no series is new: a map from label sets to ids, a list of ids for
-//! each pair of a name and a value, and the ids in label order with the place of each. Windows and look-ups search by halves
-//! and take no memory.
+//! The code keeps the samples in blocks that are shared, each sorted by series and time and built of at least twice the
+//! samples of the next; beside each block, what deletions left of the series that they touched there; and an index that is
+//! shared as long as no series is new: a map from label sets to ids, a list of ids for each pair of a name and a value, and
+//! the ids in label order with the place of each. Windows and look-ups search by halves and take no memory.
 #![tactic(auto)]
 
 mod block;
 mod index;
+mod layer;
+mod part;
 mod ranked;
 mod samples;
 mod sizes;

@@ -6,7 +6,7 @@ ghost use Rattle.pf_block.specs.Samples.{rises, window_of, until};
 use pf_base::Sample;
 
 /// The number of samples that are not after a time.
-fn count_until(samples: &[Sample], time: i64) -> usize
+pub fn count_until(samples: &[Sample], time: i64) -> usize
     requires { rises samples.now ≡ true }
     ensures within { result ≤ length samples.now }
     ensures value { result ≡ until time samples.now }

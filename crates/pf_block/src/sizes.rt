@@ -1,47 +1,43 @@
 //! How many samples the blocks of a snapshot have.
 
-ghost use Rattle.std.specs.Prelude.{◌≡◌, ◌<◌, [], length, map, slice_index_or};
-ghost use Rattle.std.specs.Arc.{arc_value};
+ghost use Rattle.std.specs.Prelude.{◌≡◌, ◌<◌, length, slice_index_or};
 
-use crate::block::Block;
 use std::marker::Model;
-use std::sync::Arc;
 
 /// The numbers of samples of a snapshot's blocks, the oldest first.
 #[derive(Drop)]
 pub struct BlockSizes<'a> {
-    blocks: &'a [Arc<Block>],
+    sizes: &'a [usize],
 }
 
 impl<'a> Model for BlockSizes<'a> {
-    ghost use Rattle.std.specs.Prelude.{ℕ, List, length, map};
-    ghost use Rattle.std.specs.Arc.{arc_value};
+    ghost use Rattle.std.specs.Prelude.{ℕ, List};
 
     ghost Value = { List ℕ };
 
-    ghost view = { λ s. map length (map arc_value s.blocks.now) };
+    ghost view = { λ s. s.sizes.now };
 }
 
 /// The number of samples of a block.
-fn rows_of(blocks: &[Arc<Block>], place: usize) -> u64
-    requires { place < length blocks.now }
-    ensures { result ≡ length (slice_index_or (map arc_value blocks.now) place []) }
+fn rows_of(sizes: &[usize], place: usize) -> u64
+    requires { place < length sizes.now }
+    ensures { result ≡ slice_index_or sizes.now place 0 }
 {
-    blocks[place].rows() as u64
+    sizes[place] as u64
 }
 
 impl<'a> BlockSizes<'a> {
-    pub(crate) fn of(blocks: &'a [Arc<Block>]) -> BlockSizes<'a>
-        ensures { result ≡ map length (map arc_value blocks.now) }
+    pub(crate) fn of(sizes: &'a [usize]) -> BlockSizes<'a>
+        ensures { result ≡ sizes.now }
     {
-        BlockSizes { blocks }
+        BlockSizes { sizes }
     }
 
     /// The number of blocks.
     pub fn count(&self) -> usize
         ensures { result ≡ length self.now }
     {
-        self.blocks.len()
+        self.sizes.len()
     }
 
     /// The number of samples of a block.
@@ -49,6 +45,6 @@ impl<'a> BlockSizes<'a> {
         requires { place < length self.now }
         ensures { result ≡ slice_index_or self.now place 0 }
     {
-        rows_of(self.blocks, place)
+        rows_of(self.sizes, place)
     }
 }

@@ -1,7 +1,7 @@
 //! A tenant's series and samples at a point of its log.
 
-ghost use Rattle.std.specs.Prelude.{◌≡◌, ℕ, ◌<◌, ◌≤◌, ◌++◌, true, false, [], IfOk, length, vec_len, slice_index_or, nat_eq, nat_le, map, drop};
-ghost use Rattle.std.specs.List.{All, list_any};
+ghost use Rattle.std.specs.Prelude.{◌≡◌, ◌<◌, ◌≤◌, ◌++◌, true, IfOk, length, vec_len, slice_index_or, nat_le, map, drop};
+ghost use Rattle.std.specs.List.{All};
 ghost use Rattle.std.specs.Arc.{arc_value};
 ghost use Rattle.pf_block.specs.Blocks.{entries_of, entry_of, labels_with, noted, number_of};
 ghost use Rattle.pf_block.specs.Samples.{window_of, last_of};
@@ -13,6 +13,7 @@ ghost use Rattle.pf_block.specs.Snaps.{IsSnap, empty_snap, labels_of, samples_of
 
 use crate::block::{Block, Entry};
 use crate::index::Index;
+use crate::layer::Layer;
 use crate::ranked::Ranked;
 use crate::sizes::BlockSizes;
 use crate::stack::{clear_of, cut, last_within, stacked};
@@ -27,7 +28,8 @@ use std::sync::Arc;
 pub struct Snap {
     alloc: Global,
     index: Arc<Ranked>,
-    blocks: Vec<Arc<Block>>,
+    blocks: Vec<Arc<Layer>>,
+    sizes: Vec<usize>,
 }
 
 impl Model for Snap {
@@ -40,7 +42,7 @@ impl Model for Snap {
 
     ghost view = { λ s. snap_of (arc_value s.index) (map arc_value s.blocks.items) };
 
-    ghost invariant = { λ s. IsKept (arc_value s.index) (map arc_value s.blocks.items) };
+    ghost invariant = { λ s. IsKept (arc_value s.index) (map arc_value s.blocks.items) s.sizes.items };
 }
 
 fn entry(row: &Row, id: u32) -> Entry
@@ -118,20 +120,6 @@ fn numbered(
     Ok((Arc::new(alloc, Ranked::of(alloc, index)?)?, entries))
 }
 
-/// Which ids below a number are in a list.
-fn marks(alloc: Global, ids: &[u32], count: usize) -> Result<Vec<bool>, OutOfMemory>
-    ensures { IfOk result (λ v. (vec_len v ≡ count) × ((k : ℕ) → k < count → slice_index_or v.items k false ≡ list_any (nat_eq k) ids.now)) }
-{
-    let mut marks = vec![in alloc; false; count]?;
-    for id in ids {
-        let place = *id as usize;
-        if place < count {
-            marks[place] = true;
-        }
-    }
-    Ok(marks)
-}
-
 impl Snap {
     /// A snapshot without series.
     pub fn empty(alloc: Global) -> Result<Arc<Snap>, OutOfMemory>
@@ -141,6 +129,7 @@ impl Snap {
             alloc,
             index: Arc::new(alloc, Ranked::of(alloc, Index::new(alloc))?)?,
             blocks: Vec::new(alloc),
+            sizes: Vec::new(alloc),
         };
         Ok(Arc::new(alloc, snap)?)
     }
@@ -156,11 +145,12 @@ impl Snap {
         let _few = index.index().count();
         let block = Block::of(self.alloc, entries)?;
         let clear = clear_of(&self.blocks, &block);
-        let blocks = stacked(self.alloc, &self.blocks, clear, block)?;
+        let (blocks, sizes) = stacked(self.alloc, &self.blocks, &self.sizes, clear, block)?;
         let snap = Snap {
             alloc: self.alloc,
             index,
             blocks,
+            sizes,
         };
         Ok(Arc::new(self.alloc, snap)?)
     }
@@ -169,13 +159,14 @@ impl Snap {
     pub fn without(&self, series: &[u32], from: u64, to: u64) -> Result<Arc<Snap>, OutOfMemory>
         ensures { IfOk result (λ s. arc_value s ≡ without_rows self.now series.now from to) }
     {
-        let marks = marks(self.alloc, series, self.index.index().count() as usize)?;
         let from = from.min(MAXT + 1) as i64;
         let to = to.min(MAXT) as i64;
+        let (blocks, sizes) = cut(self.alloc, &self.blocks, &self.sizes, series, from, to)?;
         let snap = Snap {
             alloc: self.alloc,
             index: Arc::try_clone(&self.index)?,
-            blocks: cut(self.alloc, &self.blocks, series, &marks, from, to)?,
+            blocks,
+            sizes,
         };
         Ok(Arc::new(self.alloc, snap)?)
     }
@@ -258,12 +249,13 @@ impl Snap {
         Some(sample.value)
     }
 
-    /// The numbers of samples of the blocks that hold them, the oldest first. Each is at least twice the next, and together
-    /// they are at least the snapshot's samples.
+    /// The numbers of samples that the blocks were built of, the oldest first. Each is at least twice the next, and together
+    /// they are at least the snapshot's samples: those that deletions took since are counted.
     pub fn block_sizes(&self) -> BlockSizes<'_>
         ensures doubles { doubles result ≡ true }
         ensures rows { total (map length self.now.samples) ≤ total result }
     {
-        BlockSizes::of(&self.blocks)
+        let _blocks = &self.blocks;
+        BlockSizes::of(&self.sizes)
     }
 }

@@ -1,19 +1,22 @@
 //! Blocks on one another, the newest last.
 
-ghost use Rattle.std.specs.Prelude.{◌≡◌, ℕ, ◌+◌, ◌-◌, ◌<◌, ◌≤◌, ◌≤ℤ◌, ◌++◌, true, [], IfOk, length, map, pos, slice_index_or, take};
+ghost use Rattle.std.specs.Prelude.{◌≡◌, ℕ, ◌+◌, ◌-◌, ◌<◌, ◌≤◌, ◌≤ℤ◌, ◌++◌, true, IfOk, length, map, pos, slice_index_or, take};
 ghost use Rattle.std.specs.Arc.{arc_value};
 ghost use Rattle.std.specs.List.{list_all};
 ghost use Rattle.pf_base.specs.declared.plain.Sample.{Sample};
+ghost use Rattle.pf_block.specs.Blocks.{samples_in};
+ghost use Rattle.pf_block.specs.Layers.{cut_by};
 ghost use Rattle.pf_block.specs.Samples.{rises, last_of, window_of};
 ghost use Rattle.pf_block.specs.Stacks.{IsCut, IsStacked, doubles, is_clear, is_not_after, series_in, takes_in, topped};
 
 use crate::block::Block;
+use crate::layer::Layer;
 use pf_base::{OutOfMemory, Sample};
 use std::alloc::Global;
 use std::sync::Arc;
 
 /// The last sample of a series after `after`, up to and with `upto`.
-pub fn last_within(blocks: &[Arc<Block>], id: u32, after: i64, upto: i64) -> Option<Sample>
+pub fn last_within(blocks: &[Arc<Layer>], id: u32, after: i64, upto: i64) -> Option<Sample>
     requires { rises (series_in id (map arc_value blocks.now)) ≡ true }
     ensures { result ≡ last_of (window_of (series_in id (map arc_value blocks.now)) after upto) }
 {
@@ -29,7 +32,7 @@ pub fn last_within(blocks: &[Arc<Block>], id: u32, after: i64, upto: i64) -> Opt
 }
 
 /// How many of the first blocks have no sample of a series after a time.
-fn clear_below(blocks: &[Arc<Block>], id: u32, time: i64) -> usize
+fn clear_below(blocks: &[Arc<Layer>], id: u32, time: i64) -> usize
     requires { rises (series_in id (map arc_value blocks.now)) ≡ true }
     ensures within { result ≤ length blocks.now }
     ensures clear { list_all (is_not_after time) (series_in id (take result (map arc_value blocks.now))) ≡ true }
@@ -62,7 +65,7 @@ fn follows(block: &Block, place: usize, near: usize) -> bool
 
 /// The run of a further entry of the block, and the same number with that entry.
 fn clear_with(
-    blocks: &[Arc<Block>],
+    blocks: &[Arc<Layer>],
     block: &Block,
     place: usize,
     near: usize,
@@ -84,7 +87,7 @@ fn clear_with(
 }
 
 /// How many of the first blocks have no sample after one of its series in a further block.
-pub fn clear_of(blocks: &[Arc<Block>], block: &Block) -> usize
+pub fn clear_of(blocks: &[Arc<Layer>], block: &Block) -> usize
     requires { (id : ℕ) → rises (series_in id (map arc_value blocks.now)) ≡ true }
     ensures within { result ≤ length blocks.now }
     ensures clear { is_clear (take result (map arc_value blocks.now)) block.now ≡ true }
@@ -100,9 +103,9 @@ pub fn clear_of(blocks: &[Arc<Block>], block: &Block) -> usize
 /// A block on others, where it is not empty.
 fn on_first(
     alloc: Global,
-    blocks: &[Arc<Block>],
+    blocks: &[Arc<Layer>],
     top: Block,
-) -> Result<Vec<Arc<Block>>, OutOfMemory>
+) -> Result<Vec<Arc<Layer>>, OutOfMemory>
     ensures { IfOk result (λ v. map arc_value v.items ≡ map arc_value blocks.now ++ topped top) }
 {
     let mut stack = Vec::with_capacity(alloc, blocks.len() + 1)?;
@@ -110,97 +113,127 @@ fn on_first(
         stack.push(Arc::try_clone(block)?)?;
     }
     if top.rows() > 0 {
-        stack.push(Arc::new(alloc, top)?)?;
+        stack.push(Arc::new(alloc, Layer::of(alloc, top)?)?)?;
     }
     Ok(stack)
 }
 
+/// The numbers of samples of blocks, and that of a further one, where it is not empty.
+fn numbered(alloc: Global, sizes: &[usize], top: &Block) -> Result<Vec<usize>, OutOfMemory>
+    ensures { IfOk result (λ v. v.items ≡ sizes.now ++ map length (topped top.now)) }
+{
+    let mut numbers = Vec::with_capacity(alloc, sizes.len() + 1)?;
+    for size in sizes {
+        numbers.push(*size)?;
+    }
+    if top.rows() > 0 {
+        numbers.push(top.rows())?;
+    }
+    Ok(numbers)
+}
+
 /// Whether the last of the first `count` blocks goes into a further one.
-fn takes_in(blocks: &[Arc<Block>], clear: usize, count: usize, top: &Block) -> bool
-    requires { count ≤ length blocks.now }
-    ensures { result ≡ takes_in (map arc_value blocks.now) clear count top.now }
+fn takes_in(sizes: &[usize], clear: usize, count: usize, top: &Block) -> bool
+    requires { count ≤ length sizes.now }
+    ensures { result ≡ takes_in sizes.now clear count top.now }
 {
     if count == 0 {
         return false;
     }
-    count > clear || blocks[count - 1].rows() / 2 < top.rows()
+    count > clear || sizes[count - 1] / 2 < top.rows()
 }
 
-/// A further block on the first `clear` blocks. It takes in the others, and then the last one as long as that has fewer
-/// than twice its samples.
+/// A further block on the first `clear` blocks. It takes in the others, and then the last one as long as that was built of
+/// fewer than twice its samples.
 pub fn stacked(
     alloc: Global,
-    blocks: &[Arc<Block>],
+    blocks: &[Arc<Layer>],
+    sizes: &[usize],
     clear: usize,
     block: Block,
-) -> Result<Vec<Arc<Block>>, OutOfMemory>
+) -> Result<(Vec<Arc<Layer>>, Vec<usize>), OutOfMemory>
+    requires count { length sizes.now ≡ length blocks.now }
     requires within { clear ≤ length blocks.now }
-    requires doubles { doubles (map length (map arc_value blocks.now)) ≡ true }
-    ensures kept { IfOk result (λ v. IsStacked (map arc_value blocks.now) clear block (map arc_value v.items)) }
+    requires doubles { doubles sizes.now ≡ true }
+    ensures { IfOk result (λ p. IsStacked (map arc_value blocks.now) sizes.now clear block (map arc_value p.0.items) p.1.items) }
 {
     let mut count = blocks.len();
     let mut top = block;
-    while takes_in(blocks, clear, count, &top) {
+    while takes_in(sizes, clear, count, &top) {
         count -= 1;
-        top = blocks[count].merged(&top)?;
+        top = blocks[count].merged(alloc, &top)?;
     }
+    let numbers = numbered(alloc, &sizes[..count], &top)?;
     let stack = on_first(alloc, &blocks[..count], top)?;
-    Ok(stack)
+    Ok((stack, numbers))
 }
 
-/// How many of the first blocks have no sample of a series after `after`, up to and with `upto`.
-fn free_of(blocks: &[Arc<Block>], id: u32, after: i64, upto: i64) -> usize
-    requires { rises (series_in id (map arc_value blocks.now)) ≡ true }
-    ensures within { result ≤ length blocks.now }
-    ensures none { window_of (series_in id (take result (map arc_value blocks.now))) after upto ≡ [] }
+/// How many of the first blocks need not be built anew.
+fn unworn(blocks: &[Arc<Layer>]) -> usize
+    ensures { result ≤ length blocks.now }
 {
-    let mut free = 0;
-    while free < blocks.len() {
-        let block = &blocks[free];
-        if block.window(id, after, upto).len() > 0 {
-            return free;
+    for i in 0..blocks.len() {
+        if blocks[i].is_worn() {
+            return i;
         }
-        free += 1;
     }
-    free
+    blocks.len()
 }
 
-/// How many of the first blocks have none of any of these series.
-fn free_of_all(blocks: &[Arc<Block>], series: &[u32], after: i64, upto: i64) -> usize
-    requires { (id : ℕ) → rises (series_in id (map arc_value blocks.now)) ≡ true }
-    ensures within { result ≤ length blocks.now }
-    ensures none { (k : ℕ) → k < length series.now → (d : ℕ) → window_of (series_in (slice_index_or series.now k d) (take result (map arc_value blocks.now))) after upto ≡ [] }
-{
-    let mut free = blocks.len();
-    for id in series {
-        free = free.min(free_of(blocks, *id, after, upto));
-    }
-    free
-}
-
-/// The blocks without the samples of the marked series, which are these, at times from `from` to `to`. The first blocks that
-/// have none of them stay as they are.
-pub fn cut(
+/// A block without the samples of some series: the same one where it has none of them.
+fn cut_block(
     alloc: Global,
-    blocks: &[Arc<Block>],
+    block: &Arc<Layer>,
     series: &[u32],
-    marks: &[bool],
     from: i64,
     to: i64,
-) -> Result<Vec<Arc<Block>>, OutOfMemory>
+) -> Result<Arc<Layer>, OutOfMemory>
+    requires from { pos 0 ≤ℤ from }
+    requires rises { (id : ℕ) → rises (samples_in id (arc_value block.now)) ≡ true }
+    ensures { IfOk result (λ b. arc_value b ≡ cut_by series.now from to (arc_value block.now)) }
+{
+    if block.is_free_of(series, from - 1, to) {
+        return Ok(Arc::try_clone(block)?);
+    }
+    Ok(Arc::new(alloc, block.without(alloc, series, from, to)?)?)
+}
+
+/// Each block without them.
+fn cut_blocks(
+    alloc: Global,
+    blocks: &[Arc<Layer>],
+    series: &[u32],
+    from: i64,
+    to: i64,
+) -> Result<Vec<Arc<Layer>>, OutOfMemory>
     requires from { pos 0 ≤ℤ from }
     requires rises { (id : ℕ) → rises (series_in id (map arc_value blocks.now)) ≡ true }
-    requires doubles { doubles (map length (map arc_value blocks.now)) ≡ true }
-    ensures { IfOk result (λ v. IsCut series.now marks.now from to (map arc_value blocks.now) (map arc_value v.items)) }
+    ensures { IfOk result (λ v. map arc_value v.items ≡ map (cut_by series.now from to) (map arc_value blocks.now)) }
 {
-    let keep = free_of_all(blocks, series, from - 1, to);
-    let mut count = blocks.len();
-    let mut top = Block::new(alloc);
-    while count > keep {
-        count -= 1;
-        let left = blocks[count].without(marks, from, to)?;
-        top = left.merged(&top)?;
+    let mut left = Vec::with_capacity(alloc, blocks.len())?;
+    for block in blocks {
+        left.push(cut_block(alloc, block, series, from, to)?)?;
     }
-    let stack = stacked(alloc, &blocks[..keep], keep, top)?;
+    Ok(left)
+}
+
+/// The blocks without the samples of these series at times from `from` to `to`. What is worn by deletions is built anew.
+pub fn cut(
+    alloc: Global,
+    blocks: &[Arc<Layer>],
+    sizes: &[usize],
+    series: &[u32],
+    from: i64,
+    to: i64,
+) -> Result<(Vec<Arc<Layer>>, Vec<usize>), OutOfMemory>
+    requires from { pos 0 ≤ℤ from }
+    requires rises { (id : ℕ) → rises (series_in id (map arc_value blocks.now)) ≡ true }
+    requires count { length sizes.now ≡ length blocks.now }
+    requires doubles { doubles sizes.now ≡ true }
+    ensures { IfOk result (λ p. IsCut series.now from to (map arc_value blocks.now) sizes.now (map arc_value p.0.items) p.1.items) }
+{
+    let left = cut_blocks(alloc, blocks, series, from, to)?;
+    let unworn = unworn(&left);
+    let stack = stacked(alloc, &left, sizes, unworn, Block::new(alloc))?;
     Ok(stack)
 }

@@ -6,7 +6,7 @@ ghost use Rattle.std.specs.Iterator.{YieldsFirst, item_count};
 ghost use Rattle.pf_block.specs.Stacks.{series_in};
 ghost use Rattle.pf_block.specs.Samples.{rises, window_of};
 
-use crate::block::Block;
+use crate::layer::Layer;
 use pf_base::Sample;
 use std::iter::Iterator;
 use std::marker::Model;
@@ -16,7 +16,7 @@ use std::sync::Arc;
 #[derive(Drop)]
 pub struct Window<'a> {
     rest: &'a [Sample],
-    more: &'a [Arc<Block>],
+    more: &'a [Arc<Layer>],
     id: u32,
     after: i64,
     upto: i64,
@@ -39,11 +39,11 @@ impl<'a> Model for Window<'a> {
 /// The samples that come first, and the blocks behind them. There are none only where nothing is left.
 fn first_of<'a>(
     rest: &'a [Sample],
-    more: &'a [Arc<Block>],
+    more: &'a [Arc<Layer>],
     id: u32,
     after: i64,
     upto: i64,
-) -> (&'a [Sample], &'a [Arc<Block>])
+) -> (&'a [Sample], &'a [Arc<Layer>])
     requires { rises (series_in id (map arc_value more.now)) ≡ true }
     ensures left { result.0.now ++ window_of (series_in id (map arc_value result.1.now)) after upto ≡ rest.now ++ window_of (series_in id (map arc_value more.now)) after upto }
     ensures none { result.0.now ≡ [] → result.1.now ≡ [] }
@@ -77,7 +77,7 @@ impl<'a> Window<'a> {
     }
 
     /// Walks the samples of a series after `after`, up to and with `upto`.
-    pub(crate) fn over(blocks: &'a [Arc<Block>], id: u32, after: i64, upto: i64) -> Window<'a>
+    pub(crate) fn over(blocks: &'a [Arc<Layer>], id: u32, after: i64, upto: i64) -> Window<'a>
         requires { rises (series_in id (map arc_value blocks.now)) ≡ true }
         ensures { result ≡ window_of (series_in id (map arc_value blocks.now)) after upto }
     {

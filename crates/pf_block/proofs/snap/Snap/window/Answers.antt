@@ -9,10 +9,10 @@ use Rattle.pf_block.proofs.snap.Snap.window.Goals as goal
 
 pub over-requires : goal.over-requires
 over-requires c =
-    subst (λ l. rises (series_in c.args.id (map arc_value l)) ≡ true) (sym c.deref.ensures.value) (kept_rises (arc_value c.self.inside.index) (map arc_value c.self.inside.blocks.items) c.self.invariant c.args.id)
+    subst (λ l. rises (series_in c.args.id (map arc_value l)) ≡ true) (sym c.deref.ensures.value) (kept_rises (arc_value c.self.inside.index) (map arc_value c.self.inside.blocks.items) c.self.inside.sizes.items c.self.invariant c.args.id)
 
 pub returns : goal.returns
 returns c =
     window_read c.args.id _ _ _ _ _ _ c.args.after c.args.upto c.over.ensures (ap (map arc_value) c.deref.ensures.value)
-    (kept_at (arc_value c.self.inside.index) (map arc_value c.self.inside.blocks.items) c.self.invariant c.args.id ∙ ap (λ s. samples_of s c.args.id) c.self.view_is)
+    (kept_at (arc_value c.self.inside.index) (map arc_value c.self.inside.blocks.items) c.self.inside.sizes.items c.self.invariant c.args.id ∙ ap (λ s. samples_of s c.args.id) c.self.view_is)
     (to_z-of_z w64 c.args.after c.ranges.after) (to_z-of_z w64 c.args.upto c.ranges.upto)
