@@ -1,14 +1,14 @@
 -- A series that a matcher accepts has one of the values that it asks for, and the accepted ones of the series that have one are
 -- all accepted ones.
-use Rattle.std.proofs.Common.{◌≡◌, ℕ, zero, suc, ◌+◌, ◌<◌, ◌≤◌, Bool, true, false, cond, ◌&&◌, ◌||◌, List, [], ◌∷◌, ◌++◌, map, length, drop, append_assoc, get_or, eqb, refl, sym, ap, ◌∙◌, arith, subst, eqb-true, ne_eqb, Bor}
-use Rattle.std.proofs.lemmas.Bool.{eqb-false}
+use Rattle.std.proofs.Common.{◌≡◌, ℕ, zero, suc, ◌+◌, ◌<◌, ◌≤◌, Bool, true, false, cond, ◌&&◌, ◌||◌, List, [], ◌∷◌, ◌++◌, length, drop, append_assoc, get_or, eqb, refl, sym, ap, ◌∙◌, arith, subst, eqb-true, ne_eqb}
+use Rattle.std.proofs.lemmas.Bool.{eqb-false, or_left}
 use Rattle.std.specs.List.{All, list_any}
 use Rattle.std.specs.Str.{bytes_eq}
 use Rattle.std.specs.Cmp.{first_so, nat_eq_equiv, second_so}
 use Rattle.std.proofs.lemmas.Map.Views.{list_any-from_Contains}
 use Rattle.std.proofs.lemmas.List.Elements.{All-cons, All-head, All-nil, All-tail}
 use Rattle.std.proofs.lemmas.Slice.Eq.{bytes_eq-Decides}
-use Rattle.pf_base.specs.LabelSets.{Pairs, is_empty, value_of}
+use Rattle.pf_base.specs.LabelSets.{IsLabels, Pairs, is_empty, rises, value_of}
 use Rattle.pf_block.specs.SeriesIds.{has_pair}
 use Rattle.pf_model.specs.declared.expr.Matcher.{Matcher}
 use Rattle.pf_model.specs.declared.expr.MatchSign.{MatchSign}
@@ -17,6 +17,9 @@ use Rattle.pf_model.specs.Binding.{accepted_from, accepted_of}
 use Rattle.pf_model.specs.Patterns.{alternatives, is_like, is_plain}
 use Rattle.pf_model.specs.Selection.{accepts, holds}
 use Rattle.pf_index.specs.Listing.{AreListed, RisesFrom, accepted_in, has_one, all_from, ids_of, labels_at, listed_values, unless_empty, values_of}
+use Rattle.pf_index.specs.Sieving.{holds_of}
+use Rattle.pf_index.proofs.Entries.{StandFrom, stand_all, stand_first, stand_on}
+use Rattle.pf_index.proofs.Valued.{value_is}
 
 -- ---- values
 
@@ -90,6 +93,44 @@ has_one_listed m l h a =
     let f = full (values_of m.sign m.text) h in
     subst (λ vs. has_one m.label vs l ≡ true) (sym f.0) (one_of m.label (values_of m.sign m.text) l f.1 (asked m.sign m.text (value_of l m.label) h a))
 
+-- a matcher holds of a series that has one of the values
+held_by : (name v : List ℕ) (vs : List (List ℕ)) (ps : Pairs) (b : Bool) → rises ps ≡ true → has_pair name v ps ≡ b → (b || has_one name vs ps) ≡ true
+    → (has_one name vs ps ≡ true → list_any (bytes_eq (value_of ps name)) vs ≡ true) → list_any (bytes_eq (value_of ps name)) (v ∷ vs) ≡ true
+held_by name v vs ps true r e h f = or_left _ _ ((bytes_eq-Decides (value_of ps name) v).1 (value_is name v ps r e))
+held_by name v vs ps false r e h f = or_second (bytes_eq (value_of ps name) v) _ (f h)
+
+held_value : (name : List ℕ) (vs : List (List ℕ)) (ps : Pairs) → rises ps ≡ true → has_one name vs ps ≡ true → list_any (bytes_eq (value_of ps name)) vs ≡ true
+held_value name [] ps r h = h
+held_value name (v ∷ vs) ps r h = held_by name v vs ps (has_pair name v ps) r refl h (held_value name vs ps r)
+
+held_listed : (x : List ℕ) (vs : List (List ℕ)) (b : Bool) → list_any (bytes_eq x) (cond b [] vs) ≡ true → list_any (bytes_eq x) vs ≡ true
+held_listed x vs true h = cc
+held_listed x vs false h = h
+
+choice : (b c d : Bool) → b ≡ true → c ≡ true → cond b c d ≡ true
+choice true c d e h = h
+choice false c d e h = cc
+
+held_like : (pattern value : List ℕ) (b : Bool) → is_plain pattern ≡ b → list_any (bytes_eq value) (cond b (alternatives pattern) []) ≡ true → is_like pattern value ≡ true
+held_like pattern value true e h = choice (is_plain pattern) (list_any (bytes_eq value) (alternatives pattern)) _ e h
+held_like pattern value false e h = cc
+
+held : (sign : MatchSign) (text value : List ℕ) → list_any (bytes_eq value) (values_of sign text) ≡ true → holds sign value text ≡ true
+held Equal text value h = one_of_one (bytes_eq value text) h where
+  one_of_one : (b : Bool) → (b || false) ≡ true → b ≡ true
+  one_of_one true h = refl
+  one_of_one false h = h
+held NotEqual text value h = cc
+held Like pattern value h = held_like pattern value (is_plain pattern) refl h
+held NotLike text value h = cc
+
+pub listed_holds : (m : Matcher) (ls : List Pairs) (ids : List ℕ) → All IsLabels ls → AreListed m.label (listed_values m) ls ids → All (λ id. holds_of m ls id ≡ true) ids
+listed_holds m ls ids lawful a k d h =
+    let id : ℕ = get_or ids k d in
+    let r : IsLabels (labels_at ls id) = lawful id [] (a.within k d h) in
+    held m.sign m.text (value_of (labels_at ls id) m.label)
+    (held_listed _ (values_of m.sign m.text) (list_any is_empty (values_of m.sign m.text)) (held_value m.label (listed_values m) (labels_at ls id) r.rising (a.exact k d h)))
+
 -- one of the matchers that accept a series
 holds_at : (ms : List Matcher) (i : ℕ) (d : Matcher) (l : Pairs) → i < length ms → accepts ms l ≡ true → holds (get_or ms i d).sign (value_of l (get_or ms i d).label) (get_or ms i d).text ≡ true
 holds_at [] i d l h a = absurd (omega (arith, h))
@@ -126,10 +167,6 @@ ids_among ms ls (id ∷ ids) =
 abbrev AreThere : ℕ → List Matcher → List Pairs → List ℕ → Type 0
 AreThere first ms ls ids = (k : ℕ) → k < length ls → accepts ms (labels_at ls k) ≡ true → list_any (eqb (first + k)) ids ≡ true
 
--- the label sets stand in a list from a place on
-abbrev StandFrom : ℕ → List Pairs → List Pairs → Type 0
-StandFrom first all ls = (k : ℕ) → k < length ls → labels_at all (first + k) ≡ labels_at ls k
-
 -- ids above a place
 none_below : (n m : ℕ) (ids : List ℕ) → n < m → RisesFrom m ids → list_any (eqb n) ids ≡ false
 none_below n m [] h r = refl
@@ -150,9 +187,6 @@ not_true true h = absurd (h refl)
 not_true false h = refl
 
 module _ (ms : List Matcher) (all : List Pairs) where
-  stand_on : (first : ℕ) (l : Pairs) (ls : List Pairs) → StandFrom first all (l ∷ ls) → StandFrom (first + 1) all ls
-  stand_on first l ls s k h = ap (labels_at all) (plus_one first k) ∙ s (suc k) (omega (arith, h))
-
   shorter : (first n : ℕ) (ids : List ℕ) → All (λ i. i < first + suc n) ids → All (λ i. i < (first + 1) + n) ids
   shorter first n ids w k d l = let h = w k d l in omega (arith, h)
 
@@ -182,7 +216,7 @@ module _ (ms : List Matcher) (all : List Pairs) where
       → accepted_among ms all (id ∷ ids) ≡ accepted_from first ms (l ∷ ls)
   among_by first l ls id ids true q s r w t here there =
       let e : id ≡ first = eqb-true id first q in
-      let own : labels_at all id ≡ l = ap (labels_at all) (e ∙ sym (plus_zero first)) ∙ s 0 (omega arith) in
+      let own : labels_at all id ≡ l = ap (labels_at all) e ∙ stand_first all first l ls s in
       let tail : accepted_among ms all ids ≡ accepted_from (first + 1) ms ls =
       here (subst (λ i. RisesFrom (i + 1) ids) e r.1) (shorter first (length ls) ids (All-tail (λ i. i < first + suc (length ls)) id ids w)) (there_tail first l ls id ids e t) in
       λ i. cond (accepts ms (own i)) ((own i, e i) ∷ tail i) (tail i)
@@ -197,12 +231,12 @@ module _ (ms : List Matcher) (all : List Pairs) where
   all_among first [] [] s r w t = refl
   all_among first [] (id ∷ ids) s r w t = let h = All-head (λ i. i < first + 0) id ids w in absurd (omega (arith, h, r.0))
   all_among first (l ∷ ls) [] s r w t =
-      all_among (first + 1) ls [] (stand_on first l ls s) tt (All-nil (λ i. i < (first + 1) + length ls)) (there_on first l ls [] t)
+      all_among (first + 1) ls [] (stand_on all first l ls s) tt (All-nil (λ i. i < (first + 1) + length ls)) (there_on first l ls [] t)
       ∙ ap (λ b. cond b ((l, first) ∷ accepted_from (first + 1) ms ls) (accepted_from (first + 1) ms ls)) (sym (skipped first l ls [] t refl))
   all_among first (l ∷ ls) (id ∷ ids) s r w t =
       among_by first l ls id ids (eqb id first) refl s r w t
-      (λ r' w' t'. all_among (first + 1) ls ids (stand_on first l ls s) r' w' t')
-      (λ r' w' t'. all_among (first + 1) ls (id ∷ ids) (stand_on first l ls s) r' w' t')
+      (λ r' w' t'. all_among (first + 1) ls ids (stand_on all first l ls s) r' w' t')
+      (λ r' w' t'. all_among (first + 1) ls (id ∷ ids) (stand_on all first l ls s) r' w' t')
 
 zero_plus : (n : ℕ) → 0 + n ≡ n
 zero_plus n = omega arith
@@ -213,7 +247,7 @@ pub all_listed_accepted : (ms : List Matcher) (all : List Pairs) (name : List �
 all_listed_accepted ms all name values ids a h =
     ids_among ms all ids
     ∙ ap ids_of
-    (all_among ms all 0 all ids (λ k l. ap (labels_at all) (zero_plus k)) a.rising
+    (all_among ms all 0 all ids (stand_all all) a.rising
     (λ k d l. subst (λ n. get_or ids k d < n) (sym (zero_plus (length all))) (a.within k d l))
     (λ k l e. ap (λ i. list_any (eqb i) ids) (zero_plus k) ∙ list_any-from_Contains nat_eq_equiv k ids (a.each k l (h (labels_at all k) e))))
 
@@ -221,12 +255,12 @@ all_listed_accepted ms all name values ids a h =
 accepted_on : (ms : List Matcher) (all : List Pairs) (first : ℕ) (ls : List Pairs) → StandFrom first all ls → accepted_in ms all (all_from first ls) ≡ ids_of (accepted_from first ms ls)
 accepted_on ms all first [] s = refl
 accepted_on ms all first (l ∷ ls) s =
-    let own : labels_at all first ≡ l = ap (labels_at all) (sym (plus_zero first)) ∙ s 0 (omega arith) in
-    (λ i. cond (accepts ms (own i)) (first ∷ accepted_on ms all (first + 1) ls (stand_on ms all first l ls s) i) (accepted_on ms all (first + 1) ls (stand_on ms all first l ls s) i))
+    let own : labels_at all first ≡ l = stand_first all first l ls s in
+    (λ i. cond (accepts ms (own i)) (first ∷ accepted_on ms all (first + 1) ls (stand_on all first l ls s) i) (accepted_on ms all (first + 1) ls (stand_on all first l ls s) i))
     ∙ ids_by first l (accepted_from (first + 1) ms ls) (accepts ms l)
 
 pub all_accepted : (ms : List Matcher) (ls : List Pairs) → accepted_in ms ls (all_from 0 ls) ≡ ids_of (accepted_of ms ls)
-all_accepted ms ls = accepted_on ms ls 0 ls (λ k l. ap (labels_at ls) (zero_plus k))
+all_accepted ms ls = accepted_on ms ls 0 ls (stand_all ls)
 
 within_from : (n first : ℕ) (ls : List Pairs) → first + length ls ≤ n → All (λ id. id < n) (all_from first ls)
 within_from n first [] h = All-nil (λ id. id < n)
@@ -234,12 +268,6 @@ within_from n first (l ∷ ls) h = All-cons (λ id. id < n) first (all_from (fir
 
 pub all_within : (ls : List Pairs) → All (λ id. id < length ls) (all_from 0 ls)
 all_within ls = within_from (length ls) 0 ls (omega arith)
-
--- the values of a slice of one text
-pub one_value : (values : List (Bor (List ℕ))) (d : Bor (List ℕ)) → 1 ≤ length values → length values < 2 → map (λ x. x.now) values ≡ (get_or values 0 d).now ∷ []
-one_value [] d l h = absurd (omega (arith, l))
-one_value (v ∷ []) d l h = refl
-one_value (v ∷ w ∷ vs) d l h = absurd (omega (arith, h))
 
 -- a loop's step over all ids
 drop_ids : (first i : ℕ) (ls : List Pairs) → i < length ls → all_from first (drop i ls) ≡ first ∷ all_from (first + 1) (drop (suc i) ls)

@@ -46,11 +46,17 @@ ids_within ms ls =
 pub accepted_within : (ms : List Matcher) (ls : List Pairs) → All (λ id. id < length ls) (ids_of (accepted_of ms ls))
 accepted_within ms ls = All-map (λ id. id < length ls) (λ (e : Entry). e.1) (accepted_of ms ls) (within_from (length ls) 0 ms ls (omega arith))
 
--- each accepted series stands at its id
-abbrev StandFrom : ℕ → List Pairs → List Pairs → Type 0
+-- the label sets stand in a list from a place on
+abbrev pub StandFrom : ℕ → List Pairs → List Pairs → Type 0
 StandFrom first all ls = (k : ℕ) → k < length ls → labels_at all (first + k) ≡ labels_at ls k
 
-stand_on : (all : List Pairs) (first : ℕ) (l : Pairs) (ls : List Pairs) → StandFrom first all (l ∷ ls) → StandFrom (first + 1) all ls
+pub stand_all : (all : List Pairs) → StandFrom 0 all all
+stand_all all k h = ap (labels_at all) (let e : 0 + k ≡ k = omega arith in e)
+
+pub stand_first : (all : List Pairs) (first : ℕ) (l : Pairs) (ls : List Pairs) → StandFrom first all (l ∷ ls) → labels_at all first ≡ l
+stand_first all first l ls s = ap (labels_at all) (let e : first ≡ first + 0 = omega arith in e) ∙ s 0 (omega arith)
+
+pub stand_on : (all : List Pairs) (first : ℕ) (l : Pairs) (ls : List Pairs) → StandFrom first all (l ∷ ls) → StandFrom (first + 1) all ls
 stand_on all first l ls s k h = ap (labels_at all) (let e : (first + 1) + k ≡ first + suc k = omega arith in e) ∙ s (suc k) (omega (arith, h))
 
 entries_by : (all : List Pairs) (first : ℕ) (l : Pairs) (es : List Entry) (b : Bool) → labels_at all first ≡ l → es ≡ entries_at all (ids_of es) → cond b ((l, first) ∷ es) es ≡ entries_at all (ids_of (cond b ((l, first) ∷ es) es))
@@ -60,8 +66,7 @@ entries_by all first l es false e h = h
 entries_on : (ms : List Matcher) (all : List Pairs) (first : ℕ) (ls : List Pairs) → StandFrom first all ls → accepted_from first ms ls ≡ entries_at all (ids_of (accepted_from first ms ls))
 entries_on ms all first [] s = refl
 entries_on ms all first (l ∷ ls) s =
-    let own : labels_at all first ≡ l = ap (labels_at all) (let e : first ≡ first + 0 = omega arith in e) ∙ s 0 (omega arith) in
-    entries_by all first l (accepted_from (first + 1) ms ls) (accepts ms l) own (entries_on ms all (first + 1) ls (stand_on all first l ls s))
+    entries_by all first l (accepted_from (first + 1) ms ls) (accepts ms l) (stand_first all first l ls s) (entries_on ms all (first + 1) ls (stand_on all first l ls s))
 
 pub accepted_entries : (ms : List Matcher) (ls : List Pairs) → accepted_of ms ls ≡ entries_at ls (ids_of (accepted_of ms ls))
-accepted_entries ms ls = entries_on ms ls 0 ls (λ k l. ap (labels_at ls) (let e : 0 + k ≡ k = omega arith in e))
+accepted_entries ms ls = entries_on ms ls 0 ls (stand_all ls)

@@ -1,6 +1,7 @@
-pub mod Asked
 pub mod Covered
 pub mod Entries
 pub mod Listed
 pub mod Members
 pub mod Ordered
+pub mod Sieved
+pub mod Valued

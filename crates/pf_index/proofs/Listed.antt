@@ -1,5 +1,7 @@
 -- The series that have one of some values of a label, by their ids.
-use Rattle.std.proofs.Common.{◌≡◌, ℕ, zero, suc, ◌+◌, ◌<◌, ◌≤◌, Bool, true, false, cond, ◌||◌, List, [], ◌∷◌, ◌++◌, length, get_or, eqb, refl, sym, arith, subst, add-one}
+use Rattle.std.proofs.Common.{◌≡◌, ℕ, zero, suc, ◌+◌, ◌<◌, ◌≤◌, Bool, true, false, cond, ◌||◌, List, [], ◌∷◌, ◌++◌, length, get_or, eqb, refl, sym, ap, ◌∙◌, arith, subst, add-one}
+use Rattle.std.proofs.lemmas.Bool.{or_left, or_right}
+use Rattle.std.proofs.lemmas.List.{append-nil}
 use Rattle.std.specs.List.{All, Contains, dedup}
 use Rattle.std.specs.List.Sorted.{IsPermutation, IsSorted, IsStrictlyIncreasing}
 use Rattle.std.specs.Ordering.{nat_cmp}
@@ -11,6 +13,7 @@ use Rattle.std.proofs.lemmas.Map.Keys.{IsStrictlyIncreasing-dedup}
 use Rattle.pf_base.specs.LabelSets.{Pairs}
 use Rattle.pf_block.specs.SeriesIds.{has_pair, ids_from, ids_with}
 use Rattle.pf_index.specs.Listing.{AreListed, RisesFrom, all_listed, has_one, labels_at}
+use Rattle.pf_index.proofs.Entries.{StandFrom, stand_all, stand_first, stand_on}
 
 -- ---- one list
 
@@ -57,17 +60,25 @@ each_from first (suc k) name value (x ∷ ls) l h =
 zero_plus : (n : ℕ) → 0 + n ≡ n
 zero_plus n = omega arith
 
-one_by : (b : Bool) → (b || false) ≡ true → b ≡ true
-one_by true h = refl
-one_by false h = h
+module _ (name v : List ℕ) (all : List Pairs) where
+  abbrev pub HasPair : ℕ → Type 0
+  HasPair id = has_pair name v (labels_at all id) ≡ true
 
--- the list of one value
-pub one_listed : (name value : List ℕ) (values : List (List ℕ)) (ls : List Pairs) → values ≡ value ∷ [] → AreListed name values ls (ids_with name value ls)
-one_listed name value values ls e = subst (λ vs. AreListed name vs ls (ids_with name value ls)) (sym e) (record {
-  rising = rises_from 0 name value ls;
-  within = within_from (length ls) 0 name value ls (omega arith);
-  each = λ id l h. subst (Contains (ids_with name value ls)) (zero_plus id) (each_from 0 id name value ls l (one_by (has_pair name value (labels_at ls id)) h));
-})
+  paired_by : (first : ℕ) (b : Bool) (ids : List ℕ) → (b ≡ true → HasPair first) → All HasPair ids → All HasPair (cond b (first ∷ ids) ids)
+  paired_by first true ids h a = All-cons HasPair first ids (h refl) a
+  paired_by first false ids h a = a
+
+  paired_from : (first : ℕ) (ls : List Pairs) → StandFrom first all ls → All HasPair (ids_from first name v ls)
+  paired_from first [] s = All-nil HasPair
+  paired_from first (l ∷ ls) s =
+      paired_by first (has_pair name v l) (ids_from (first + 1) name v ls) (λ e. ap (has_pair name v) (stand_first all first l ls s) ∙ e) (paired_from (first + 1) ls (stand_on all first l ls s))
+
+  -- each of the list has the pair
+  pub all_paired : All HasPair (ids_with name v all)
+  all_paired = paired_from 0 all (stand_all all)
+
+pub within_with : (name v : List ℕ) (ls : List Pairs) → All (λ id. id < length ls) (ids_with name v ls)
+within_with name v ls = within_from (length ls) 0 name v ls (omega arith)
 
 -- ---- several lists
 
@@ -85,6 +96,26 @@ all_each : (name : List ℕ) (values : List (List ℕ)) (ls : List Pairs) (id : 
 all_each name [] ls id l h = cc
 all_each name (v ∷ vs) ls id l h =
     each_by name v ls id (all_listed name vs ls) (has_pair name v (labels_at ls id)) (has_one name vs (labels_at ls id)) l refl (all_each name vs ls id l) h
+
+all_exact : (name : List ℕ) (values : List (List ℕ)) (ls : List Pairs) → All (λ id. has_one name values (labels_at ls id) ≡ true) (all_listed name values ls)
+all_exact name [] ls = All-nil (λ id. has_one name [] (labels_at ls id) ≡ true)
+all_exact name (v ∷ vs) ls =
+    All-append (λ id. has_one name (v ∷ vs) (labels_at ls id) ≡ true) (ids_with name v ls) (all_listed name vs ls)
+    (λ k d h. or_left _ _ (all_paired name v ls k d h)) (λ k d h. or_right _ _ (all_exact name vs ls k d h))
+
+all_rising : (name : List ℕ) (values : List (List ℕ)) (ls : List Pairs) → length values ≤ 1 → RisesFrom 0 (all_listed name values ls)
+all_rising name [] ls h = tt
+all_rising name (v ∷ []) ls h = subst (RisesFrom 0) (sym (append-nil (ids_with name v ls))) (rises_from 0 name v ls)
+all_rising name (v ∷ w ∷ vs) ls h = absurd (omega (arith, h))
+
+-- the list of one value
+pub one_listed : (name : List ℕ) (values : List (List ℕ)) (ls : List Pairs) (xs : List ℕ) → length values ≤ 1 → xs ≡ all_listed name values ls → AreListed name values ls xs
+one_listed name values ls xs h e = subst (AreListed name values ls) (sym e) (record {
+  rising = all_rising name values ls h;
+  within = all_within name values ls;
+  each = all_each name values ls;
+  exact = all_exact name values ls;
+})
 
 -- numbers that increase
 on_tail : (id : ℕ) (ids : List ℕ) (k : ℕ) → get_or (id ∷ ids) (suc k) 0 < get_or (id ∷ ids) (suc k + 1) 0 → get_or ids k 0 < get_or ids (k + 1) 0
@@ -107,4 +138,8 @@ sorted_listed name values ls xs ys zs e p s d = record {
       (All-dedup eqb (λ id. id < length ls) ys (All-permutation (λ id. id < length ls) xs ys p (subst (All (λ id. id < length ls)) (sym e) (all_within name values ls))));
   each = λ id l h. subst (λ ids. Contains ids id) (sym d)
       (Contains-dedup_nat ys id (Contains-permutation xs ys id p (subst (λ ids. Contains ids id) (sym e) (all_each name values ls id l h))));
+  exact = subst (All (λ id. has_one name values (labels_at ls id) ≡ true)) (sym d)
+      (All-dedup eqb (λ id. has_one name values (labels_at ls id) ≡ true) ys
+      (All-permutation (λ id. has_one name values (labels_at ls id) ≡ true) xs ys p
+      (subst (All (λ id. has_one name values (labels_at ls id) ≡ true)) (sym e) (all_exact name values ls))));
 }

@@ -41,11 +41,12 @@ abbrev pub RisesFrom : ℕ → List ℕ → Type 0
 RisesFrom n [] = Unit {0}
 RisesFrom n (id ∷ ids) = (n ≤ id) × RisesFrom (id + 1) ids
 
--- ids of series by rising id, among them each series that has one of the values
+-- the ids of the series that have one of the values, by rising id
 pub record AreListed (name : List ℕ) (values : List (List ℕ)) (ls : List Pairs) (ids : List ℕ) : Type 0 where
   pub rising : RisesFrom 0 ids
   pub within : All (λ id. id < length ls) ids
   pub each : (id : ℕ) → id < length ls → has_one name values (labels_at ls id) ≡ true → Contains ids id
+  pub exact : All (λ id. has_one name values (labels_at ls id) ≡ true) ids
 
 -- the ids of all of some series; the first has the id `first`
 abbrev pub all_from : ℕ → List Pairs → List ℕ

@@ -1,9 +1,9 @@
 //! The series of a snapshot that matchers accept.
 #![tactic(auto)]
 
-mod asking;
 mod listing;
 mod ordering;
 mod selection;
+mod sieving;
 
 pub use selection::{select, select_all};

@@ -108,8 +108,10 @@ pub fn listed_ids(
     ensures { IfOk result (λ v. AreListed name.now (map (λ x. x.now) values.now) snap.now.labels v.items) }
 {
     let mut ids = all_listed(alloc, snap, name, values)?;
-    ids.sort_unstable();
-    ids.dedup();
+    if values.len() > 1 {
+        ids.sort_unstable();
+        ids.dedup();
+    }
     Ok(ids)
 }
 

@@ -1,16 +1,14 @@
 //! The accepted series in label order.
 
-ghost use Rattle.std.specs.Prelude.{◌≡◌, ◌<◌, IfOk, length, map, true};
+ghost use Rattle.std.specs.Prelude.{◌≡◌, ◌<◌, IfOk, length, map};
 ghost use Rattle.std.specs.List.{All};
-ghost use Rattle.pf_base.specs.LabelSets.{Pairs};
-ghost use Rattle.pf_index.specs.Listing.{has_one, ids_of};
+ghost use Rattle.pf_index.specs.Listing.{ids_of};
 ghost use Rattle.pf_model.specs.Binding.{accepted_ids, accepted_of, bound_series, selectors_of};
-ghost use Rattle.pf_model.specs.Selection.{accepts};
 ghost use Rattle.pf_model.specs.Trees.{Tree};
 
-use crate::asking::{accepted_among, accepted_with_value};
 use crate::listing::{all_ids, listed_ids, listed_values, shortest};
 use crate::ordering::in_label_order;
+use crate::sieving::sieved;
 use pf_base::OutOfMemory;
 use pf_block::Snap;
 use pf_model::Matchers;
@@ -52,31 +50,13 @@ fn accepted(alloc: Global, snap: &Snap, matchers: &Matchers) -> Result<Vec<u32>,
         let matcher = matchers.matcher(place);
         let values = listed_values(alloc, matcher)?;
         if !values.is_empty() {
-            let found = accepted_with(alloc, snap, matchers, matcher.label.as_str(), &values)?;
+            let _order = snap.by_label();
+            let ids = listed_ids(alloc, snap, matcher.label.as_str(), &values)?;
+            let found = sieved(alloc, snap, matchers, Some(place), ids)?;
             return Ok(found);
         }
     }
     let ids = all_ids(alloc, snap)?;
-    let found = accepted_among(alloc, snap, matchers, &ids)?;
-    Ok(found)
-}
-
-/// The same where each of them has one of some values of a label.
-fn accepted_with(
-    alloc: Global,
-    snap: &Snap,
-    matchers: &Matchers,
-    name: &str,
-    values: &[&str],
-) -> Result<Vec<u32>, OutOfMemory>
-    requires { (l : Pairs) → accepts matchers.now l ≡ true → has_one name.now (map (λ x. x.now) values.now) l ≡ true }
-    ensures { IfOk result (λ v. v.items ≡ ids_of (accepted_of matchers.now snap.now.labels)) }
-{
-    if let [value] = values {
-        let found = accepted_with_value(alloc, snap, matchers, name, value)?;
-        return Ok(found);
-    }
-    let ids = listed_ids(alloc, snap, name, values)?;
-    let found = accepted_among(alloc, snap, matchers, &ids)?;
+    let found = sieved(alloc, snap, matchers, None, ids)?;
     Ok(found)
 }

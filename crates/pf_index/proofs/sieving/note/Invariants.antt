@@ -1,6 +1,6 @@
 use Rattle.std.proofs.Common.{◌≡◌, ℕ, ◌<◌, cond, length, take, get_or, Some, None, nat_eq}
 use Rattle.std.specs.List.{list_any}
-use Rattle.pf_index.proofs.asking.note.Given as goal
+use Rattle.pf_index.proofs.sieving.note.Given as goal
 
 abbrev pub invariant-loop-id : goal.invariant-loop-id
 invariant-loop-id l = record {
