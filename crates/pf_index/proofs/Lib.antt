@@ -1,5 +1,6 @@
 pub mod Covered
 pub mod Entries
+pub mod Filters
 pub mod Listed
 pub mod Members
 pub mod Ordered

@@ -1,19 +1,76 @@
--- The series that have one of some values of a label, by their ids.
-use Rattle.std.proofs.Common.{◌≡◌, ℕ, zero, suc, ◌+◌, ◌<◌, ◌≤◌, Bool, true, false, cond, ◌||◌, List, [], ◌∷◌, ◌++◌, length, get_or, eqb, refl, sym, ap, ◌∙◌, arith, subst, add-one}
-use Rattle.std.proofs.lemmas.Bool.{or_left, or_right}
+-- The series that have one of some values of a label, by rising id.
+use Rattle.std.proofs.Common.{◌≡◌, ℕ, zero, suc, ◌+◌, ◌<◌, ◌≤◌, Bool, true, false, cond, ◌||◌, List, [], ◌∷◌, ◌++◌, length, filter, get_or, eqb, refl, sym, ap, ◌∙◌, arith, subst, add-one, ne_eqb}
+use Rattle.std.proofs.lemmas.Bool.{both_ways, eqb-false, eqb-true, false_from_ne_true, or_left, or_right}
 use Rattle.std.proofs.lemmas.List.{append-nil}
-use Rattle.std.specs.List.{All, Contains, dedup}
+use Rattle.std.specs.List.{All, Contains, dedup, list_any}
+use Rattle.std.specs.Cmp.{nat_eq_equiv}
+use Rattle.std.proofs.lemmas.Map.Views.{list_any-from_Contains}
 use Rattle.std.specs.List.Sorted.{IsPermutation, IsSorted, IsStrictlyIncreasing}
 use Rattle.std.specs.Ordering.{nat_cmp}
-use Rattle.std.proofs.lemmas.List.Elements.{All-append, All-cons, All-nil, Contains-append_left, Contains-append_right, Contains-get_or}
+use Rattle.std.proofs.lemmas.List.Elements.{All-append, All-cons, All-head, All-nil, All-tail, Contains-append_left, Contains-append_right, Contains-get_or}
 use Rattle.std.proofs.lemmas.List.Filters.{All-dedup}
 use Rattle.std.proofs.lemmas.List.Kept.{Contains-dedup_nat}
 use Rattle.std.proofs.lemmas.List.Sorted.{All-permutation, Contains-permutation}
 use Rattle.std.proofs.lemmas.Map.Keys.{IsStrictlyIncreasing-dedup}
 use Rattle.pf_base.specs.LabelSets.{Pairs}
 use Rattle.pf_block.specs.SeriesIds.{has_pair, ids_from, ids_with}
-use Rattle.pf_index.specs.Listing.{AreListed, RisesFrom, all_listed, has_one, labels_at}
+use Rattle.pf_index.specs.Listing.{all_from, all_listed, has_one, labels_at, listed_in}
 use Rattle.pf_index.proofs.Entries.{StandFrom, stand_all, stand_first, stand_on}
+
+-- each is above the one before it, and the first is at least n
+abbrev RisesFrom : ℕ → List ℕ → Type 0
+RisesFrom n [] = Unit {0}
+RisesFrom n (id ∷ ids) = (n ≤ id) × RisesFrom (id + 1) ids
+
+none_below : (n m : ℕ) (ids : List ℕ) → n < m → RisesFrom m ids → list_any (eqb n) ids ≡ false
+none_below n m [] h r = refl
+none_below n m (id ∷ ids) h r =
+    ap (λ b. b || list_any (eqb n) ids) (ne_eqb n id (λ e. omega (arith, e, h, r.0))) ∙ none_below n (id + 1) ids (omega (arith, h, r.0)) r.1
+
+-- ids that rise, of which p holds, and which have all below n of which it holds
+module _ (p : ℕ → Bool) (n : ℕ) where
+  abbrev HasAll : ℕ → List ℕ → Type 0
+  HasAll first ids = (k : ℕ) → first ≤ k → k < n → p k ≡ true → list_any (eqb k) ids ≡ true
+
+  all_later : (first : ℕ) (ids : List ℕ) → HasAll first ids → HasAll (first + 1) ids
+  all_later first ids h k l m a = h k (omega (arith, l)) m a
+
+  all_behind : (first id : ℕ) (ids : List ℕ) → id ≡ first → HasAll first (id ∷ ids) → HasAll (first + 1) ids
+  all_behind first id ids e h k l m a = behind (eqb k id) (list_any (eqb k) ids) (ne_eqb k id (λ d. omega (arith, d, e, l))) (h k (omega (arith, l)) m a) where
+    behind : (b c : Bool) → b ≡ false → (b || c) ≡ true → c ≡ true
+    behind true c q r = cc
+    behind false c q r = r
+
+  passed : (first : ℕ) (rest ids : List ℕ) → first < n → HasAll first ids → list_any (eqb first) ids ≡ false → ids ≡ filter p rest → ids ≡ filter p (first ∷ rest)
+  passed first rest ids l h m e =
+      let f : p first ≡ false = false_from_ne_true (p first) (λ a. both_ways (list_any (eqb first) ids) m (h first (omega arith) l a)) in
+      e ∙ ap (λ b. cond b (first ∷ filter p rest) (filter p rest)) (sym f)
+
+  are_by : (first : ℕ) (ls : List Pairs) (id : ℕ) (ids : List ℕ) (b : Bool) → eqb id first ≡ b → first < n → RisesFrom first (id ∷ ids) → All (λ i. p i ≡ true) (id ∷ ids) → HasAll first (id ∷ ids)
+      → (RisesFrom (first + 1) ids → HasAll (first + 1) ids → ids ≡ filter p (all_from (first + 1) ls))
+      → (RisesFrom (first + 1) (id ∷ ids) → HasAll (first + 1) (id ∷ ids) → id ∷ ids ≡ filter p (all_from (first + 1) ls))
+      → id ∷ ids ≡ filter p (first ∷ all_from (first + 1) ls)
+  are_by first ls id ids true q l r a h here there =
+      let e : id ≡ first = eqb-true id first q in
+      let t : p first ≡ true = subst (λ i. p i ≡ true) e (All-head (λ i. p i ≡ true) id ids a) in
+      ap (λ i. i ∷ ids) e ∙ ap (λ x. first ∷ x) (here (subst (λ i. RisesFrom (i + 1) ids) e r.1) (all_behind first id ids e h))
+      ∙ ap (λ b. cond b (first ∷ filter p (all_from (first + 1) ls)) (filter p (all_from (first + 1) ls))) (sym t)
+  are_by first ls id ids false q l r a h here there =
+      let below : first < id = omega (arith, r.0, eqb-false id first q) in
+      passed first (all_from (first + 1) ls) (id ∷ ids) l h (none_below first id (id ∷ ids) below (omega arith, r.1))
+      (there (omega (arith, below), r.1) (all_later first (id ∷ ids) h))
+
+  are_all : (first : ℕ) (ls : List Pairs) (ids : List ℕ) → n ≡ first + length ls → RisesFrom first ids → All (λ i. i < n) ids → All (λ i. p i ≡ true) ids → HasAll first ids
+      → ids ≡ filter p (all_from first ls)
+  are_all first [] [] s r w a h = refl
+  are_all first [] (id ∷ ids) s r w a h = let l = All-head (λ i. i < n) id ids w in absurd (omega (arith, l, s, r.0))
+  are_all first (l ∷ ls) [] s r w a h =
+      passed first (all_from (first + 1) ls) [] (omega (arith, s)) h refl
+      (are_all (first + 1) ls [] (omega (arith, s)) tt w a (all_later first [] h))
+  are_all first (l ∷ ls) (id ∷ ids) s r w a h =
+      are_by first ls id ids (eqb id first) refl (omega (arith, s)) r a h
+      (λ r' h'. are_all (first + 1) ls ids (omega (arith, s)) r' (All-tail (λ i. i < n) id ids w) (All-tail (λ i. p i ≡ true) id ids a) h')
+      (λ r' h'. are_all (first + 1) ls (id ∷ ids) (omega (arith, s)) r' w a h')
 
 -- ---- one list
 
@@ -109,13 +166,10 @@ all_rising name (v ∷ []) ls h = subst (RisesFrom 0) (sym (append-nil (ids_with
 all_rising name (v ∷ w ∷ vs) ls h = absurd (omega (arith, h))
 
 -- the list of one value
-pub one_listed : (name : List ℕ) (values : List (List ℕ)) (ls : List Pairs) (xs : List ℕ) → length values ≤ 1 → xs ≡ all_listed name values ls → AreListed name values ls xs
-one_listed name values ls xs h e = subst (AreListed name values ls) (sym e) (record {
-  rising = all_rising name values ls h;
-  within = all_within name values ls;
-  each = all_each name values ls;
-  exact = all_exact name values ls;
-})
+pub one_listed : (name : List ℕ) (values : List (List ℕ)) (ls : List Pairs) (xs : List ℕ) → length values ≤ 1 → xs ≡ all_listed name values ls → xs ≡ listed_in name values ls
+one_listed name values ls xs h e =
+    e ∙ are_all (λ id. has_one name values (labels_at ls id)) (length ls) 0 ls (all_listed name values ls) (omega arith) (all_rising name values ls h) (all_within name values ls)
+    (all_exact name values ls) (λ k l m a. list_any-from_Contains nat_eq_equiv k (all_listed name values ls) (all_each name values ls k m a))
 
 -- numbers that increase
 on_tail : (id : ℕ) (ids : List ℕ) (k : ℕ) → get_or (id ∷ ids) (suc k) 0 < get_or (id ∷ ids) (suc k + 1) 0 → get_or ids k 0 < get_or ids (k + 1) 0
@@ -131,15 +185,12 @@ rises_on n (id ∷ ids) s h =
 
 -- what a sort and `dedup` leave of the lists
 pub sorted_listed : (name : List ℕ) (values : List (List ℕ)) (ls : List Pairs) (xs ys zs : List ℕ) → xs ≡ all_listed name values ls → IsPermutation xs ys → IsSorted nat_cmp ys
-    → zs ≡ dedup eqb ys → AreListed name values ls zs
-sorted_listed name values ls xs ys zs e p s d = record {
-  rising = subst (RisesFrom 0) (sym d) (rises_on 0 (dedup eqb ys) (IsStrictlyIncreasing-dedup ys s) (λ l. omega arith));
-  within = subst (All (λ id. id < length ls)) (sym d)
-      (All-dedup eqb (λ id. id < length ls) ys (All-permutation (λ id. id < length ls) xs ys p (subst (All (λ id. id < length ls)) (sym e) (all_within name values ls))));
-  each = λ id l h. subst (λ ids. Contains ids id) (sym d)
-      (Contains-dedup_nat ys id (Contains-permutation xs ys id p (subst (λ ids. Contains ids id) (sym e) (all_each name values ls id l h))));
-  exact = subst (All (λ id. has_one name values (labels_at ls id) ≡ true)) (sym d)
-      (All-dedup eqb (λ id. has_one name values (labels_at ls id) ≡ true) ys
-      (All-permutation (λ id. has_one name values (labels_at ls id) ≡ true) xs ys p
-      (subst (All (λ id. has_one name values (labels_at ls id) ≡ true)) (sym e) (all_exact name values ls))));
-}
+    → zs ≡ dedup eqb ys → zs ≡ listed_in name values ls
+sorted_listed name values ls xs ys zs e p s d =
+    let has : ℕ → Bool = λ id. has_one name values (labels_at ls id) in
+    d
+    ∙ are_all has (length ls) 0 ls (dedup eqb ys) (omega arith) (rises_on 0 (dedup eqb ys) (IsStrictlyIncreasing-dedup ys s) (λ l. omega arith))
+    (All-dedup eqb (λ id. id < length ls) ys (All-permutation (λ id. id < length ls) xs ys p (subst (All (λ id. id < length ls)) (sym e) (all_within name values ls))))
+    (All-dedup eqb (λ id. has id ≡ true) ys (All-permutation (λ id. has id ≡ true) xs ys p (subst (All (λ id. has id ≡ true)) (sym e) (all_exact name values ls))))
+    (λ k l m a. list_any-from_Contains nat_eq_equiv k (dedup eqb ys)
+    (Contains-dedup_nat ys k (Contains-permutation xs ys k p (subst (λ ids. Contains ids k) (sym e) (all_each name values ls k m a)))))

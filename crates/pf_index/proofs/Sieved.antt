@@ -1,5 +1,5 @@
 -- Matchers that sieve series one after another, and what is known of one of them.
-use Rattle.std.proofs.Common.{◌≡◌, ℕ, zero, suc, ◌+◌, ◌<◌, Bool, true, false, cond, not, ◌&&◌, List, [], ◌∷◌, ◌++◌, length, take, replicate, filter, get_or, eqb, nat_eq, IfSome, refl, sym, ap, ◌∙◌, subst, arith, Option, Some, None}
+use Rattle.std.proofs.Common.{◌≡◌, ℕ, zero, suc, ◌+◌, ◌<◌, Bool, true, false, cond, not, ◌&&◌, List, [], ◌∷◌, ◌++◌, length, take, replicate, get_or, eqb, nat_eq, IfSome, refl, sym, ap, ◌∙◌, subst, arith, Option, Some, None}
 use Rattle.std.specs.Bool.{beq}
 use Rattle.std.specs.List.{All, Contains, list_any}
 use Rattle.std.specs.Option.{option_eq}
@@ -14,25 +14,9 @@ use Rattle.pf_model.specs.declared.expr.Matcher.{Matcher}
 use Rattle.pf_model.specs.Selection.{accepts, holds, is_compared}
 use Rattle.pf_index.specs.Listing.{accepted_in, labels_at}
 use Rattle.pf_index.specs.Sieving.{AreKnown, asked, held_in, holds_of}
+use Rattle.pf_index.proofs.Filters.{filter_twice, filter_whole}
 use Rattle.pf_index.proofs.Listed.{HasPair, all_paired, within_with}
 use Rattle.pf_index.proofs.Valued.{value_is}
-
--- ---- filters
-
-module _ {X : Type 0} where
-  filter_twice : (p q r : X → Bool) → ((x : X) → r x ≡ (p x && q x)) → (xs : List X) → filter q (filter p xs) ≡ filter r xs
-  filter_twice p q r h [] = refl
-  filter_twice p q r h (x ∷ xs) =
-      twice_by (p x) ∙ (λ i. cond (p x && q x) (x ∷ filter_twice p q r h xs i) (filter_twice p q r h xs i))
-      ∙ ap (λ b. cond b (x ∷ filter r xs) (filter r xs)) (sym (h x)) where
-        twice_by : (b : Bool) → filter q (cond b (x ∷ filter p xs) (filter p xs)) ≡ cond (b && q x) (x ∷ filter q (filter p xs)) (filter q (filter p xs))
-        twice_by true = refl
-        twice_by false = refl
-
-  filter_whole : (p : X → Bool) (xs : List X) → All (λ x. p x ≡ true) xs → filter p xs ≡ xs
-  filter_whole p [] a = refl
-  filter_whole p (x ∷ xs) a =
-      ap (λ b. cond b (x ∷ filter p xs) (filter p xs)) (a 0 x (omega arith)) ∙ ap (λ l. x ∷ l) (filter_whole p xs (λ k d h. a (suc k) d (omega (arith, h))))
 
 -- what is left of some series
 pub left_within : (P : ℕ → Type 0) (ms : List Matcher) (ls : List Pairs) (ids cur : List ℕ) → cur ≡ accepted_in ms ls ids → All P ids → All P cur
@@ -47,12 +31,13 @@ rest_within P p xs ys k i x f h e a =
 
 -- ---- one matcher after another
 
+turned : (a b c : Bool) → (a && (b && c)) ≡ ((a && b) && c)
+turned true b c = refl
+turned false b c = refl
+
 accepts_push : (ms : List Matcher) (m : Matcher) (l : Pairs) → accepts (ms ++ m ∷ []) l ≡ (accepts ms l && (holds m.sign (value_of l m.label) m.text && true))
 accepts_push [] m l = refl
-accepts_push (n ∷ ms) m l = ap (λ b. holds n.sign (value_of l n.label) n.text && b) (accepts_push ms m l) ∙ along (holds n.sign (value_of l n.label) n.text) (accepts ms l) (holds m.sign (value_of l m.label) m.text && true) where
-  along : (a b c : Bool) → (a && (b && c)) ≡ ((a && b) && c)
-  along true b c = refl
-  along false b c = refl
+accepts_push (n ∷ ms) m l = ap (λ b. holds n.sign (value_of l n.label) n.text && b) (accepts_push ms m l) ∙ turned (holds n.sign (value_of l n.label) n.text) (accepts ms l) (holds m.sign (value_of l m.label) m.text && true)
 
 and_true : (b : Bool) → (b && true) ≡ b
 and_true true = refl
@@ -95,10 +80,6 @@ module _ (ls : List Pairs) where
   none_asked ids = sym (filter_whole (λ id. true) ids (λ k d h. refl))
 
   -- those that compare texts, and then the patterns
-  turned : (a b c : Bool) → (a && (b && c)) ≡ ((a && b) && c)
-  turned true b c = refl
-  turned false b c = refl
-
   second : (a b c : Bool) → (a && (b && c)) ≡ (b && (a && c))
   second true b c = refl
   second false true c = refl

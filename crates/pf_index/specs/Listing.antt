@@ -1,6 +1,6 @@
 -- The values that a matcher asks for, and the series that have one of them. This project's own.
-use Rattle.std.specs.Prelude.{◌≡◌, ℕ, ◌+◌, ◌<◌, ◌≤◌, ◌++◌, true, Bool, cond, List, [], ◌∷◌, map, filter, length, slice_index_or}
-use Rattle.std.specs.List.{All, Contains, list_any}
+use Rattle.std.specs.Prelude.{ℕ, ◌+◌, ◌++◌, Bool, cond, List, [], ◌∷◌, map, filter, slice_index_or}
+use Rattle.std.specs.List.{list_any}
 use Rattle.pf_base.specs.LabelSets.{Pairs, is_empty}
 use Rattle.pf_block.specs.SeriesIds.{has_pair, ids_with}
 use Rattle.pf_model.specs.declared.expr.Matcher.{Matcher}
@@ -36,22 +36,14 @@ labels_at ls id = slice_index_or ls id []
 abbrev pub has_one : List ℕ → List (List ℕ) → Pairs → Bool
 has_one name values labels = list_any (λ v. has_pair name v labels) values
 
--- each is above the one before it, and the first is at least n
-abbrev pub RisesFrom : ℕ → List ℕ → Type 0
-RisesFrom n [] = Unit {0}
-RisesFrom n (id ∷ ids) = (n ≤ id) × RisesFrom (id + 1) ids
-
--- the ids of the series that have one of the values, by rising id
-pub record AreListed (name : List ℕ) (values : List (List ℕ)) (ls : List Pairs) (ids : List ℕ) : Type 0 where
-  pub rising : RisesFrom 0 ids
-  pub within : All (λ id. id < length ls) ids
-  pub each : (id : ℕ) → id < length ls → has_one name values (labels_at ls id) ≡ true → Contains ids id
-  pub exact : All (λ id. has_one name values (labels_at ls id) ≡ true) ids
-
 -- the ids of all of some series; the first has the id `first`
 abbrev pub all_from : ℕ → List Pairs → List ℕ
 all_from first [] = []
 all_from first (l ∷ ls) = first ∷ all_from (first + 1) ls
+
+-- the ids of the series that have one of some values of a label
+abbrev pub listed_in : List ℕ → List (List ℕ) → List Pairs → List ℕ
+listed_in name values ls = filter (λ id. has_one name values (labels_at ls id)) (all_from 0 ls)
 
 -- those of some series that matchers accept
 abbrev pub accepted_in : List Matcher → List Pairs → List ℕ → List ℕ

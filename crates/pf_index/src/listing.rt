@@ -3,7 +3,7 @@
 ghost use Rattle.std.specs.Prelude.{◌≡◌, ◌<◌, IfOk, IfSome, length, map};
 ghost use Rattle.std.specs.List.{list_any};
 ghost use Rattle.pf_base.specs.LabelSets.{is_empty};
-ghost use Rattle.pf_index.specs.Listing.{AreListed, all_from, all_listed, listed_values, values_of};
+ghost use Rattle.pf_index.specs.Listing.{all_from, all_listed, listed_in, listed_values, values_of};
 ghost use Rattle.pf_model.specs.Patterns.{alternatives};
 
 use pf_base::OutOfMemory;
@@ -105,7 +105,7 @@ pub fn listed_ids(
     name: &str,
     values: &[&str],
 ) -> Result<Vec<u32>, OutOfMemory>
-    ensures { IfOk result (λ v. AreListed name.now (map (λ x. x.now) values.now) snap.now.labels v.items) }
+    ensures { IfOk result (λ v. v.items ≡ listed_in name.now (map (λ x. x.now) values.now) snap.now.labels) }
 {
     let mut ids = all_listed(alloc, snap, name, values)?;
     if values.len() > 1 {
