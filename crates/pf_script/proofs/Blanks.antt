@@ -11,7 +11,7 @@ use Rattle.pf_base.specs.LabelSets.{is_empty}
 use Rattle.pf_model.proofs.Places.{place, position_is}
 use Rattle.pf_model.specs.Cuts.{Cut, kept}
 use Rattle.pf_model.specs.Exposition.{are_blanks, is_blank}
-use Rattle.pf_script.specs.Scripts.{next_word, past_blanks, text_of, without_blanks, word_cut}
+use Rattle.pf_journal.specs.Scripts.{next_word, past_blanks, text_of, without_blanks, word_cut}
 
 -- ---- blanks in front
 

@@ -5,7 +5,7 @@ use Rattle.std.specs.List.{list_all}
 use Rattle.std.proofs.lemmas.Bool.Decides.{nat_tests}
 use Rattle.pf_base.specs.LabelSets.{is_empty}
 use Rattle.pf_model.specs.Cuts.{kept}
-use Rattle.pf_script.specs.Scripts.{digits_onto, number_of}
+use Rattle.pf_journal.specs.Scripts.{digits_onto, number_of}
 
 -- more digits only make a number greater
 grown : (n : ℕ) (ds : List ℕ) → n ≤ digits_onto n ds

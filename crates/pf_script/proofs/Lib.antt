@@ -5,4 +5,5 @@ pub mod Follows
 pub mod Going
 pub mod IdLists
 pub mod LineTexts
+pub mod StepLines
 mod Worked

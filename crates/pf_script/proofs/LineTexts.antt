@@ -4,8 +4,8 @@ use Rattle.std.specs.Prelude.{option_and_then}
 use Rattle.std.proofs.lemmas.Bool.{false_from_ne_true}
 use Rattle.std.proofs.lemmas.Str.{is_utf8-from_IsUtf8, IsUtf8-from_is_utf8}
 use Rattle.std.specs.Str.{IsUtf8, is_utf8}
-use Rattle.pf_script.specs.Scripts.{Issued, ask_of, delete_of, next_word, number_of, text_of}
-use Rattle.pf_script.specs.LineCuts.{AskWords, DeleteWords, ask_with, ask_words, delete_with, delete_words}
+use Rattle.pf_journal.specs.Scripts.{Issued, ask_of, delete_of, instant_of, next_word, number_of, text_of}
+use Rattle.pf_script.specs.LineCuts.{AskWords, DeleteWords, InstantWords, ask_with, ask_words, delete_with, delete_words, instant_with, instant_words}
 
 pub is_text : (bs : List ℕ) → IsUtf8 bs → is_utf8 bs ≡ true
 is_text bs u = is_utf8-from_IsUtf8 bs u
@@ -53,3 +53,15 @@ ask_some is words w e = sym (ask_is is words) ∙ ap (option_and_then (ask_with 
 
 pub ask_none : (is : List Issued) (words : List ℕ) → ask_words words ≡ None → ask_of is words ≡ None
 ask_none is words e = sym (ask_is is words) ∙ ap (option_and_then (ask_with is)) e
+
+pub instant_is : (is : List Issued) (words : List ℕ) → option_and_then (instant_with is) (instant_words words) ≡ instant_of is words
+unfolding instant_of instant_words
+instant_is is words =
+    then_same (next_word words) _ _ _ (λ id. then_same (next_word id.behind) _ _ _ (λ tenant. then_same (next_word tenant.behind) _ _ _ (λ at.
+    then_same (number_of at.front) _ _ _ (λ time. then_same (text_of at.behind) _ _ _ (λ query. refl)))))
+
+pub instant_some : (is : List Issued) (words : List ℕ) (w : InstantWords) → instant_words words ≡ Some w → instant_of is words ≡ instant_with is w
+instant_some is words w e = sym (instant_is is words) ∙ ap (option_and_then (instant_with is)) e
+
+pub instant_none : (is : List Issued) (words : List ℕ) → instant_words words ≡ None → instant_of is words ≡ None
+instant_none is words e = sym (instant_is is words) ∙ ap (option_and_then (instant_with is)) e

@@ -1,5 +1,5 @@
 -- Worked examples of scripts, journals and reports, computed.
-use Rattle.std.proofs.Common.{◌≡◌, ℕ, pos, List, [], ◌∷◌, refl, Some, None, codes, true, cond}
+use Rattle.std.proofs.Common.{◌≡◌, ℕ, pos, List, [], ◌∷◌, refl, Some, None, codes, true, false, cond}
 use Rattle.pf_base.specs.declared.plain.Limits.{Limits}
 use Rattle.std.specs.Str.{is_utf8}
 use Rattle.std.proofs.lemmas.Str.{is_utf8-from_IsUtf8}

@@ -1,8 +1,8 @@
 //! Scripts: the lines that a client runs.
 //!
 //! What the layers above use: `read_script` reads a whole script into its numbered lines, exactly where all its lines are of
-//! the forms that are built. An answer names an ask above it, and no other answer does. `number_of` reads a number as lines
-//! have them.
+//! a form, and else tells the first that is not. A line that cancels, answers, plans or keeps names an ask above it, and none
+//! that answers, plans or keeps stands behind the answer. `number_of` reads a number as lines have them.
 #![tactic(auto)]
 
 mod fault;

@@ -7,19 +7,22 @@ ghost use Rattle.pf_base.specs.Grids.{maxt};
 ghost use Rattle.pf_base.specs.LabelSets.{goes_on};
 ghost use Rattle.pf_base.specs.Tenants.{is_tenant};
 ghost use Rattle.pf_model.specs.Cuts.{kept};
-ghost use Rattle.pf_script.specs.Scripts.{answer_of, ask_of, delete_of, ingest, ingest_of, ingest_with, is_id, is_passed, issued_after, line_of, line_with, only_word};
+ghost use Rattle.pf_journal.specs.Scripts.{answer_of, ask_of, cancel_of, delete_of, done_of, ingest, ingest_of, ingest_with, instant_of, is_id, is_passed, issued_after, keep_of, line_of, line_with, only_word, plan_of, step_with, take_of, worker_of};
 ghost use Rattle.pf_script.specs.Cuts.{Finds};
 ghost use Rattle.pf_script.specs.IdLists.{Alike, IsIdle, issued_in};
-ghost use Rattle.pf_script.specs.LineCuts.{ask_in, ask_with, ask_words, delete_in, delete_with, delete_words, issued_with, read_of};
-ghost use Rattle.pf_script.specs.Lines.{IsReadLine, Reads};
+ghost use Rattle.pf_script.specs.LineCuts.{ask_in, ask_with, ask_words, delete_in, delete_with, delete_words, instant_in, instant_with, instant_words, issued_with, read_of};
+ghost use Rattle.pf_script.specs.Lines.{IsReadLine, ReadsLine};
 ghost use Rattle.pf_script.specs.Lines as read;
 
-use crate::fault::ScriptError;
+use crate::fault::LineError;
 use crate::ids::Ids;
 use crate::script::Line;
 use crate::words::{behind_word, is_word, next_word, number_of, text_of};
 use pf_base::{MAXT, Tenant, TenantError, Text};
 use std::alloc::Global;
+
+/// The first number that is no worker's.
+const WORKERS: u64 = 16;
 
 /// The words of a `delete`.
 #[derive(Clone, Copy)]
@@ -41,13 +44,22 @@ struct AskCut<'a> {
     query: &'a str,
 }
 
-fn tenant_of(alloc: Global, name: &str) -> Result<Tenant, ScriptError>
-    ensures { Reads (λ t. t) result (kept (is_tenant name.now) name.now) }
+/// The words of an `instant`.
+#[derive(Clone, Copy)]
+struct InstantCut<'a> {
+    id: &'a str,
+    tenant: &'a str,
+    time: u64,
+    query: &'a str,
+}
+
+fn tenant_of(alloc: Global, name: &str) -> Result<Tenant, LineError>
+    ensures { ReadsLine (λ t. t) result (kept (is_tenant name.now) name.now) }
 {
     match Tenant::read(alloc, name) {
         Ok(tenant) => Ok(tenant),
-        Err(TenantError::BadTenant) => Err(ScriptError::NotBuilt),
-        Err(TenantError::OutOfMemory) => Err(ScriptError::OutOfMemory),
+        Err(TenantError::BadTenant) => Err(LineError::Refused),
+        Err(TenantError::OutOfMemory) => Err(LineError::OutOfMemory),
     }
 }
 
@@ -70,7 +82,7 @@ fn is_id(text: &str) -> bool
 }
 
 /// The file and the time of `FILE`, whose time is 0, or of `FILE at MS`.
-#[tactic(auto, using(crate::proofs::LineTexts::text_tests), unfolding(pf_model::specs::Scripts::ingest_at, pf_model::specs::Scripts::file_at))]
+#[tactic(auto, using(crate::proofs::LineTexts::text_tests), unfolding(pf_journal::specs::Scripts::ingest_at, pf_journal::specs::Scripts::file_at))]
 fn timed_file(words: &str) -> Option<(&str, u64)>
     ensures exact { (tenant : List ℕ) → Finds (λ f. ingest tenant f.0.now f.1) result (ingest_with tenant words.now (only_word words.now)) }
     ensures time { IfSome result (λ f. f.1 ≤ maxt) }
@@ -88,18 +100,18 @@ fn timed_file(words: &str) -> Option<(&str, u64)>
 }
 
 /// `ingest TENANT FILE`, or `ingest TENANT FILE at MS`.
-#[tactic(auto, unfolding(pf_model::specs::Scripts::ingest_of))]
-fn ingest_of(alloc: Global, words: &str) -> Result<Line, ScriptError>
-    ensures exact { Reads read.line_of result (ingest_of words.now) }
+#[tactic(auto, unfolding(pf_journal::specs::Scripts::ingest_of))]
+fn ingest_of(alloc: Global, words: &str) -> Result<Line, LineError>
+    ensures exact { ReadsLine read.line_of result (ingest_of words.now) }
     ensures read { IfOk result IsReadLine }
     ensures idle { IfOk result (λ l. IsIdle (read.line_of l)) }
 {
     let Some((tenant, named)) = next_word(words) else {
-        return Err(ScriptError::NotBuilt)
+        return Err(LineError::Refused)
     };
     let tenant = tenant_of(alloc, tenant)?;
     let Some((file, time)) = timed_file(named) else {
-        return Err(ScriptError::NotBuilt)
+        return Err(LineError::Refused)
     };
     Ok(Line::Ingest {
         tenant,
@@ -123,8 +135,8 @@ fn delete_cut(words: &str) -> Option<DeleteCut<'_>>
     })
 }
 
-fn delete_line(alloc: Global, words: &DeleteCut) -> Result<Line, ScriptError>
-    ensures exact { Reads read.line_of result (delete_with (delete_in words.now)) }
+fn delete_line(alloc: Global, words: &DeleteCut) -> Result<Line, LineError>
+    ensures exact { ReadsLine read.line_of result (delete_with (delete_in words.now)) }
     ensures read { IfOk result IsReadLine }
     ensures idle { IfOk result (λ l. IsIdle (read.line_of l)) }
 {
@@ -137,14 +149,14 @@ fn delete_line(alloc: Global, words: &DeleteCut) -> Result<Line, ScriptError>
 }
 
 /// `delete TENANT FROM TO SELECTOR`.
-fn delete_of(alloc: Global, words: &str) -> Result<Line, ScriptError>
-    ensures exact { Reads read.line_of result (delete_of words.now) }
+fn delete_of(alloc: Global, words: &str) -> Result<Line, LineError>
+    ensures exact { ReadsLine read.line_of result (delete_of words.now) }
     ensures read { IfOk result IsReadLine }
     ensures idle { IfOk result (λ l. IsIdle (read.line_of l)) }
 {
     match delete_cut(words) {
         Some(words) => delete_line(alloc, &words),
-        None => Err(ScriptError::NotBuilt),
+        None => Err(LineError::Refused),
     }
 }
 
@@ -172,13 +184,13 @@ fn ask_line<'a>(
     ids: &mut Ids<'a>,
     number: u32,
     words: &AskCut<'a>,
-) -> Result<Line, ScriptError>
-    ensures exact { Reads read.line_of result (ask_with (issued_in ids.old) (ask_in words.now)) }
+) -> Result<Line, LineError>
+    ensures exact { ReadsLine read.line_of result (ask_with (issued_in ids.old) (ask_in words.now)) }
     ensures read { IfOk result IsReadLine }
     ensures issued { IfOk result (λ l. Alike (issued_after number (read.line_of l) (issued_in ids.old)) (issued_in ids.new)) }
 {
     if !is_id(words.id) || !ids.is_new(words.id.as_bytes()) {
-        return Err(ScriptError::NotBuilt);
+        return Err(LineError::Refused);
     }
     let tenant = tenant_of(alloc, words.tenant)?;
     let id = Text::of(alloc, words.id)?;
@@ -200,45 +212,226 @@ fn ask_of<'a>(
     ids: &mut Ids<'a>,
     number: u32,
     words: &'a str,
-) -> Result<Line, ScriptError>
-    ensures exact { Reads read.line_of result (ask_of (issued_in ids.old) words.now) }
+) -> Result<Line, LineError>
+    ensures exact { ReadsLine read.line_of result (ask_of (issued_in ids.old) words.now) }
     ensures read { IfOk result IsReadLine }
     ensures issued { IfOk result (λ l. Alike (issued_after number (read.line_of l) (issued_in ids.old)) (issued_in ids.new)) }
 {
     match ask_cut(words) {
         Some(words) => ask_line(alloc, ids, number, &words),
-        None => Err(ScriptError::NotBuilt),
+        None => Err(LineError::Refused),
     }
 }
 
+#[tactic(auto, unfolding(crate::specs::LineCuts::instant_words))]
+fn instant_cut(words: &str) -> Option<InstantCut<'_>>
+    ensures { Finds instant_in result (instant_words words.now) }
+{
+    let (id, behind) = next_word(words)?;
+    let (tenant, behind) = next_word(behind)?;
+    let (time, behind) = next_word(behind)?;
+    Some(InstantCut {
+        id,
+        tenant,
+        time: number_of(time.as_bytes())?,
+        query: text_of(behind)?,
+    })
+}
+
+fn instant_line<'a>(
+    alloc: Global,
+    ids: &mut Ids<'a>,
+    number: u32,
+    words: &InstantCut<'a>,
+) -> Result<Line, LineError>
+    ensures exact { ReadsLine read.line_of result (instant_with (issued_in ids.old) (instant_in words.now)) }
+    ensures read { IfOk result IsReadLine }
+    ensures issued { IfOk result (λ l. Alike (issued_after number (read.line_of l) (issued_in ids.old)) (issued_in ids.new)) }
+{
+    if !is_id(words.id) || !ids.is_new(words.id.as_bytes()) {
+        return Err(LineError::Refused);
+    }
+    let tenant = tenant_of(alloc, words.tenant)?;
+    let id = Text::of(alloc, words.id)?;
+    let query = Text::of(alloc, words.query)?;
+    ids.issue(words.id.as_bytes(), number)?;
+    Ok(Line::Instant {
+        id,
+        tenant,
+        time: words.time,
+        query,
+    })
+}
+
+/// `instant ID TENANT TIME QUERY`, with an ID that is new.
+fn instant_of<'a>(
+    alloc: Global,
+    ids: &mut Ids<'a>,
+    number: u32,
+    words: &'a str,
+) -> Result<Line, LineError>
+    ensures exact { ReadsLine read.line_of result (instant_of (issued_in ids.old) words.now) }
+    ensures read { IfOk result IsReadLine }
+    ensures issued { IfOk result (λ l. Alike (issued_after number (read.line_of l) (issued_in ids.old)) (issued_in ids.new)) }
+{
+    match instant_cut(words) {
+        Some(words) => instant_line(alloc, ids, number, &words),
+        None => Err(LineError::Refused),
+    }
+}
+
+/// `cancel ID TENANT`, with an ID that was asked.
+#[tactic(auto, unfolding(pf_journal::specs::Scripts::cancel_of))]
+fn cancel_of(alloc: Global, ids: &Ids, words: &str) -> Result<Line, LineError>
+    ensures exact { ReadsLine read.line_of result (cancel_of (issued_in ids.now) words.now) }
+    ensures read { IfOk result IsReadLine }
+    ensures idle { IfOk result (λ l. IsIdle (read.line_of l)) }
+{
+    let Some((id, tenant)) = next_word(words) else {
+        return Err(LineError::Refused)
+    };
+    if !is_word(tenant) {
+        return Err(LineError::Refused);
+    }
+    let Some(found) = ids.find(id.as_bytes()) else {
+        return Err(LineError::Refused)
+    };
+    Ok(Line::Cancel {
+        tenant: tenant_of(alloc, tenant)?,
+        id: Text::of(alloc, id)?,
+        asked: found.line,
+    })
+}
+
 /// `answer ID`, with an ID that was asked and not answered.
-#[tactic(auto, unfolding(pf_model::specs::Scripts::answer_of))]
-fn answer_of(alloc: Global, ids: &mut Ids, words: &str) -> Result<Line, ScriptError>
-    ensures exact { Reads read.line_of result (answer_of (issued_in ids.old) words.now) }
+#[tactic(auto, unfolding(pf_journal::specs::Scripts::answer_of, pf_journal::specs::Scripts::unanswered_of))]
+fn answer_of(alloc: Global, ids: &mut Ids, words: &str) -> Result<Line, LineError>
+    ensures exact { ReadsLine read.line_of result (answer_of (issued_in ids.old) words.now) }
     ensures read { IfOk result IsReadLine }
     ensures issued { IfOk result (λ l. (n : ℕ) → Alike (issued_after n (read.line_of l) (issued_in ids.old)) (issued_in ids.new)) }
 {
     if !is_word(words) {
-        return Err(ScriptError::NotBuilt);
+        return Err(LineError::Refused);
     }
-    let Some(asked) = ids.answer(words.as_bytes()) else {
-        return Err(ScriptError::NotBuilt)
+    let Some(found) = ids.answer(words.as_bytes()) else {
+        return Err(LineError::Refused)
     };
     Ok(Line::Answer {
         id: Text::of(alloc, words)?,
-        asked,
+        asked: found.line,
     })
+}
+
+/// `plan ID`, with an ID that was asked and not answered.
+#[tactic(auto, unfolding(pf_journal::specs::Scripts::plan_of, pf_journal::specs::Scripts::unanswered_of))]
+fn plan_of(alloc: Global, ids: &Ids, words: &str) -> Result<Line, LineError>
+    ensures exact { ReadsLine read.line_of result (plan_of (issued_in ids.now) words.now) }
+    ensures read { IfOk result IsReadLine }
+    ensures idle { IfOk result (λ l. IsIdle (read.line_of l)) }
+{
+    if !is_word(words) {
+        return Err(LineError::Refused);
+    }
+    let Some(found) = ids.find_unanswered(words.as_bytes()) else {
+        return Err(LineError::Refused)
+    };
+    Ok(Line::Plan {
+        id: Text::of(alloc, words)?,
+        asked: found.line,
+    })
+}
+
+/// `keep ID`, with an ID that was asked, and neither answered nor kept.
+#[tactic(auto, unfolding(pf_journal::specs::Scripts::keep_of, pf_journal::specs::Scripts::unanswered_of))]
+fn keep_of(alloc: Global, ids: &mut Ids, words: &str) -> Result<Line, LineError>
+    ensures exact { ReadsLine read.line_of result (keep_of (issued_in ids.old) words.now) }
+    ensures read { IfOk result IsReadLine }
+    ensures issued { IfOk result (λ l. (n : ℕ) → Alike (issued_after n (read.line_of l) (issued_in ids.old)) (issued_in ids.new)) }
+{
+    if !is_word(words) {
+        return Err(LineError::Refused);
+    }
+    let Some(found) = ids.keep(words.as_bytes()) else {
+        return Err(LineError::Refused)
+    };
+    Ok(Line::Keep {
+        id: Text::of(alloc, words)?,
+        asked: found.line,
+    })
+}
+
+/// The worker of `take W` and `done W`, which is below 16.
+#[tactic(auto, unfolding(pf_journal::specs::Scripts::worker_of))]
+fn worker_of(words: &str) -> Option<u32>
+    ensures exact { result ≡ worker_of words.now }
+    ensures few { IfSome result (λ w. w ≤ 15) }
+{
+    if !is_word(words) {
+        return None;
+    }
+    let worker = number_of(words.as_bytes())?;
+    if worker < WORKERS {
+        Some(worker as u32)
+    } else {
+        None
+    }
+}
+
+/// `take W`.
+#[tactic(auto, unfolding(pf_journal::specs::Scripts::take_of))]
+fn take_of(words: &str) -> Result<Line, LineError>
+    ensures exact { ReadsLine read.line_of result (take_of words.now) }
+    ensures read { IfOk result IsReadLine }
+    ensures idle { IfOk result (λ l. IsIdle (read.line_of l)) }
+{
+    match worker_of(words) {
+        Some(worker) => Ok(Line::Take { worker }),
+        None => Err(LineError::Refused),
+    }
+}
+
+/// `done W`.
+#[tactic(auto, unfolding(pf_journal::specs::Scripts::done_of))]
+fn done_of(words: &str) -> Result<Line, LineError>
+    ensures exact { ReadsLine read.line_of result (done_of words.now) }
+    ensures read { IfOk result IsReadLine }
+    ensures idle { IfOk result (λ l. IsIdle (read.line_of l)) }
+{
+    match worker_of(words) {
+        Some(worker) => Ok(Line::Done { worker }),
+        None => Err(LineError::Refused),
+    }
+}
+
+/// The step line of a verb and what stands behind it.
+fn step_with(alloc: Global, ids: &mut Ids, verb: &str, words: &str) -> Result<Line, LineError>
+    ensures exact { ReadsLine read.line_of result (step_with (issued_in ids.old) verb.now words.now) }
+    ensures read { IfOk result IsReadLine }
+    ensures issued { IfOk result (λ l. (n : ℕ) → Alike (issued_after n (read.line_of l) (issued_in ids.old)) (issued_in ids.new)) }
+{
+    if verb == "plan" {
+        plan_of(alloc, ids, words)
+    } else if verb == "keep" {
+        keep_of(alloc, ids, words)
+    } else if verb == "take" {
+        take_of(words)
+    } else if verb == "done" {
+        done_of(words)
+    } else {
+        Err(LineError::Refused)
+    }
 }
 
 /// The line of a verb and what stands behind it.
 fn line_with<'a>(
     alloc: Global,
     ids: &mut Ids<'a>,
+    steps: bool,
     number: u32,
     verb: &str,
     words: &'a str,
-) -> Result<Line, ScriptError>
-    ensures exact { Reads read.line_of result (line_with (issued_in ids.old) verb.now words.now) }
+) -> Result<Line, LineError>
+    ensures exact { ReadsLine read.line_of result (line_with steps (issued_in ids.old) verb.now words.now) }
     ensures read { IfOk result IsReadLine }
     ensures issued { IfOk result (λ l. Alike (issued_after number (read.line_of l) (issued_in ids.old)) (issued_in ids.new)) }
 {
@@ -248,10 +441,16 @@ fn line_with<'a>(
         delete_of(alloc, words)
     } else if verb == "ask" {
         ask_of(alloc, ids, number, words)
+    } else if verb == "instant" {
+        instant_of(alloc, ids, number, words)
+    } else if verb == "cancel" {
+        cancel_of(alloc, ids, words)
     } else if verb == "answer" {
         answer_of(alloc, ids, words)
+    } else if steps {
+        step_with(alloc, ids, verb, words)
     } else {
-        Err(ScriptError::NotBuilt)
+        Err(LineError::Refused)
     }
 }
 
@@ -263,23 +462,24 @@ fn is_text(bytes: &[u8]) -> bool
     std::str::from_utf8(bytes).is_ok()
 }
 
-#[tactic(auto, using(crate::proofs::LineTexts::text_tests), unfolding(pf_model::specs::Scripts::line_of))]
+#[tactic(auto, using(crate::proofs::LineTexts::text_tests), unfolding(pf_journal::specs::Scripts::line_of))]
 fn line_of<'a>(
     alloc: Global,
     ids: &mut Ids<'a>,
+    steps: bool,
     number: u32,
     bytes: &'a [u8],
-) -> Result<Line, ScriptError>
-    ensures exact { Reads read.line_of result (line_of (issued_in ids.old) bytes.now) }
+) -> Result<Line, LineError>
+    ensures exact { ReadsLine read.line_of result (line_of steps (issued_in ids.old) bytes.now) }
     ensures read { IfOk result IsReadLine }
     ensures issued { IfOk result (λ l. Alike (issued_after number (read.line_of l) (issued_in ids.old)) (issued_in ids.new)) }
 {
     let Ok(text) = std::str::from_utf8(bytes) else {
-        return Err(ScriptError::NotBuilt)
+        return Err(LineError::Refused)
     };
     match next_word(text) {
-        Some((verb, words)) => line_with(alloc, ids, number, verb, words),
-        None => Err(ScriptError::NotBuilt),
+        Some((verb, words)) => line_with(alloc, ids, steps, number, verb, words),
+        None => Err(LineError::Refused),
     }
 }
 
@@ -297,15 +497,16 @@ fn is_passed(bytes: &[u8]) -> bool
 pub fn read_line<'a>(
     alloc: Global,
     ids: &mut Ids<'a>,
+    steps: bool,
     number: u32,
     bytes: &'a [u8],
-) -> Result<Option<Line>, ScriptError>
-    ensures exact { Reads (option_map read.line_of) result (read_of (issued_in ids.old) bytes.now) }
+) -> Result<Option<Line>, LineError>
+    ensures exact { ReadsLine (option_map read.line_of) result (read_of steps (issued_in ids.old) bytes.now) }
     ensures read { IfOk result (λ o. IfSome o IsReadLine) }
     ensures issued { IfOk result (λ o. Alike (issued_with number (option_map read.line_of o) (issued_in ids.old)) (issued_in ids.new)) }
 {
     if is_passed(bytes) {
         return Ok(None);
     }
-    Ok(Some(line_of(alloc, ids, number, bytes)?))
+    Ok(Some(line_of(alloc, ids, steps, number, bytes)?))
 }

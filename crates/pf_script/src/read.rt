@@ -1,14 +1,14 @@
 //! The reader of scripts.
 
-ghost use Rattle.std.specs.Prelude.{◌≡◌, map, [], Err, IfOk, None, OnOk};
+ghost use Rattle.std.specs.Prelude.{◌≡◌, [], Err, IfOk, None, OnOk};
 ghost use Rattle.pf_model.specs.Lists.{Each};
-ghost use Rattle.pf_script.specs.Scripts.{script_of};
+ghost use Rattle.pf_journal.specs.Scripts.{script_of};
 ghost use Rattle.pf_script.specs.IdLists.{issued_in};
 ghost use Rattle.pf_script.specs.LineCuts.{Adds, read_of};
-ghost use Rattle.pf_script.specs.Lines.{AllFollow, IsRead, Reads, lines_of, numbered_of};
-ghost use Rattle.pf_script.specs.declared.fault.ScriptError.TheVariants.{NotBuilt};
+ghost use Rattle.pf_script.specs.Lines.{AllFollow, IsRead, Reads, lines_of};
+ghost use Rattle.pf_script.specs.declared.fault.LineError.TheVariants.{Refused};
 
-use crate::fault::ScriptError;
+use crate::fault::{LineError, ScriptError};
 use crate::ids::Ids;
 use crate::lines::read_line;
 use crate::script::{NumberedLine, Script};
@@ -23,30 +23,37 @@ fn add_line<'a>(
     alloc: Global,
     lines: &mut Vec<NumberedLine>,
     ids: &mut Ids<'a>,
+    steps: bool,
     number: u32,
     text: &'a [u8],
-) -> Result<(), ScriptError>
-    ensures ok { OnOk result (Adds number text.now (issued_in ids.old) (issued_in ids.new) lines.old.items lines.new.items) }
-    ensures err { result ≡ Err NotBuilt → read_of (issued_in ids.old) text.now ≡ None }
+) -> Result<(), LineError>
+    ensures ok { OnOk result (Adds steps number text.now (issued_in ids.old) (issued_in ids.new) lines.old.items lines.new.items) }
+    ensures err { result ≡ Err Refused → read_of steps (issued_in ids.old) text.now ≡ None }
 {
-    let Some(line) = read_line(alloc, ids, number, text)? else {
+    let Some(line) = read_line(alloc, ids, steps, number, text)? else {
         return Ok(())
     };
     lines.push(NumberedLine { number, line })?;
     Ok(())
 }
 
-/// The lines of a script, at most 64 MiB long: `ingest TENANT FILE`, `ingest TENANT FILE at MS`, `delete TENANT FROM TO
-/// SELECTOR`, `ask ID TENANT START END STEP QUERY` and `answer ID`, empty lines and comments. A query or a selector is any
-/// text that is not empty, without the blanks at its end; it is not read here. A longer script, and one with any other
-/// line, is not built.
-pub fn read_script(alloc: Global, bytes: &[u8]) -> Result<Script, ScriptError>
-    ensures exact { Reads lines_of result (script_of bytes.now) }
-    ensures read { IfOk result (λ s. Each IsRead s.lines.items) }
-    ensures following { IfOk result (λ s. AllFollow [] (map numbered_of s.lines.items)) }
+/// The lines of a script: `ingest TENANT FILE`, `ingest TENANT FILE at MS`, `delete TENANT FROM TO SELECTOR`, `ask ID TENANT
+/// START END STEP QUERY`, `instant ID TENANT TIME QUERY`, `cancel ID TENANT`, `answer ID`, and where step lines are allowed
+/// `plan ID`, `keep ID`, `take W` and `done W`, with empty lines and comments between them. An `ask` and an `instant` give a
+/// new ID. A query or a selector is any text that is not empty, without the blanks at its end; it is not read here.
+///
+/// A script with any other line is refused with the number of the first; one of more than 67,108,864 bytes with 0.
+pub fn read_script(
+    alloc: Global,
+    bytes: &[u8],
+    stepped_allowed: bool,
+) -> Result<Script, ScriptError>
+    ensures read { Reads lines_of result (script_of stepped_allowed bytes.now) }
+    ensures forms { IfOk result (λ s. Each IsRead s.lines.items) }
+    ensures following { IfOk result (λ s. AllFollow [] (lines_of s)) }
 {
     if bytes.len() > MOST_BYTES {
-        return Err(ScriptError::NotBuilt);
+        return Err(ScriptError::Line { line: 0 });
     }
     let mut ids = Ids::new(alloc);
     let mut lines = Vec::new(alloc);
@@ -54,7 +61,9 @@ pub fn read_script(alloc: Global, bytes: &[u8]) -> Result<Script, ScriptError>
     let mut rest = bytes;
     while let Some((text, behind)) = next_line(rest) {
         number += 1;
-        add_line(alloc, &mut lines, &mut ids, number, text)?;
+        if let Err(error) = add_line(alloc, &mut lines, &mut ids, stepped_allowed, number, text) {
+            return Err(error.at(number));
+        }
         rest = behind;
     }
     Ok(Script { lines })

@@ -3,7 +3,7 @@
 ghost use Rattle.std.specs.Prelude.{◌≡◌, ◌<◌, IfSome, length, not, position};
 ghost use Rattle.std.specs.List.{list_all};
 ghost use Rattle.pf_model.specs.Exposition.{is_blank, is_no_blank, is_word};
-ghost use Rattle.pf_script.specs.Scripts.{behind_word, next_word, number_of, past_blanks, text_of, without_blanks};
+ghost use Rattle.pf_journal.specs.Scripts.{behind_word, next_word, number_of, past_blanks, text_of, without_blanks};
 ghost use Rattle.pf_script.specs.Cuts.{Finds};
 
 /// The first number that is too large.
@@ -53,7 +53,7 @@ pub fn next_word(text: &str) -> Option<(&str, &str)>
 }
 
 /// What stands behind a word of its own.
-#[tactic(auto, unfolding(pf_model::specs::Scripts::behind_word))]
+#[tactic(auto, unfolding(pf_journal::specs::Scripts::behind_word))]
 pub fn behind_word<'a>(word: &str, text: &'a str) -> Option<&'a str>
     ensures { Finds (λ t. t.now) result (behind_word word.now text.now) }
 {
@@ -107,7 +107,7 @@ pub fn text_of(text: &str) -> Option<&str>
 }
 
 /// The number of one decimal digit or more, below 2^63.
-#[tactic(auto, unfolding(pf_model::specs::Scripts::number_of))]
+#[tactic(auto, unfolding(pf_journal::specs::Scripts::number_of))]
 pub fn number_of(digits: &[u8]) -> Option<u64>
     ensures { result ≡ number_of digits.now }
 {

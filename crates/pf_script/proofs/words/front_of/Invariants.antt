@@ -1,5 +1,5 @@
 use Rattle.std.proofs.Common.{◌≡◌, length}
-use Rattle.pf_script.specs.Scripts.{without_blanks}
+use Rattle.pf_journal.specs.Scripts.{without_blanks}
 use Rattle.pf_script.proofs.words.front_of.Given as goal
 
 abbrev pub invariant-loop-last : goal.invariant-loop-last

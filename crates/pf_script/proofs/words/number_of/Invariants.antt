@@ -1,7 +1,7 @@
 use Rattle.std.proofs.Common.{◌≡◌, drop}
 use Rattle.std.specs.Char.{is_ascii_digit}
 use Rattle.std.specs.List.{list_all}
-use Rattle.pf_script.specs.Scripts.{digits_onto}
+use Rattle.pf_journal.specs.Scripts.{digits_onto}
 use Rattle.pf_script.proofs.words.number_of.Given as goal
 
 abbrev pub invariant-loop-digit : goal.invariant-loop-digit

@@ -1,5 +1,5 @@
 use Rattle.std.proofs.Common.{◌∙◌, ap}
-use Rattle.pf_script.specs.Scripts.{without_blanks}
+use Rattle.pf_journal.specs.Scripts.{without_blanks}
 use Rattle.pf_script.proofs.Blanks.{end_boundary, end_taken}
 use Rattle.pf_script.proofs.words.without_blanks.Goals as goal
 
