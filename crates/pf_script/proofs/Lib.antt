@@ -7,3 +7,4 @@ pub mod IdLists
 pub mod LineTexts
 pub mod StepLines
 mod Worked
+mod WorkedLines

@@ -1,13 +1,13 @@
 //! Lines of a script, one function for each verb.
 
-ghost use Rattle.std.specs.Prelude.{◌≡◌, ℕ, ◌≤◌, IfOk, IfSome, List, option_map};
+ghost use Rattle.std.specs.Prelude.{◌≡◌, ℕ, ◌&&◌, ◌≤◌, IfOk, IfSome, List, option_map};
 ghost use Rattle.std.specs.List.{list_all};
 ghost use Rattle.std.specs.Str.{is_utf8};
 ghost use Rattle.pf_base.specs.Grids.{maxt};
 ghost use Rattle.pf_base.specs.LabelSets.{goes_on};
 ghost use Rattle.pf_base.specs.Tenants.{is_tenant};
 ghost use Rattle.pf_model.specs.Cuts.{kept};
-ghost use Rattle.pf_journal.specs.Scripts.{answer_of, ask_of, cancel_of, delete_of, done_of, ingest, ingest_of, ingest_with, instant_of, is_id, is_passed, issued_after, keep_of, line_of, line_with, only_word, plan_of, step_with, take_of, worker_of};
+ghost use Rattle.pf_journal.specs.Scripts.{answer_of, ask_of, cancel_of, delete_of, done_of, ingest, ingest_of, ingest_with, instant_of, is_id, is_new, is_passed, issued_after, keep_of, line_of, line_with, only_word, plan_of, step_with, take_of, worker_of};
 ghost use Rattle.pf_script.specs.Cuts.{Finds};
 ghost use Rattle.pf_script.specs.IdLists.{Alike, IsIdle, issued_in};
 ghost use Rattle.pf_script.specs.LineCuts.{ask_in, ask_with, ask_words, delete_in, delete_with, delete_words, instant_in, instant_with, instant_words, issued_with, read_of};
@@ -79,6 +79,13 @@ fn is_id(text: &str) -> bool
     ensures { result ≡ is_id text.now }
 {
     !text.is_empty() && text.len() <= 32 && all_may_stand_in_id(text.as_bytes())
+}
+
+/// Whether a text is an ID that no line issued.
+fn is_new_id(ids: &Ids, id: &str) -> bool
+    ensures { result ≡ (is_id id.now && is_new id.now (issued_in ids.now)) }
+{
+    is_id(id) && ids.is_new(id.as_bytes())
 }
 
 /// The file and the time of `FILE`, whose time is 0, or of `FILE at MS`.
@@ -189,7 +196,7 @@ fn ask_line<'a>(
     ensures read { IfOk result IsReadLine }
     ensures issued { IfOk result (λ l. Alike (issued_after number (read.line_of l) (issued_in ids.old)) (issued_in ids.new)) }
 {
-    if !is_id(words.id) || !ids.is_new(words.id.as_bytes()) {
+    if !is_new_id(ids, words.id) {
         return Err(LineError::Refused);
     }
     let tenant = tenant_of(alloc, words.tenant)?;
@@ -248,7 +255,7 @@ fn instant_line<'a>(
     ensures read { IfOk result IsReadLine }
     ensures issued { IfOk result (λ l. Alike (issued_after number (read.line_of l) (issued_in ids.old)) (issued_in ids.new)) }
 {
-    if !is_id(words.id) || !ids.is_new(words.id.as_bytes()) {
+    if !is_new_id(ids, words.id) {
         return Err(LineError::Refused);
     }
     let tenant = tenant_of(alloc, words.tenant)?;

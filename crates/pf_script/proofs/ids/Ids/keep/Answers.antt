@@ -1,4 +1,4 @@
-use Rattle.std.proofs.Common.{rules, sym, true, ap}
+use Rattle.std.proofs.Common.{rules, sym, true}
 use Rattle.pf_script.specs.declared.ids.Asked.{Asked}
 use Rattle.pf_script.proofs.IdLists.{kept_alike, never_kept, now_unkept, once_answered_kept, once_kept}
 use Rattle.pf_script.proofs.ids.Ids.keep.Goals as goal
