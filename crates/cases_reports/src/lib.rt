@@ -4,19 +4,20 @@
 use cases_rows::base::{labels_of, value_of};
 use cases_rows::output::{Output, cut};
 use cases_rows::setting::{Part, Setting};
-use pf_base::{OutOfMemory, Sample};
+use pf_base::{OutOfMemory, Sample, Text};
 use pf_matrix::{Matrix, MatrixRow};
 use pf_report::{
     Answer, Word, push_entry, push_error_answer, push_ingested, push_line, push_query_answer,
     push_reply,
 };
-use pf_script::{Line, NumberedLine, ScriptError, read_script};
+use pf_script::{Line, NumberedLine, Script, ScriptError, read_script};
 use pf_store::{Verdict, Verdicts};
 
 /// A form of rows. Words stand with `|` between them, and those of digits alone are numbers; `none` is no words.
 #[derive(Clone, Copy)]
 pub enum Form {
-    /// `script`: `SCRIPT => LINES`, each with its number and what was read of it, or `not built`.
+    /// `script`: `SCRIPT => LINES`, each with its number and what was read of it, behind `stepped` where the script is a stepped
+    /// one; or `refused N`. A part `step lines` above it allows these.
     Script,
     /// `words`: `WORDS => TEXT`, a line of words.
     Words,
@@ -52,7 +53,7 @@ impl Form {
     /// Writes what is found of a row.
     pub fn answer(self, out: &mut Output, setting: &Setting, given: &[u8]) {
         if let Form::Script = self {
-            return script(out, given);
+            return script(out, setting, given);
         }
         let text = out.utf8(given);
         let mut line = Vec::new(out.alloc());
@@ -263,6 +264,13 @@ fn push_number(out: &mut Output, number: u64) {
     out.show(number);
 }
 
+/// Appends a verb, an ID and the number of the line that asked under it.
+fn push_asked(out: &mut Output, verb: &str, id: &Text, asked: u32) {
+    out.text(verb);
+    push_word(out, id.as_str());
+    push_number(out, u64::from(asked));
+}
+
 /// Appends what was read of a line.
 fn push_read(out: &mut Output, line: &Line) {
     match line {
@@ -300,10 +308,32 @@ fn push_read(out: &mut Output, line: &Line) {
             push_number(out, *step);
             push_word(out, query.as_str());
         }
-        Line::Answer { id, asked } => {
-            out.text(" answer");
+        Line::Instant {
+            id,
+            tenant,
+            time,
+            query,
+        } => {
+            out.text(" instant");
             push_word(out, id.as_str());
-            push_number(out, u64::from(*asked));
+            push_word(out, tenant.as_str());
+            push_number(out, *time);
+            push_word(out, query.as_str());
+        }
+        Line::Cancel { id, asked, tenant } => {
+            push_asked(out, " cancel", id, *asked);
+            push_word(out, tenant.as_str());
+        }
+        Line::Answer { id, asked } => push_asked(out, " answer", id, *asked),
+        Line::Plan { id, asked } => push_asked(out, " plan", id, *asked),
+        Line::Keep { id, asked } => push_asked(out, " keep", id, *asked),
+        Line::Take { worker } => {
+            out.text(" take");
+            push_number(out, u64::from(*worker));
+        }
+        Line::Done { worker } => {
+            out.text(" done");
+            push_number(out, u64::from(*worker));
         }
     }
 }
@@ -316,10 +346,21 @@ fn push_lines(out: &mut Output, lines: &[NumberedLine]) {
     }
 }
 
-fn script(out: &mut Output, given: &[u8]) {
-    match &read_script(out.alloc(), given) {
-        Ok(script) => push_lines(out, &script.lines),
-        Err(ScriptError::NotBuilt) => out.text("not built"),
+fn push_script(out: &mut Output, script: &Script) {
+    if script.is_stepped() {
+        out.text("stepped ");
+    }
+    push_lines(out, &script.lines);
+}
+
+fn script(out: &mut Output, setting: &Setting, given: &[u8]) {
+    let stepped_allowed = setting.part("step").is_some();
+    match &read_script(out.alloc(), given, stepped_allowed) {
+        Ok(script) => push_script(out, script),
+        Err(ScriptError::Line { line }) => {
+            out.text("refused");
+            push_number(out, u64::from(*line));
+        }
         Err(ScriptError::OutOfMemory) => out.lose(),
     }
 }
