@@ -9,5 +9,6 @@ mod LawfulTexts
 pub mod Names
 pub mod NodeFaults
 pub mod Operands
+pub mod OverGrids
 pub mod Utf8
 pub mod Variants

@@ -9,6 +9,8 @@ use Rattle.pf_model.specs.declared.expr.Expr.{Expr}
 use Rattle.pf_parse.specs.declared.error.ParseError.{ParseError}
 use Rattle.pf_parse.specs.declared.error.ParseError.TheVariants as grammar
 use Rattle.pf_types.specs.Faults.{fault_of}
+use Rattle.pf_types.specs.declared.bound.BindError.{BindError}
+use Rattle.pf_types.specs.declared.bound.BindError.TheVariants as bind
 use Rattle.pf_types.specs.declared.query.QueryError.{QueryError}
 use Rattle.pf_types.specs.declared.query.QueryError.TheVariants as query
 
@@ -51,6 +53,12 @@ unparsed (grammar.UnknownName at) = query.Parse (grammar.UnknownName at)
 unparsed (grammar.TimeTooLarge at) = query.Parse (grammar.TimeTooLarge at)
 unparsed grammar.TooTall = query.Parse grammar.TooTall
 unparsed grammar.OutOfMemory = query.OutOfMemory
+
+-- why a query is not bound, as the error of its text
+abbrev pub unbound : BindError → QueryError
+unbound (bind.Pattern which) = query.Pattern which
+unbound (bind.Empty which) = query.Empty which
+unbound bind.OutOfMemory = query.OutOfMemory
 
 abbrev pub words_of_error : QueryError → List ℕ
 words_of_error e = option_map_or query_text (query_fault e) memory_text

@@ -5,29 +5,34 @@ ghost use Rattle.std.specs.List.{list_any};
 ghost use Rattle.pf_model.specs.Binding.{fifth_text, matchers_in, pattern_of, patterns_in, patterns_of, selectors_of};
 ghost use Rattle.pf_model.specs.Queries.{counted, first_empty, is_empty_selector, is_label_replace};
 ghost use Rattle.pf_model.specs.Selection.{accepts_empty};
-ghost use Rattle.pf_model.specs.Trees.{Tree, instant, size, tree_of, trees_of};
+ghost use Rattle.pf_model.specs.Built.{is_evaluated};
+ghost use Rattle.pf_model.specs.Trees.{Tree, height, instant, size, tree_of, trees_of};
 ghost use Rattle.pf_types.specs.Counted.{IsBindFault, IsCallFault, IsNodeFault, all_counted, text_in};
 
+use crate::kinds::kind_of;
 use pf_base::{OutOfMemory, Text};
 use pf_match::{Pattern, PatternError};
-use pf_model::{Expr, Function, InstantFn, MatchError, Matchers, Selector};
+use pf_model::{Expr, Function, InstantFn, Kind, MatchError, Matchers, Selector};
 use std::alloc::{AllocError, AllocFailed, Global};
 use std::marker::Model;
+use std::sync::Arc;
 
-/// A query, the matchers of its selectors and the patterns of its calls of `label_replace`, each in preorder. Contracts see it
-/// as its tree.
+/// A query that the evaluator does, the matchers of its selectors and the patterns of its calls of `label_replace`, each in
+/// preorder, and its kind, which is scalar or instant. It has at most 64 levels, and no selector that accepts the empty text.
+/// Contracts see it as its tree.
 #[derive(Drop)]
 pub struct BoundQuery {
     pub expr: Expr,
-    pub selectors: Vec<Matchers>,
-    pub patterns: Vec<Pattern>,
+    pub matchers: Arc<Vec<Matchers>>,
+    pub patterns: Arc<Vec<Pattern>>,
+    pub kind: Kind,
 }
 
 impl Model for BoundQuery {
-    ghost use Rattle.std.specs.Prelude.{◌≡◌};
-    ghost use Rattle.pf_model.specs.Binding.{patterns_of, selectors_of};
+    ghost use Rattle.std.specs.Arc.{arc_value};
     ghost use Rattle.pf_model.specs.TreeCode.{coded_tree};
     ghost use Rattle.pf_model.specs.Trees.{Tree, tree_of};
+    ghost use Rattle.pf_types.specs.Asking.{IsBound};
 
     ghost Value = { Tree };
 
@@ -35,7 +40,7 @@ impl Model for BoundQuery {
 
     ghost view = { λ b. tree_of b.expr };
 
-    ghost invariant = { λ b. (b.selectors.items ≡ selectors_of (tree_of b.expr)) × (b.patterns.items ≡ patterns_of (tree_of b.expr)) };
+    ghost invariant = { λ b. IsBound (tree_of b.expr) (arc_value b.matchers).items (arc_value b.patterns).items b.kind };
 }
 
 /// Why a query is not bound. `which` counts selectors and calls of `label_replace` together, in preorder from 0.
@@ -293,11 +298,14 @@ fn query_parts(alloc: Global, expr: &Expr) -> Result<Parts, BindError>
     parts_of(alloc, &nodes)
 }
 
-/// A query with the matchers of its selectors and the patterns of its calls of `label_replace`. Of a refused pattern and an
-/// empty selector the first in preorder is told, and of both at one node the pattern. It calls itself as deep as the tree is
-/// high.
+/// A query with the matchers of its selectors and the patterns of its calls of `label_replace`, such as `read_query` gives. Of a
+/// refused pattern and an empty selector the first in preorder is told, and of both at one node the pattern. It calls itself as
+/// deep as the tree is high.
+#[tactic(auto, using(crate::proofs::OverGrids::is_bound))]
 pub fn bind(alloc: Global, expr: Expr) -> Result<BoundQuery, BindError>
-    requires { size (tree_of expr) ≤ 4294967295 }
+    requires small { size (tree_of expr) ≤ 4294967295 }
+    requires low { height (tree_of expr) ≤ 64 }
+    requires evaluated { is_evaluated (tree_of expr) ≡ true }
     ensures bound { IfOk result (λ b. b ≡ tree_of expr) }
     ensures selects { OnOk result (first_empty (tree_of expr) ≡ None) }
     ensures fault { IfErr result (IsBindFault (tree_of expr)) }
@@ -306,9 +314,13 @@ pub fn bind(alloc: Global, expr: Expr) -> Result<BoundQuery, BindError>
         selectors,
         patterns,
     } = query_parts(alloc, &expr)?;
+    let kind = kind_of(&expr);
+    let matchers = Arc::new(alloc, selectors)?;
+    let patterns = Arc::new(alloc, patterns)?;
     Ok(BoundQuery {
         expr,
-        selectors,
+        matchers,
         patterns,
+        kind,
     })
 }

@@ -159,3 +159,20 @@ pub fn check(expr: &Expr) -> Result<Kind, TypeError>
     let query = kind_from(0, expr)?;
     Ok(query.kind)
 }
+
+/// The kind of a query whose kinds are lawful. It takes no memory, and calls itself as deep as the tree is high.
+pub(crate) fn kind_of(expr: &Expr) -> Kind
+    ensures { result ≡ kind_of (tree_of expr.now) }
+{
+    match expr {
+        Expr::Number { .. } => Kind::Scalar,
+        Expr::Text { .. } => Kind::Text,
+        Expr::Unary { arg, .. } => kind_of(arg),
+        Expr::Binary { left, right, .. } => joint_kind(kind_of(left), kind_of(right)),
+        Expr::Call { function, .. } => function_kind(*function),
+        Expr::Aggregate { .. } => Kind::Instant,
+        Expr::Select { range: None, .. } => Kind::Instant,
+        Expr::Select { range: Some(_), .. } => Kind::Range,
+        Expr::Subquery { .. } => Kind::Range,
+    }
+}

@@ -2,11 +2,13 @@
 //!
 //! What the layers above use: `read_query` gives the tree of a text whose kinds are lawful, or the first error; `check` gives
 //! the kind of a tree, or the error of the first node in post-order that breaks a rule, with the number that the node has in
-//! preorder, from 0 on, and takes no memory. `bind` gives a query the matchers of its selectors and the
-//! patterns of its calls, or tells the first refused pattern or empty selector. `error_text` and `grid_text` are the texts of errors.
+//! preorder, from 0 on, and takes no memory. `bind` gives a query the matchers of its selectors and the patterns of its calls, or
+//! tells the first refused pattern or empty selector. `BoundQuery::asked` is what it asks over a grid, and `read_asked` what a
+//! text asks. `error_text` and `grid_text` are the texts of errors.
 #![tactic(auto)]
 
 mod arguments;
+mod asking;
 mod bound;
 mod error;
 mod kinds;
@@ -15,6 +17,7 @@ mod query;
 mod subquery;
 mod texts;
 
+pub use asking::{When, read_asked};
 pub use bound::{BindError, BoundQuery, bind};
 pub use error::TypeError;
 pub use kinds::check;

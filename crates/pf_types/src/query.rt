@@ -9,8 +9,10 @@ ghost use Rattle.pf_types.specs.Errors.{IsAnsweredWith, IsFaultFor, query_fault}
 ghost use Rattle.pf_types.specs.Faults.{fault_in};
 ghost use Rattle.pf_types.specs.Rules.{operand_fault};
 
+use crate::bound::BindError;
 use crate::error::TypeError;
 use crate::kinds::check;
+use pf_base::OutOfMemory;
 use pf_model::{Expr, Kind};
 use pf_parse::{ParseError, parse};
 use std::alloc::Global;
@@ -52,6 +54,32 @@ impl From<TypeError> for QueryError {
 
     fn from(error: TypeError) -> QueryError {
         QueryError::Typing(error)
+    }
+}
+
+impl From<BindError> for QueryError {
+    ghost use Rattle.std.specs.Prelude.{◌≡◌};
+    ghost use Rattle.pf_types.specs.Errors.{unbound};
+
+    ghost from_gives = { λ error query. query ≡ unbound error };
+
+    fn from(error: BindError) -> QueryError {
+        match error {
+            BindError::Pattern { which } => QueryError::Pattern { which },
+            BindError::Empty { which } => QueryError::Empty { which },
+            BindError::OutOfMemory => QueryError::OutOfMemory,
+        }
+    }
+}
+
+impl From<OutOfMemory> for QueryError {
+    ghost use Rattle.std.specs.Prelude.{◌≡◌};
+    ghost use Rattle.pf_types.specs.declared.query.QueryError.{QueryError};
+
+    ghost from_gives = { λ _ query. query ≡ QueryError.OutOfMemory };
+
+    fn from(_error: OutOfMemory) -> QueryError {
+        QueryError::OutOfMemory
     }
 }
 

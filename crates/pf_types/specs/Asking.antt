@@ -1,0 +1,52 @@
+-- When a query is asked, what is known of a bound query, and what its text asks: this project's own.
+use Rattle.std.specs.Prelude.{◌≡◌, ◌≤◌, ◌<◌, ℕ, Bool, true, false, None, List}
+use Rattle.pf_base.specs.GridLists.{GridData}
+use Rattle.pf_journal.specs.Asking.{Asked, asked_over}
+use Rattle.pf_model.specs.declared.expr.Kind.{Kind}
+use Rattle.pf_model.specs.declared.expr.Matcher.{Matcher}
+use Rattle.pf_model.specs.Binding.{patterns_of, selectors_of}
+use Rattle.pf_model.specs.Built.{is_evaluated}
+use Rattle.pf_model.specs.Queries.{IsReading, first_empty, lawful}
+use Rattle.pf_model.specs.Trees.{Tree, height}
+use Rattle.pf_model.specs.Typing.{accepts, kind_of, scalar_or_instant}
+use Rattle.pf_resolve.specs.Bounds.{is_small}
+use Rattle.pf_resolve.specs.Settled.{is_settled}
+use Rattle.pf_types.specs.declared.asking.When.{When}
+use Rattle.pf_types.specs.declared.asking.When.TheVariants as when
+
+abbrev pub is_instant : When → Bool
+is_instant (when.Range grid) = false
+is_instant (when.Instant grid) = true
+
+abbrev pub grid_in : When → GridData
+grid_in (when.Range grid) = grid
+grid_in (when.Instant grid) = grid
+
+-- a range has a step, and an instant has none
+abbrev pub IsWhen : When → Type 0
+IsWhen (when.Range grid) = 0 < grid.step
+IsWhen (when.Instant grid) = grid.step ≡ 0
+
+-- a query that is evaluated, whose times are small, with its matchers, its patterns and its kind, without an empty selector
+pub record IsBound (tree : Tree) (matchers : List (List Matcher)) (patterns : List (List ℕ)) (kind : Kind) : Type 0 where
+  pub evaluated : is_evaluated tree ≡ true
+  pub low : height tree ≤ 64
+  pub small : is_small tree ≡ true
+  pub typed : kind_of tree ≡ kind
+  pub wanted : accepts scalar_or_instant kind ≡ true
+  pub selectors : matchers ≡ selectors_of tree
+  pub replacements : patterns ≡ patterns_of tree
+  pub selects : first_empty tree ≡ None
+
+-- the same with a grid's range put in, without what follows from it
+pub record IsPutIn (tree : Tree) (matchers : List (List Matcher)) (patterns : List (List ℕ)) (kind : Kind) : Type 0 where
+  pub settled : is_settled tree ≡ true
+  pub evaluated : is_evaluated tree ≡ true
+  pub low : height tree ≤ 64
+  pub typed : kind_of tree ≡ kind
+  pub selectors : matchers ≡ selectors_of tree
+  pub replacements : patterns ≡ patterns_of tree
+
+-- a text is read as a query without an empty selector, and this is that query over a grid
+abbrev pub IsAskedBy : List ℕ → (instant : Bool) → GridData → Asked → Type 0
+IsAskedBy text instant grid asked = (tree : Tree) × (IsReading text (lawful tree) × (asked ≡ asked_over instant grid tree))
