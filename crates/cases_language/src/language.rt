@@ -1,16 +1,18 @@
 //! Rows of tokens, canonical texts, kinds, queries, what they are bound to, and errors.
 
-ghost use Rattle.std.specs.Prelude.{◌≤◌};
+ghost use Rattle.std.specs.Prelude.{◌≡◌, ◌≤◌, true};
 ghost use Rattle.pf_lex.specs.Seen.{IsTokenOf};
-ghost use Rattle.pf_model.specs.Trees.{size, tree_of};
+ghost use Rattle.pf_model.specs.Built.{is_evaluated};
+ghost use Rattle.pf_model.specs.Trees.{height, size, tree_of};
 
+use crate::asking::asking;
 use crate::resolution::resolving;
 use cases_rows::output::Output;
 use pf_lex::{LexError, Token, TokenSort, string_value, token_text, tokens};
 use pf_model::{Expr, Kind};
 use pf_parse::{ParseError, parse};
 use pf_print::print;
-use pf_types::{BindError, QueryError, TypeError, bind, check, error_text, read_query};
+use pf_types::{QueryError, TypeError, bind, check, error_text, read_query};
 use std::alloc::Global;
 
 /// A form of rows.
@@ -28,6 +30,9 @@ pub enum Form {
     Query,
     /// `bind`: `QUERY => lawful`, or the text of the first refused pattern or empty selector.
     Bind,
+    /// `asked`: `read GRID | QUERY => ASKED`, what a text asks over a grid, and `bound GRID | QUERY => ASKED`, what its bound query
+    /// asks; or the text of the refusal.
+    Asked,
     /// `compared`: `SELECTOR => true` where no pattern is compiled for it, and `false` else.
     Compared,
     /// `resolving`: `resolve START END QUERY => CANONICAL`, the query with its range put in, and `shardable QUERY => true`.
@@ -46,6 +51,7 @@ impl Form {
             "kind" => Form::Kind,
             "query" => Form::Query,
             "bind" => Form::Bind,
+            "asked" => Form::Asked,
             "compared" => Form::Compared,
             "resolving" => Form::Resolving,
             "error" => Form::Error,
@@ -64,6 +70,7 @@ impl Form {
             Form::Kind => kind(out, text),
             Form::Query => query(out, text),
             Form::Bind => bound(out, text),
+            Form::Asked => asking(out, text),
             Form::Compared => compared(out, text),
             Form::Resolving => resolving(out, text),
             Form::Error => error(out, text),
@@ -72,7 +79,7 @@ impl Form {
 }
 
 /// Appends the text of a refusal.
-fn push_refusal(out: &mut Output, error: &QueryError) {
+pub fn push_refusal(out: &mut Output, error: &QueryError) {
     if *error == QueryError::OutOfMemory {
         out.lose();
     } else {
@@ -178,13 +185,13 @@ fn query(out: &mut Output, text: &str) {
 }
 
 fn push_bound(out: &mut Output, tree: Expr)
-    requires { size (tree_of tree) ≤ 65536 }
+    requires small { size (tree_of tree) ≤ 65536 }
+    requires low { height (tree_of tree) ≤ 64 }
+    requires evaluated { is_evaluated (tree_of tree) ≡ true }
 {
-    match bind(out.alloc(), tree) {
+    match &bind(out.alloc(), tree) {
         Ok(_) => out.text("lawful"),
-        Err(BindError::Pattern { which }) => push_refusal(out, &QueryError::Pattern { which }),
-        Err(BindError::Empty { which }) => push_refusal(out, &QueryError::Empty { which }),
-        Err(BindError::OutOfMemory) => out.lose(),
+        Err(error) => push_refusal(out, &QueryError::from(*error)),
     }
 }
 
