@@ -27,7 +27,7 @@ use Rattle.pf_model.specs.Trees.{Tree, Trees, height}
 use Rattle.pf_model.specs.Typing.{accepts, function_kind, joint_kind, kind_of, scalar_or_instant}
 use Rattle.pf_resolve.specs.Bounds.{are_small, are_small_mods, is_small, is_small_at}
 use Rattle.pf_resolve.specs.Settled.{is_settled}
-use Rattle.pf_resolve.proofs.Kept.{same_height, same_patterns, same_selectors}
+use Rattle.pf_resolve.proofs.Kept.{same_evaluated, same_height, same_patterns, same_selectors}
 use Rattle.pf_resolve.proofs.Settling.{settled}
 use Rattle.pf_types.specs.declared.asking.When.{When}
 use Rattle.pf_types.specs.declared.asking.When.TheVariants as when
@@ -167,6 +167,10 @@ is_bound t matchers patterns kind evaluated low typed selectors replacements sel
   replacements = replacements;
   selects = selects;
 }
+
+pub stays_evaluated : (start end : ℕ) (t put : Tree) → put ≡ resolved start end t → start ≤ 4398046511103 → end ≤ 4398046511103
+    → is_evaluated put ≡ is_evaluated t
+stays_evaluated start end t put is first last = ap is_evaluated is ∙ same_evaluated start end first last t
 
 pub is_put_in : (start end : ℕ) (t put : Tree) (own matchers : List (List Matcher)) (written patterns : List (List ℕ)) (kind : Kind)
     → IsBound t own written kind → put ≡ resolved start end t → is_evaluated put ≡ is_evaluated t → matchers ≡ own → patterns ≡ written
