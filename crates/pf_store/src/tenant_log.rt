@@ -11,7 +11,7 @@ use pf_base::{Batch, OutOfMemory, Row};
 use pf_block::Snap;
 use pf_index::select;
 use pf_model::Matchers;
-use std::alloc::Global;
+use std::alloc::{AllocError, Global};
 use std::marker::Model;
 use std::sync::Arc;
 
@@ -61,6 +61,24 @@ impl Model for TenantLog {
     ghost view = { λ l. record { window = l.window; entries = l.entries; newest = l.newest; generation = l.generation; snap = arc_value l.snap } };
 
     ghost invariant = { λ l. IsKept (record { window = l.window; entries = l.entries; newest = l.newest; generation = l.generation; snap = arc_value l.snap }) };
+}
+
+/// A copy, which shares the samples.
+impl Clone for TenantLog {
+    ghost is_clone = { λ x y. y ≡ x };
+
+    fn clone(&self) -> Result<TenantLog, AllocError>
+        ensures { IfOk result (λ l. l ≡ self.now) }
+    {
+        Ok(TenantLog {
+            alloc: self.alloc,
+            window: self.window,
+            entries: self.entries,
+            newest: self.newest,
+            generation: self.generation,
+            snap: Arc::try_clone(&self.snap)?,
+        })
+    }
 }
 
 /// The greatest time, with those of some rows.
