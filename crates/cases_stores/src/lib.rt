@@ -1,7 +1,9 @@
 //! Rows of what is stored, and of what is read of it: lines, matchers, exposition files, snapshots and logs, the functions of
-//! their windows, and selectors; and of what serves queries: the pieces of grids, and a map in the order of recent use.
+//! their windows, and selectors; of what serves queries: the pieces of grids, and a map in the order of recent use; and of the
+//! state that clients share.
 #![tactic(auto)]
 
+mod cores;
 pub mod files;
 pub mod logs;
 pub mod matchers;
@@ -40,6 +42,10 @@ pub enum Form {
     /// `recent`: `CAPACITY CALL, CALL, .. => ANSWERS | PAIRS`, calls `set KEY NUMBER` and `get KEY` of a map in the order of
     /// recent use, what each `get` finds, and the pairs after them, the one used last first.
     Recent,
+    /// `core`: `OUTSTANDING JOURNAL CALL; CALL; .. => ANSWERS | ENTRIES TENANTS`, what the calls of a core answer whose tenants may
+    /// have so many open queries each and whose journal so many entries: `append TENANT LINE`, `delete TENANT FROM TO SELECTOR`,
+    /// `ask TENANT QUERY` at one time, `look PLACE`, `cancel PLACE TENANT`, and `answer PLACE` of a query that is not planned.
+    Core,
 }
 
 impl Form {
@@ -56,6 +62,7 @@ impl Form {
             "log" => Form::Log,
             "pieces" => Form::Pieces,
             "recent" => Form::Recent,
+            "core" => Form::Core,
             _ => return None,
         };
         Some(form)
@@ -83,6 +90,7 @@ impl Form {
             Form::Log => logs::log(out, setting, given),
             Form::Pieces => serving::pieces_of(out, given),
             Form::Recent => serving::recent(out, given),
+            Form::Core => cores::core(out, setting, given),
             Form::Line | Form::Exposition => {}
         }
     }

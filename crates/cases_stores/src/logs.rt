@@ -13,7 +13,7 @@ use pf_base::{Batch, MAXT, OutOfMemory, Row};
 use pf_store::{Deleted, Pin, TenantLog, Verdict, Verdicts};
 
 /// Whether a log may take these rows.
-fn are_timed(rows: &[Row]) -> bool
+pub fn are_timed(rows: &[Row]) -> bool
     ensures { result ≡ are_timed rows.now }
 {
     rows.iter().all(|row| row.time <= MAXT)

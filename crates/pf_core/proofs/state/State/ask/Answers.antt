@@ -1,0 +1,57 @@
+use Rattle.std.proofs.Common.{rules, arith, ◌≡◌, ◌+◌, ◌≤◌, ◌∙◌, length, nat_le, refl, sym, true}
+use Rattle.std.proofs.lemmas.List.{length-map}
+use Rattle.pf_core.specs.Entries.{entry_of}
+use Rattle.pf_core.proofs.Entered.{filled, one_fits, refused}
+use Rattle.pf_core.proofs.OpenQueries.{asked}
+use Rattle.pf_core.proofs.Stepped.{is_full, room_for, same_state}
+use Rattle.pf_core.proofs.state.State.ask.Goals as goal
+
+pub returns-then-not-has_room-clause-err : goal.returns-then-not-has_room-clause-err
+returns-then-not-has_room-clause-err c =
+    let many : c.len-place.result ≡ length c.args.self.now.journal.items = search rules in
+    (many ∙ sym (length-map c.args.self.now.journal.items entry_of), (is_full c.args.self.now 3 c.requires.state (search rules), refl))
+
+pub returns-in_err-refuse-clause-state : goal.returns-in_err-refuse-clause-state
+returns-in_err-refuse-clause-state c = same_state c.args.self.now c.refuse.new.self c.requires.state (search rules)
+
+pub returns-in_default-clause-state : goal.returns-in_default-clause-state
+returns-in_default-clause-state c =
+    (refused c.args.self.now c.refuse.new.self c.args.by c.args.tenant.now c.requires.state (search rules) (search rules)
+    (one_fits (length c.args.self.now.journal.items) c.args.self.now.reserved 3 c.args.self.now.limits.journal (omega arith) (search rules))).0
+
+pub returns-in_default-clause-err : goal.returns-in_default-clause-err
+returns-in_default-clause-err c = (
+  room_for c.args.self.now 3 c.requires.state (search rules),
+  (refused c.args.self.now c.refuse.new.self c.args.by c.args.tenant.now c.requires.state (search rules) (search rules)
+  (one_fits (length c.args.self.now.journal.items) c.args.self.now.reserved 3 c.args.self.now.limits.journal (omega arith) (search rules))).1,
+)
+
+pub returns-in_err-fill-clause-state : goal.returns-in_err-fill-clause-state
+returns-in_err-fill-clause-state c = same_state c.args.self.now c.fill.new.self c.requires.state (search rules)
+
+pub returns-then-outstanding-self-clause-state : goal.returns-then-outstanding-self-clause-state
+returns-then-outstanding-self-clause-state c =
+    (filled c.args.self.now c.fill.new.self c.args.by c.args.tenant.now c.in-Some.seat c.count-outstanding.result c.requires.state (search rules)
+    (search rules) (search rules) (search rules)
+    (one_fits (length c.args.self.now.journal.items) c.args.self.now.reserved 3 c.args.self.now.limits.journal (omega arith) (search rules))).0
+
+pub returns-then-outstanding-self-clause-err : goal.returns-then-outstanding-self-clause-err
+returns-then-outstanding-self-clause-err c =
+    let f =
+    filled c.args.self.now c.fill.new.self c.args.by c.args.tenant.now c.in-Some.seat c.count-outstanding.result c.requires.state (search rules)
+    (search rules) (search rules) (search rules)
+    (one_fits (length c.args.self.now.journal.items) c.args.self.now.reserved 3 c.args.self.now.limits.journal (omega arith) (search rules)) in
+    (f.1.0, (room_for c.args.self.now 3 c.requires.state (search rules), f.1.1))
+
+pub returns-in_err-pin-clause-state : goal.returns-in_err-pin-clause-state
+returns-in_err-pin-clause-state c = same_state c.args.self.now c.open_query.new.self c.requires.state (search rules)
+
+pub returns-clause-state : goal.returns-clause-state
+returns-clause-state c =
+    (asked c.args.self.now c.open_query.new.self c.args.by c.args.tenant.now c.in-Some.seat c.count-outstanding.result c.len-place.result _ _ _ c.requires.state
+    (search rules) (search rules) (search rules) c.in_ok-opening.ensures c.in_ok-pin.ensures.ok (search rules) c.in_ok-pin.ensures.pin (search rules)).0
+
+pub returns-clause-ok : goal.returns-clause-ok
+returns-clause-ok c =
+    (asked c.args.self.now c.open_query.new.self c.args.by c.args.tenant.now c.in-Some.seat c.count-outstanding.result c.len-place.result _ _ _ c.requires.state
+    (search rules) (search rules) (search rules) c.in_ok-opening.ensures c.in_ok-pin.ensures.ok (search rules) c.in_ok-pin.ensures.pin (search rules)).1

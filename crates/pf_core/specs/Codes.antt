@@ -1,0 +1,115 @@
+-- How a core is told from others where a proof compares two: this project's own.
+use Rattle.std.specs.Prelude.{◌≡◌, ◌⊎◌, ℕ, ℤ, pos, cond, nat_eq, Option, List, refl}
+use Rattle.std.specs.Coded.{Coded, code_by, coded×, coded⊎, coded_list, coded_option, coded_ℕ, coded_ℤ}
+use mathlib.Core.Logic.{inl, inr}
+use Rattle.pf_base.specs.Batches.{BatchData}
+use Rattle.pf_base.specs.LabelSets.{Pairs}
+use Rattle.pf_base.specs.declared.plain.Limits.{Limits}
+use Rattle.pf_base.specs.declared.plain.Row.{Row}
+use Rattle.pf_journal.specs.Asking.{Asked}
+use Rattle.pf_journal.specs.Machine.{Entry, What, append, delete, ask, full, no_tenant, cancel, answer}
+use Rattle.pf_model.specs.Log.{Verdict, taken, too_old, repeated, differs}
+use Rattle.pf_model.specs.TreeCode.{bytes_code, matchers_code}
+use Rattle.pf_model.specs.declared.expr.Matcher.{Matcher}
+use Rattle.pf_query.specs.Codes.{asked_code}
+use Rattle.pf_core.specs.Cores.{CoreData}
+
+abbrev pub row_code : Coded Row
+row_code =
+    code_by (Pairs × (ℕ × ℤ)) (coded× (coded_list (coded× bytes_code bytes_code)) (coded× coded_ℕ coded_ℤ))
+    (λ r. (r.labels, (r.time, r.value))) (λ p. record { labels = p.0; time = p.1.0; value = p.1.1 }) (λ _. refl)
+
+abbrev pub batch_code : Coded BatchData
+batch_code =
+    code_by (List Row × ℕ) (coded× (coded_list row_code) coded_ℕ) (λ b. (b.rows, b.skipped))
+    (λ p. record { rows = p.0; skipped = p.1 }) (λ _. refl)
+
+abbrev pub verdict_parts : Verdict → ℕ × (ℕ × ℤ)
+verdict_parts taken = (0, (0, pos 0))
+verdict_parts (too_old floor) = (1, (floor, pos 0))
+verdict_parts repeated = (2, (0, pos 0))
+verdict_parts (differs held) = (3, (0, held))
+
+abbrev pub verdict_from : ℕ × (ℕ × ℤ) → Verdict
+verdict_from p = cond (nat_eq p.0 0) taken (cond (nat_eq p.0 1) (too_old p.1.0) (cond (nat_eq p.0 2) repeated (differs p.1.1)))
+
+pub verdict_back : (v : Verdict) → verdict_from (verdict_parts v) ≡ v
+verdict_back taken = refl
+verdict_back (too_old floor) = refl
+verdict_back repeated = refl
+verdict_back (differs held) = refl
+
+abbrev pub verdict_code : Coded Verdict
+verdict_code = code_by (ℕ × (ℕ × ℤ)) (coded× coded_ℕ (coded× coded_ℕ coded_ℤ)) verdict_parts verdict_from verdict_back
+
+-- what stands in an append, a deletion, an ask and an answer
+abbrev pub Appended : Type 0
+Appended = ℕ × (BatchData × (List Verdict × ℕ))
+
+abbrev pub Removed : Type 0
+Removed = ℕ × (List Matcher × (ℕ × (ℕ × (ℕ × ℕ))))
+
+abbrev pub Wanted : Type 0
+Wanted = ℕ × (Asked × (ℕ × (ℕ × Option ℕ)))
+
+abbrev pub Answered : Type 0
+Answered = ℕ × (ℕ × (ℕ × ℕ))
+
+abbrev pub WhatParts : Type 0
+WhatParts = Appended ⊎ (Removed ⊎ (Wanted ⊎ ((ℕ × ℕ) ⊎ (List ℕ ⊎ (ℕ ⊎ Answered)))))
+
+abbrev pub what_parts : What → WhatParts
+what_parts (append tenant batch verdicts entry) = inl (tenant, (batch, (verdicts, entry)))
+what_parts (delete tenant matchers from to generation entry) = inr (inl (tenant, (matchers, (from, (to, (generation, entry))))))
+what_parts (ask tenant asked pin generation floor) = inr (inr (inl (tenant, (asked, (pin, (generation, floor))))))
+what_parts (full tenant outstanding) = inr (inr (inr (inl (tenant, outstanding))))
+what_parts (no_tenant name) = inr (inr (inr (inr (inl name))))
+what_parts (cancel query) = inr (inr (inr (inr (inr (inl query)))))
+what_parts (answer query code cached evaluated) = inr (inr (inr (inr (inr (inr (query, (code, (cached, evaluated))))))))
+
+abbrev pub what_from : WhatParts → What
+what_from (inl p) = append p.0 p.1.0 p.1.1.0 p.1.1.1
+what_from (inr (inl p)) = delete p.0 p.1.0 p.1.1.0 p.1.1.1.0 p.1.1.1.1.0 p.1.1.1.1.1
+what_from (inr (inr (inl p))) = ask p.0 p.1.0 p.1.1.0 p.1.1.1.0 p.1.1.1.1
+what_from (inr (inr (inr (inl p)))) = full p.0 p.1
+what_from (inr (inr (inr (inr (inl name))))) = no_tenant name
+what_from (inr (inr (inr (inr (inr (inl query)))))) = cancel query
+what_from (inr (inr (inr (inr (inr (inr p)))))) = answer p.0 p.1.0 p.1.1.0 p.1.1.1
+
+pub what_back : (w : What) → what_from (what_parts w) ≡ w
+what_back (append tenant batch verdicts entry) = refl
+what_back (delete tenant matchers from to generation entry) = refl
+what_back (ask tenant asked pin generation floor) = refl
+what_back (full tenant outstanding) = refl
+what_back (no_tenant name) = refl
+what_back (cancel query) = refl
+what_back (answer query code cached evaluated) = refl
+
+abbrev pub what_code : Coded What
+what_code =
+    code_by WhatParts
+    (coded⊎ (coded× coded_ℕ (coded× batch_code (coded× (coded_list verdict_code) coded_ℕ)))
+    (coded⊎ (coded× coded_ℕ (coded× matchers_code (coded× coded_ℕ (coded× coded_ℕ (coded× coded_ℕ coded_ℕ)))))
+    (coded⊎ (coded× coded_ℕ (coded× asked_code (coded× coded_ℕ (coded× coded_ℕ (coded_option coded_ℕ)))))
+    (coded⊎ (coded× coded_ℕ coded_ℕ)
+    (coded⊎ bytes_code
+    (coded⊎ coded_ℕ (coded× coded_ℕ (coded× coded_ℕ (coded× coded_ℕ coded_ℕ)))))))))
+    what_parts what_from what_back
+
+abbrev pub entry_code : Coded Entry
+entry_code =
+    code_by (ℕ × (ℕ × What)) (coded× coded_ℕ (coded× coded_ℕ what_code)) (λ e. (e.client, (e.line, e.what)))
+    (λ p. record { client = p.0; line = p.1.0; what = p.1.1 }) (λ _. refl)
+
+abbrev pub limits_code : Coded Limits
+limits_code =
+    code_by (ℕ × (ℕ × (ℕ × (ℕ × (ℕ × ℕ)))))
+    (coded× coded_ℕ (coded× coded_ℕ (coded× coded_ℕ (coded× coded_ℕ (coded× coded_ℕ coded_ℕ)))))
+    (λ l. (l.outstanding, (l.window, (l.interval, (l.shards, (l.extents, l.journal))))))
+    (λ p. record { outstanding = p.0; window = p.1.0; interval = p.1.1.0; shards = p.1.1.1.0; extents = p.1.1.1.1.0; journal = p.1.1.1.1.1 })
+    (λ _. refl)
+
+abbrev pub core_code : Coded CoreData
+core_code =
+    code_by (Limits × (List (List ℕ) × List Entry)) (coded× limits_code (coded× (coded_list bytes_code) (coded_list entry_code)))
+    (λ c. (c.limits, (c.names, c.journal))) (λ p. record { limits = p.0; names = p.1.0; journal = p.1.1 }) (λ _. refl)

@@ -1,0 +1,5 @@
+pub mod Codes
+pub mod Cores
+pub mod Entries
+pub mod Seats
+pub mod States

@@ -1,0 +1,186 @@
+-- What a core keeps beside its journal, and how its steps change it. This project's own.
+use Rattle.std.specs.Arc.{arc_value}
+use Rattle.std.specs.HashMap.{get}
+use Rattle.std.specs.Prelude.{◌≡◌, ℕ, ◌+◌, ◌-◌, ◌<◌, ◌≤◌, cond, map, nat_eq, Option, Some, None, List, [], ◌∷◌, ◌++◌, length, slice_get, vec_capacity}
+use Rattle.pf_base.specs.Batches.{BatchData}
+use Rattle.pf_base.specs.declared.plain.By.{By}
+use Rattle.pf_base.specs.declared.plain.Limits.{Limits}
+use Rattle.pf_journal.specs.Asking.{Asked}
+use Rattle.pf_journal.specs.Legal.{machine_after}
+use Rattle.pf_journal.specs.Machine.{Entry, Machine, Open, What, append, ask, cancel, delete, log_of, open_at, open_of, reserved, started}
+use Rattle.pf_model.specs.Lists.{Each}
+use Rattle.pf_model.specs.Log.{Change, log_with, log_without, verdicts_of}
+use Rattle.pf_model.specs.declared.expr.Matcher.{Matcher}
+use Rattle.pf_store.specs.Standing.{IsLog, IsPin, LogData, deleted_after, verdicts_after}
+use Rattle.pf_store.specs.Verdicts.{VerdictsData}
+use Rattle.pf_store.specs.declared.tenant_log.Deleted.{Deleted}
+use Rattle.pf_core.specs.Cores.{CoreData, Stands}
+use Rattle.pf_core.specs.Entries.{entry_of, what_of}
+use Rattle.pf_core.specs.Seats.{TenantsData, counted_as, settled}
+use Rattle.pf_core.specs.declared.query.Query.{Query}
+use Rattle.pf_core.specs.declared.state.Opening.{Opening}
+use Rattle.pf_core.specs.declared.state.State.{State}
+use Rattle.pf_core.specs.declared.tenants.Seat.{Seat}
+
+-- each log that is kept is that of its tenant
+abbrev pub KeepsLogs : ℕ → List LogData → List (List Change) → Type 0
+KeepsLogs window kept logs =
+    (u : ℕ) (d : LogData) → slice_get kept u ≡ Some d → (d.window ≡ window) × IsLog d (log_of logs u)
+
+-- each count that is kept is that of its tenant's open queries
+abbrev pub KeepsCounts : List ℕ → List Open → Type 0
+KeepsCounts kept qs = (u n : ℕ) → slice_get kept u ≡ Some n → n ≡ open_of u qs
+
+-- no count that is kept is over the limit
+abbrev pub AreWithin : ℕ → List ℕ → Type 0
+AreWithin limit kept = (u n : ℕ) → slice_get kept u ≡ Some n → n ≤ limit
+
+-- open queries stand in the order of their places, from a least one on
+abbrev pub Above : ℕ → List Open → Type 0
+Above least [] = Unit {0}
+Above least (o ∷ os) = (least ≤ o.place) × Above (o.place + 1) os
+
+pub record AreOpen (m : Machine) : Type 0 where
+  pub apart : Above 0 m.queries
+  pub below : Each (λ o. o.place < m.count) m.queries
+  pub known : Each (λ o. o.tenant < length m.logs) m.queries
+
+-- a query that is kept is that of the machine, and its pin is that of its tenant's log at the ask
+pub record IsQuery (window : ℕ) (q : Query) (o : Open) : Type 0 where
+  pub tenant : o.tenant ≡ q.tenant
+  pub asked : o.asked ≡ arc_value q.asked
+  pub pinned : IsPin q.pin window o.log
+  pub cancelled : o.cancelled ≡ q.cancelled
+
+-- what is kept at a place is what the machine has there
+abbrev pub IsKept : ℕ → Option Query → Option Open → Type 0
+IsKept window None None = Unit {0}
+IsKept window None (Some o) = ⊥
+IsKept window (Some q) None = ⊥
+IsKept window (Some q) (Some o) = IsQuery window q o
+
+-- a query that is kept, cancelled at a place
+abbrev pub cancelled_query : (place : ℕ) → Option Query → Option Query
+cancelled_query place None = None
+cancelled_query place (Some q) = Some (record { tenant = q.tenant; asked = q.asked; pin = q.pin; cancelled = Some place })
+
+abbrev pub KeepsQueries : ℕ → (ℕ → Option Query) → List Open → Type 0
+KeepsQueries window kept qs = (place : ℕ) → IsKept window (kept place) (open_at place qs)
+
+-- what is kept beside the journal is what the machine has
+pub record Keeps (l : Limits) (t : TenantsData) (kept : ℕ → Option Query) (room : ℕ) (m : Machine) : Type 0 where
+  pub keeps_logs : KeepsLogs l.window t.logs m.logs
+  pub keeps_counts : KeepsCounts t.counts m.queries
+  pub within : AreWithin l.outstanding t.counts
+  pub keeps_queries : KeepsQueries l.window kept m.queries
+  pub keeps_room : room ≡ reserved m.queries
+  pub are_open : AreOpen m
+
+abbrev pub kept_in : State → ℕ → Option Query
+kept_in s place = get nat_eq s.queries place
+
+abbrev pub core_of : State → CoreData
+core_of s = record { limits = s.limits; names = s.tenants.names; journal = map entry_of s.journal.items }
+
+abbrev pub machine_in : State → Machine
+machine_in s = machine_after started (map entry_of s.journal.items)
+
+-- the entries have room in memory for what open queries keep
+abbrev pub HasCapacity : State → Type 0
+HasCapacity s = length s.journal.items + s.reserved ≤ vec_capacity s.journal
+
+-- a state stands for its journal, whose entries have room for what open queries keep
+pub record IsState (s : State) : Type 0 where
+  pub stands : Stands (core_of s)
+  pub keeps : Keeps s.limits s.tenants (kept_in s) s.reserved (machine_in s)
+  pub fits : length s.journal.items + s.reserved ≤ s.limits.journal
+  pub capacity : HasCapacity s
+
+-- nothing changed but room in memory
+pub record IsSame (old new : State) : Type 0 where
+  pub limits : new.limits ≡ old.limits
+  pub tenants : new.tenants ≡ old.tenants
+  pub queries : (place : ℕ) → kept_in new place ≡ kept_in old place
+  pub reserved : new.reserved ≡ old.reserved
+  pub journal : new.journal.items ≡ old.journal.items
+  pub capacity : vec_capacity old.journal ≤ vec_capacity new.journal
+
+-- an entry stands at the journal's end, and nothing else changed
+pub record IsNoted (old : State) (by : By) (what : What) (new : State) : Type 0 where
+  pub limits : new.limits ≡ old.limits
+  pub tenants : new.tenants ≡ old.tenants
+  pub queries : new.queries ≡ old.queries
+  pub reserved : new.reserved ≡ old.reserved
+  pub journal : map entry_of new.journal.items ≡ map entry_of old.journal.items ++ record { client = by.client; line = by.line; what = what } ∷ []
+  pub many : length new.journal.items ≡ length old.journal.items + 1
+  pub capacity : vec_capacity new.journal ≡ vec_capacity old.journal
+
+-- a step: an entry, with the tenants, the open queries and the room for these behind it
+pub record Steps (old : State) (by : By) (what : What) (t : TenantsData) (kept : ℕ → Option Query) (room : ℕ) (new : State) : Type 0 where
+  pub limits : new.limits ≡ old.limits
+  pub tenants : new.tenants ≡ t
+  pub queries : (place : ℕ) → kept_in new place ≡ kept place
+  pub reserved : new.reserved ≡ room
+  pub journal : map entry_of new.journal.items ≡ map entry_of old.journal.items ++ record { client = by.client; line = by.line; what = what } ∷ []
+  pub many : length new.journal.items ≡ length old.journal.items + 1
+  pub capacity : HasCapacity new
+
+-- an entry that changes nothing else
+abbrev pub IsTold : State → By → What → State → Type 0
+IsTold old by what new = Steps old by what old.tenants (kept_in old) old.reserved new
+
+-- an entry with a seat's log
+abbrev pub IsEntered : State → By → Seat → What → State → Type 0
+IsEntered old by seat what new =
+    Steps old by what (settled old.tenants seat.number seat.log seat.newcomer) (kept_in old) old.reserved new
+
+-- the open queries with one more
+abbrev pub with_query : (ℕ → Option Query) → ℕ → Query → ℕ → Option Query
+with_query kept place query p = cond (nat_eq place p) (Some query) (kept p)
+
+-- with one cancelled
+abbrev pub with_cancel : (ℕ → Option Query) → (query place : ℕ) → ℕ → Option Query
+with_cancel kept query place p = cond (nat_eq query p) (cancelled_query place (kept p)) (kept p)
+
+-- and without one
+abbrev pub without_query : (ℕ → Option Query) → ℕ → ℕ → Option Query
+without_query kept query p = cond (nat_eq query p) None (kept p)
+
+-- a query was opened for a seat, whose tenant had so many
+abbrev pub IsOpenedFor : State → By → Seat → ℕ → Query → What → State → Type 0
+IsOpenedFor old by seat outstanding query what new =
+    Steps old by what (counted_as (settled old.tenants seat.number seat.log seat.newcomer) seat.number (outstanding + 1))
+    (with_query (kept_in old) (length old.journal.items) query) (old.reserved + 2) new
+
+-- an open query was cancelled
+abbrev pub IsCancelledAt : State → By → ℕ → State → Type 0
+IsCancelledAt old by query new =
+    Steps old by (cancel query) old.tenants (with_cancel (kept_in old) query (length old.journal.items)) (old.reserved - 1) new
+
+-- a batch was taken into a seat's log
+pub record TakesIn (old : Seat) (batch : BatchData) (verdicts : VerdictsData) (said : What) (new : Seat) : Type 0 where
+  pub number : new.number ≡ old.number
+  pub newcomer : new.newcomer ≡ old.newcomer
+  pub window : new.log.window ≡ old.log.window
+  pub judged : (log : List Change) → IsLog old.log log → verdicts ≡ verdicts_after old.log.window log batch.rows
+  pub stands : (log : List Change) → IsLog old.log log
+      → IsLog new.log (log_with log batch.rows (verdicts_of old.log.window log batch.rows))
+  pub what : said ≡ append old.number batch verdicts.list verdicts.entry
+
+-- samples of a seat's log were deleted
+pub record CutsOut (old : Seat) (matchers : List Matcher) (from to : ℕ) (deleted : Deleted) (said : What) (new : Seat) : Type 0 where
+  pub number : new.number ≡ old.number
+  pub newcomer : new.newcomer ≡ old.newcomer
+  pub window : new.log.window ≡ old.log.window
+  pub told : (log : List Change) → IsLog old.log log → deleted ≡ deleted_after old.log.window (log_without log matchers from to)
+  pub stands : (log : List Change) → IsLog old.log log → IsLog new.log (log_without log matchers from to)
+  pub what : said ≡ delete old.number matchers from to deleted.generation deleted.entry
+
+-- what an ask of a seat opens
+pub record IsOpening (seat : Seat) (wanted : Asked) (o : Opening) : Type 0 where
+  pub tenant : o.query.tenant ≡ seat.number
+  pub asked : arc_value o.query.asked ≡ wanted
+  pub kept : (log : List Change) → IsLog seat.log log → IsPin o.query.pin seat.log.window log
+  pub uncancelled : o.query.cancelled ≡ None
+  pub pinned : (log : List Change) → IsLog seat.log log → IsPin o.pin seat.log.window log
+  pub what : what_of o.what ≡ ask seat.number wanted o.pin.number o.pin.generation o.pin.floor

@@ -1,0 +1,32 @@
+//! What calls answer.
+
+use pf_query::Asked;
+use pf_store::Pin;
+use std::sync::Arc;
+
+/// A query that was opened: the place of its ask in the journal, from 0, and its tenant's log as it stood then.
+#[derive(Drop)]
+pub struct Admitted {
+    pub query: u64,
+    pub pin: Pin,
+}
+
+/// An open query: its tenant's number, the tenant's log as it stood at the ask, what was asked, and the place of its cancel in
+/// the journal, if it was cancelled.
+#[derive(Clone, Copy)]
+pub struct Opened<'a> {
+    pub tenant: u32,
+    pub pin: &'a Pin,
+    pub asked: &'a Arc<Asked>,
+    pub cancelled: Option<u64>,
+}
+
+/// What is told of a cancel: it was done; no query is open there; another tenant, of this number, asked; or it was cancelled
+/// before, at this place.
+#[derive(Clone, Copy, Debug, PartialEq, Eq)]
+pub enum CancelAnswer {
+    Done,
+    NotOutstanding,
+    OtherTenant { owner: u32 },
+    Already { place: u64 },
+}
