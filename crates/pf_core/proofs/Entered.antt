@@ -1,14 +1,12 @@
 -- Entries of tenants, and those that change nothing else.
-use Rattle.std.proofs.Common.{◌≡◌, ℕ, ◌+◌, ◌<◌, ◌≤◌, nat_le, true, Option, Some, None, List, [], ◌∷◌, ◌++◌, length, refl, sym, ap, ◌∙◌, arith, slice_get, subst, append-nil}
+use Rattle.std.proofs.Common.{◌≡◌, ℕ, ◌+◌, ◌≤◌, nat_le, true, Option, Some, None, List, [], ◌++◌, length, refl, sym, ap, ◌∙◌, arith, slice_get, subst, append-nil}
 use Rattle.std.proofs.lemmas.Bool.Decides.{nat_tests}
-use Rattle.std.proofs.lemmas.Option.{slice_get_within}
 use Rattle.pf_base.specs.Batches.{BatchData}
 use Rattle.pf_base.specs.declared.plain.By.{By}
-use Rattle.pf_base.specs.declared.plain.Limits.{Limits}
-use Rattle.pf_journal.specs.Machine.{Allowed, Machine, What, append, delete, full, next, no_tenant, log_of, most_tenants, open_of, with_log}
+use Rattle.pf_journal.specs.Machine.{Allowed, Machine, What, append, delete, full, next, no_tenant, log_of, with_log}
 use Rattle.pf_model.specs.Log.{Change, Verdict, log_with, log_without, verdicts_of}
 use Rattle.pf_model.specs.declared.expr.Matcher.{Matcher}
-use Rattle.pf_store.specs.Standing.{IsLog, LogData, deleted_after, verdicts_after}
+use Rattle.pf_store.specs.Standing.{IsLog, deleted_after, verdicts_after}
 use Rattle.pf_store.specs.Verdicts.{VerdictsData}
 use Rattle.pf_store.specs.declared.tenant_log.Deleted.{Deleted}
 use Rattle.pf_core.specs.Cores.{Enters, EntersFor, IsAppended, IsDeleted}
@@ -55,12 +53,14 @@ changed old new by name seat after what log h p number newcomer window is steppi
     (settled_tenants old.tenants seat.number after.log seat.newcomer p.tenants p.free).apart
     (allowed (old.tenants.names ++ names_of seat.newcomer))
     (subst (λ (n : Machine). Keeps old.limits t (kept_in old) old.reserved n) (sym stepping) keeps)
-    (omega (arith, within)) in
-    (stepped_so.0, record {
-      number = seat.number;
-      named = subst (λ (x : TenantsData). slice_get x.names seat.number ≡ Some name) (sym (e.tenants ∙ moved)) (here.named after.log);
-      entered = stepped_so.1;
-    })
+    (omega (arith, within)) in (
+      stepped_so.0,
+      record {
+        number = seat.number;
+        named = subst (λ (x : TenantsData). slice_get x.names seat.number ≡ Some name) (sym (e.tenants ∙ moved)) (here.named after.log);
+        entered = stepped_so.1;
+      },
+    )
 
 -- a batch is taken in
 pub appended : (old new : State) (by : By) (name : List ℕ) (seat after : Seat) (batch : BatchData) (v : VerdictsData) (what : What)
@@ -145,14 +145,19 @@ fills old new by name seat n None h p e free counted reached t room =
     let is : n ≡ old.limits.outstanding = omega (arith, counted, there, least, reached) in
     let so_many = h.keeps.keeps_counts seat.number s.element s.there in
     let both = told old new by (full seat.number n) h t refl
-    (record { known = omega (arith, free, many); counted = omega (arith, counted, there, so_many); most = is }) room in
-    (both.0, (is, record {
-      number = seat.number;
-      named = subst (λ (x : TenantsData). slice_get x.names seat.number ≡ Some name) (sym t.tenants)
-          (subst (λ (o : Option (List ℕ)). slice_get (settled old.tenants seat.number seat.log o).names seat.number ≡ Some name) e
-          ((placed old name seat h p).named seat.log));
-      entered = both.1;
-    }))
+    (record { known = omega (arith, free, many); counted = omega (arith, counted, there, so_many); most = is }) room in (
+      both.0,
+      (
+        is,
+        record {
+          number = seat.number;
+          named = subst (λ (x : TenantsData). slice_get x.names seat.number ≡ Some name) (sym t.tenants)
+              (subst (λ (o : Option (List ℕ)). slice_get (settled old.tenants seat.number seat.log o).names seat.number ≡ Some name) e
+              ((placed old name seat h p).named seat.log));
+          entered = both.1;
+        },
+      ),
+    )
 fills old new by name seat n (Some new_name) h p e free counted reached t room =
     let some = h.stands.limits.some in
     let many_counts = p.tenants.many_counts in

@@ -1,5 +1,5 @@
 -- What is kept beside the journal goes with the machine, entry by entry.
-use Rattle.std.proofs.Common.{◌≡◌, ◌≢◌, ℕ, ◌+◌, ◌-◌, ◌<◌, ◌≤◌, inl, inr, true, false, cond, nat_eq, Some, None, List, [], ◌∷◌, ◌++◌, length, sym, ap, ◌∙◌, arith, slice_get, slice_set, subst}
+use Rattle.std.proofs.Common.{◌≡◌, ◌≢◌, ℕ, ◌+◌, ◌-◌, ◌<◌, ◌≤◌, inl, inr, true, false, cond, nat_eq, Some, List, [], ◌∷◌, ◌++◌, length, sym, ap, ◌∙◌, arith, slice_get, slice_set, subst}
 use Rattle.std.proofs.lemmas.Bool.Decides.{nat_tests}
 use Rattle.std.proofs.lemmas.Option.{slice_get_within}
 use Rattle.pf_base.specs.declared.plain.Limits.{Limits}

@@ -1,9 +1,9 @@
 -- The open queries that are kept go with those of the machine.
-use Rattle.std.proofs.Common.{◌≡◌, ℕ, ◌<◌, inl, inr, true, false, cond, nat_eq, Option, Some, None, List, [], ◌∷◌, ◌++◌, refl, sym, ap, ◌∙◌, arith, subst}
+use Rattle.std.proofs.Common.{◌≡◌, ℕ, ◌<◌, inl, inr, false, nat_eq, Option, Some, None, List, [], ◌∷◌, ◌++◌, refl, sym, arith, subst}
 use Rattle.std.proofs.lemmas.Bool.Decides.{nat_tests}
 use Rattle.pf_journal.specs.Machine.{Open, open_at, cancelled_at, closed}
 use Rattle.pf_model.specs.Lists.{Each}
-use Rattle.pf_core.specs.States.{IsKept, IsQuery, KeepsQueries, cancelled_query, with_query, with_cancel, without_query}
+use Rattle.pf_core.specs.States.{IsKept, IsQuery, KeepsQueries, with_query, with_cancel, without_query}
 use Rattle.pf_core.specs.declared.query.Query.{Query}
 use Rattle.pf_core.proofs.Machines.{bool_cases, cancelled_as, open_at_cancelled, open_at_cancelled_other, open_at_closed, open_at_closed_same, open_at_pushed, open_at_pushed_other}
 

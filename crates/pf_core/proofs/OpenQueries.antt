@@ -6,23 +6,22 @@ use Rattle.std.proofs.lemmas.Slice.Eq.{bytes_eq-Decides}
 use Rattle.pf_base.specs.declared.plain.By.{By}
 use Rattle.pf_base.specs.declared.plain.Limits.{Limits}
 use Rattle.pf_journal.specs.Asking.{Asked}
-use Rattle.pf_journal.specs.Machine.{AnswersOpen, CancelsOpen, Machine, Open, What, answer, ask, cancel, cancelled_at, closed, log_of, next, open_at, open_of, room_kept, with_log}
+use Rattle.pf_journal.specs.Machine.{AnswersOpen, CancelsOpen, Machine, Open, What, answer, ask, cancel, cancelled_at, closed, log_of, next, open_at, open_of, room_kept}
 use Rattle.pf_model.specs.Lists.{Each}
 use Rattle.pf_store.specs.Standing.{IsPin, LogData, PinData}
 use Rattle.pf_core.specs.Cores.{AsksAt, Enters, IsOpened, IsOthers, IsOwned}
 use Rattle.pf_core.specs.Entries.{what_of}
 use Rattle.pf_core.specs.Seats.{AreTenants, IsFree, IsSeat, TenantsData, count_at, counted_as, is_named, is_same, settled}
-use Rattle.pf_core.specs.States.{AreWithin, IsCancelledAt, IsOpenedFor, IsOpening, IsQuery, IsState, Keeps, KeepsCounts, KeepsQueries, Steps, core_of, kept_in, machine_in, with_cancel, with_query, without_query}
+use Rattle.pf_core.specs.States.{AreWithin, IsCancelledAt, IsOpenedFor, IsOpening, IsState, Keeps, KeepsQueries, Steps, core_of, kept_in, machine_in, with_cancel, with_query, without_query}
 use Rattle.pf_core.specs.declared.answers.Opened.{Opened}
-use Rattle.pf_core.specs.declared.query.Query.{Query}
 use Rattle.pf_core.specs.declared.state.Opening.{Opening}
 use Rattle.pf_core.specs.declared.state.State.{State}
 use Rattle.pf_core.specs.declared.tenants.Seat.{Seat}
-use Rattle.pf_core.proofs.Keeping.{are_open_answered, are_open_asked, are_open_cancelled, counts_answered, counts_asked, machine_with}
+use Rattle.pf_core.proofs.Keeping.{are_open_answered, are_open_asked, are_open_cancelled, counts_answered, counts_asked}
 use Rattle.pf_core.proofs.Kept.{keeps_answered, keeps_cancelled, keeps_opened}
 use Rattle.pf_core.proofs.Lists.{get_set_other, get_set_same}
 use Rattle.pf_core.proofs.Machines.{bool_cases, open_at_pushed, open_cancelled, open_closed, open_each, reserved_cancelled, reserved_closed, reserved_pushed, reserved_some}
-use Rattle.pf_core.proofs.Seated.{count_there, length_set, names_of, placed, settled_count, settled_counts, settled_logs, settled_many, settled_names, settled_tenants, stored}
+use Rattle.pf_core.proofs.Seated.{count_there, names_of, placed, settled_count, settled_counts, settled_logs, settled_many, settled_names, settled_tenants, stored}
 use Rattle.pf_core.proofs.Stepped.{behind, counted, room_for, stepped}
 
 within_set : (limit u n : ℕ) (kept : List ℕ) → AreWithin limit kept → u < length kept → n ≤ limit → AreWithin limit (slice_set kept u n)
@@ -117,24 +116,26 @@ asked old new by name seat n place wanted o pin h p counted_so below opening e a
     (settled_tenants old.tenants u seat.log seat.newcomer p.tenants p.free).apart
     (record { tenant = here.number; below = omega (arith, below, so_many); pinned = told_pin.numbered; aged = told_pin.aged; floored = told_pin.floored })
     keeps (omega (arith, fits)) in
-    let after : machine_in new ≡ next m what = behind old new by what s.journal in
-    (both.0, subst (λ (x : PinData). AsksAt (core_of old) by name wanted place x (core_of new)) (sym same_pin) (record {
-      room = room_for old 3 h room;
-      entered = record {
-        number = u;
-        named = subst (λ (x : TenantsData). slice_get x.names u ≡ Some name) (sym s.tenants) (here.named seat.log);
-        entered = both.1;
-      };
-      here = omega (arith, at_end, c);
-      opened = opened;
-      is_open = subst (λ (x : Machine). open_at place x.queries ≡ Some opened) (sym after)
-          (subst (λ k. open_at k (m.queries ++ opened ∷ []) ≡ Some opened) (c ∙ sym at_end)
-          (open_at_pushed m.queries m.count opened h.keeps.are_open.below refl));
-      owner = refl;
-      asked = refl;
-      pinned = subst (λ (l : Limits). IsPin o.pin l.window log) (sym s.limits) told_pin;
-      uncancelled = refl;
-    }))
+    let after : machine_in new ≡ next m what = behind old new by what s.journal in (
+      both.0,
+      subst (λ (x : PinData). AsksAt (core_of old) by name wanted place x (core_of new)) (sym same_pin) (record {
+        room = room_for old 3 h room;
+        entered = record {
+          number = u;
+          named = subst (λ (x : TenantsData). slice_get x.names u ≡ Some name) (sym s.tenants) (here.named seat.log);
+          entered = both.1;
+        };
+        here = omega (arith, at_end, c);
+        opened = opened;
+        is_open = subst (λ (x : Machine). open_at place x.queries ≡ Some opened) (sym after)
+            (subst (λ k. open_at k (m.queries ++ opened ∷ []) ≡ Some opened) (c ∙ sym at_end)
+            (open_at_pushed m.queries m.count opened h.keeps.are_open.below refl));
+        owner = refl;
+        asked = refl;
+        pinned = subst (λ (l : Limits). IsPin o.pin l.window log) (sym s.limits) told_pin;
+        uncancelled = refl;
+      }),
+    )
 
 -- a cancel of an open query, which was not cancelled
 pub cancelled : (old new : State) (by : By) (query : ℕ) (o : Open)

@@ -1,18 +1,17 @@
 -- A tenant is known, or new, or a stranger.
-use Rattle.std.proofs.Common.{◌≡◌, ℕ, zero, suc, ◌+◌, ◌<◌, ◌≤◌, inl, inr, max, Option, Some, None, List, [], ◌∷◌, ◌++◌, length, take, refl, sym, ap, ◌∙◌, arith, slice_get, slice_set, subst, append-nil}
+use Rattle.std.proofs.Common.{◌≡◌, ℕ, zero, suc, ◌<◌, ◌≤◌, inl, inr, Option, Some, None, List, [], ◌∷◌, ◌++◌, length, take, refl, sym, ap, ◌∙◌, arith, slice_get, slice_set, subst, append-nil}
 use Rattle.std.specs.Prelude.{unwrap_or}
 use Rattle.std.proofs.lemmas.List.{length_push}
-use Rattle.std.proofs.lemmas.Option.{slice_get_within}
-use Rattle.pf_journal.specs.Machine.{IsNoTenant, IsTenant, Machine, Open, log_of, with_log, most_tenants}
+use Rattle.pf_journal.specs.Machine.{IsNoTenant, IsTenant, Machine, log_of, with_log}
 use Rattle.pf_model.specs.Lists.{Each}
 use Rattle.pf_model.specs.Log.{Change}
 use Rattle.pf_store.specs.Standing.{IsLog, LogData}
-use Rattle.pf_core.specs.Seats.{AreApart, AreTenants, IsFree, IsSeat, IsSeated, IsStranger, TenantsData, count_at, counted_as, settled}
-use Rattle.pf_core.specs.States.{AreWithin, IsState, Keeps, KeepsCounts, KeepsLogs, machine_in}
+use Rattle.pf_core.specs.Seats.{AreTenants, IsFree, IsSeat, IsSeated, IsStranger, TenantsData, count_at, settled}
+use Rattle.pf_core.specs.States.{AreWithin, IsState, KeepsCounts, KeepsLogs, machine_in}
 use Rattle.pf_core.specs.declared.state.State.{State}
 use Rattle.pf_core.specs.declared.tenants.Seat.{Seat}
 use Rattle.pf_core.proofs.Keeping.{apart_grows, counts_grow, logs_put, logs_set}
-use Rattle.pf_core.proofs.Lists.{get_push, get_pushed, get_set_same}
+use Rattle.pf_core.proofs.Lists.{get_push, get_pushed}
 use Rattle.pf_core.proofs.Machines.{length_with_log, log_of_past}
 
 -- ---- lists

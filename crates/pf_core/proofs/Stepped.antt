@@ -1,12 +1,12 @@
 -- A state with an entry more stands for its longer journal.
-use Rattle.std.proofs.Common.{◌≡◌, ℕ, ◌+◌, ◌<◌, ◌≤◌, map, false, true, nat_le, Option, Some, List, [], ◌∷◌, ◌++◌, length, refl, sym, ap, ◌∙◌, arith, slice_get, subst}
+use Rattle.std.proofs.Common.{◌≡◌, ℕ, ◌+◌, ◌<◌, ◌≤◌, map, false, true, nat_le, Option, List, [], ◌∷◌, ◌++◌, length, sym, ap, ◌∙◌, arith, subst}
 use Rattle.std.proofs.lemmas.Bool.Decides.{nat_tests}
 use Rattle.std.proofs.lemmas.List.{length-map}
 use Rattle.pf_base.specs.declared.plain.By.{By}
 use Rattle.pf_base.specs.declared.plain.Limits.{Limits}
 use Rattle.pf_journal.specs.Legal.{Legal, machine_after}
 use Rattle.pf_journal.specs.Machine.{Allowed, Entry, Machine, What, next, open_at, started}
-use Rattle.pf_core.specs.Cores.{AreLimits, CoreData, Enters, HasRoomFor, IsFull, Stands}
+use Rattle.pf_core.specs.Cores.{AreLimits, Enters, HasRoomFor, IsFull, Stands}
 use Rattle.pf_core.specs.Entries.{entry_of}
 use Rattle.pf_core.specs.Seats.{AreApart, TenantsData}
 use Rattle.pf_core.specs.States.{IsSame, IsState, Keeps, Steps, core_of, kept_in, machine_in, IsKept}
@@ -114,20 +114,22 @@ stepped old new by what t kept room more h s grown many apart allowed keeps fits
       allowed = allowed;
       room = omega (arith, c, kept_room, fits);
       named = omega (arith, many_old, longer);
-    }) in
-    (record {
-      stands = record {
-        limits = subst AreLimits (sym s.limits) h.stands.limits;
-        legal = subst (λ (l : Limits). Legal l new.tenants.names (map entry_of new.journal.items)) (sym s.limits)
-            (subst (λ (ns : List (List ℕ)). Legal old.limits ns (map entry_of new.journal.items)) (sym names)
-            (subst (λ (es : List Entry). Legal old.limits (old.tenants.names ++ more) es) (sym s.journal) legal));
-        names = record {
-          many = ap (λ (x : TenantsData). length x.names) s.tenants ∙ many ∙ ap (λ (x : Machine). length x.logs) (sym after);
-          different = subst (λ (x : TenantsData). AreApart x.names) (sym s.tenants) apart;
+    }) in (
+      record {
+        stands = record {
+          limits = subst AreLimits (sym s.limits) h.stands.limits;
+          legal = subst (λ (l : Limits). Legal l new.tenants.names (map entry_of new.journal.items)) (sym s.limits)
+              (subst (λ (ns : List (List ℕ)). Legal old.limits ns (map entry_of new.journal.items)) (sym names)
+              (subst (λ (es : List Entry). Legal old.limits (old.tenants.names ++ more) es) (sym s.journal) legal));
+          names = record {
+            many = ap (λ (x : TenantsData). length x.names) s.tenants ∙ many ∙ ap (λ (x : Machine). length x.logs) (sym after);
+            different = subst (λ (x : TenantsData). AreApart x.names) (sym s.tenants) apart;
+          };
         };
-      };
-      keeps = keeps_as old.limits new.limits t new.tenants kept (kept_in new) room new.reserved (next m what) (machine_in new)
-          s.limits s.tenants s.queries s.reserved after keeps;
-      fits = omega (arith, many_new, fits, reserved, most);
-      capacity = s.capacity;
-    }, record { journal = s.journal; limits = s.limits; more = more; grown = names })
+        keeps = keeps_as old.limits new.limits t new.tenants kept (kept_in new) room new.reserved (next m what) (machine_in new)
+            s.limits s.tenants s.queries s.reserved after keeps;
+        fits = omega (arith, many_new, fits, reserved, most);
+        capacity = s.capacity;
+      },
+      record { journal = s.journal; limits = s.limits; more = more; grown = names },
+    )

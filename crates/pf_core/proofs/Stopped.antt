@@ -1,6 +1,6 @@
 -- Answers to queries that are stopped before they are planned.
-use Rattle.std.proofs.Common.{◌≡◌, ℕ, ◌+◌, inl, inr, Option, Some, None, refl, sym, ◌∙◌, subst}
-use Rattle.pf_journal.specs.Machine.{AnswersOpen, AnswersRight, IsCode, Open, open_at}
+use Rattle.std.proofs.Common.{◌≡◌, ℕ, inl, inr, Option, Some, None, refl, sym, ◌∙◌, subst}
+use Rattle.pf_journal.specs.Machine.{AnswersOpen, IsCode, Open, open_at}
 use Rattle.pf_core.specs.Cores.{CoreData, IsOpened, machine_of}
 use Rattle.pf_core.specs.declared.answers.Opened.{Opened}
 

@@ -7,7 +7,7 @@ use Rattle.pf_base.specs.declared.plain.By.{By}
 use Rattle.pf_base.specs.declared.plain.Limits.{Limits}
 use Rattle.pf_journal.specs.Asking.{Asked}
 use Rattle.pf_journal.specs.Legal.{machine_after}
-use Rattle.pf_journal.specs.Machine.{Entry, Machine, Open, What, append, ask, cancel, delete, log_of, open_at, open_of, reserved, started}
+use Rattle.pf_journal.specs.Machine.{Machine, Open, What, append, ask, cancel, delete, log_of, open_at, open_of, reserved, started}
 use Rattle.pf_model.specs.Lists.{Each}
 use Rattle.pf_model.specs.Log.{Change, log_with, log_without, verdicts_of}
 use Rattle.pf_model.specs.declared.expr.Matcher.{Matcher}

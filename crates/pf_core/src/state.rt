@@ -365,15 +365,7 @@ impl State {
     }
 
     /// Takes out an open query of a tenant that has so many, and adds the entry of its answer.
-    fn close(
-        &mut self,
-        by: By,
-        query: u64,
-        tenant: u32,
-        outstanding: u32,
-        kept: u64,
-        what: What,
-    )
+    fn close(&mut self, by: By, query: u64, tenant: u32, outstanding: u32, kept: u64, what: What)
         requires inside { tenant < length self.old.tenants.counts }
         requires some { 1 ≤ outstanding }
         requires room { (1 ≤ kept) × (kept ≤ self.old.reserved) }

@@ -1,4 +1,4 @@
-use Rattle.std.proofs.Common.{rules, arith, ◌≡◌, ◌+◌, ◌≤◌, ◌∙◌, length, nat_le, refl, sym, true}
+use Rattle.std.proofs.Common.{rules, arith, ◌≡◌, ◌∙◌, length, refl, sym}
 use Rattle.std.proofs.lemmas.List.{length-map}
 use Rattle.pf_core.specs.Entries.{entry_of}
 use Rattle.pf_core.proofs.Entered.{appended, one_fits, refused}
@@ -22,7 +22,7 @@ pub returns-in_default-clause-err : goal.returns-in_default-clause-err
 returns-in_default-clause-err c = (
   room_for c.args.self.now 1 c.requires.state (search rules),
   (refused c.args.self.now c.refuse.new.self c.args.by c.args.tenant.now c.requires.state (search rules) (search rules)
-  (one_fits (length c.args.self.now.journal.items) c.args.self.now.reserved 1 c.args.self.now.limits.journal (omega arith) (search rules))).1,
+      (one_fits (length c.args.self.now.journal.items) c.args.self.now.reserved 1 c.args.self.now.limits.journal (omega arith) (search rules))).1,
 )
 
 pub returns-in_err-enter-clause-state : goal.returns-in_err-enter-clause-state
