@@ -1,5 +1,9 @@
-pub mod Answers
+pub mod BodyLines
 pub mod ErrorTokens
 pub mod Joined
 pub mod LabelTokens
 pub mod Lines
+pub mod Retold
+pub mod ToldBodies
+pub mod ToldEntries
+pub mod ToldReplies

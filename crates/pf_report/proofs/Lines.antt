@@ -1,7 +1,7 @@
 -- Lines, word by word.
 use Rattle.std.proofs.Common.{◌≡◌, ℕ, ◌+◌, ◌<◌, List, [], ◌∷◌, ◌++◌, length, get_or, drop, map, refl, ap, sym, ◌∙◌, append_assoc, append-nil, arith}
 use Rattle.std.proofs.lemmas.List.{drop_more}
-use Rattle.pf_script.specs.Report.{line_text}
+use Rattle.pf_journal.specs.Replies.{line_text}
 use Rattle.pf_report.specs.Words.{words_behind, words_joined}
 
 line_behind : (w : List ℕ) (ws : List (List ℕ)) → line_text (w ∷ ws) ≡ (w ++ words_behind ws) ++ 10 ∷ []

@@ -1,7 +1,7 @@
 //! How many verdicts of each kind there are.
 
 ghost use Rattle.std.specs.Prelude.{◌≡◌, ◌+◌, ◌∷◌, ◌<◌, ◌^◌, [], map};
-ghost use Rattle.pf_script.specs.Report.{count_refused, count_repeated, count_taken};
+ghost use Rattle.pf_journal.specs.Replies.{count_refused, count_repeated, count_taken};
 ghost use Rattle.pf_store.specs.Verdicts.{verdict_of};
 
 use pf_store::Verdict;

@@ -94,7 +94,7 @@ fn push_more_points(out: &mut Vec<u8>, points: &[Sample]) -> Result<(), OutOfMem
     Ok(())
 }
 
-fn push_points(out: &mut Vec<u8>, points: &[Sample]) -> Result<(), OutOfMemory>
+pub fn push_points(out: &mut Vec<u8>, points: &[Sample]) -> Result<(), OutOfMemory>
     ensures ok { OnOk result (out.new.items ≡ out.old.items ++ comma_joined point_text points.now) }
     ensures kept { take (vec_len out.old) out.new.items ≡ out.old.items }
 {
@@ -128,7 +128,7 @@ fn push_labels(alloc: Global, out: &mut Vec<u8>, labels: &Labels) -> Result<(), 
     Ok(())
 }
 
-fn push_metric(alloc: Global, out: &mut Vec<u8>, labels: &Labels) -> Result<(), OutOfMemory>
+pub fn push_metric(alloc: Global, out: &mut Vec<u8>, labels: &Labels) -> Result<(), OutOfMemory>
     ensures ok { OnOk result (out.new.items
         ≡ out.old.items ++ (codes "{\"metric\":" ++ labels_text labels.now)) }
     ensures kept { take (vec_len out.old) out.new.items ≡ out.old.items }

@@ -2,7 +2,7 @@
 
 ghost use Rattle.std.specs.Prelude.{◌≡◌, ◌++◌, map, OnOk, take, vec_len};
 ghost use Rattle.pf_model.specs.Log.{differs, too_old};
-ghost use Rattle.pf_script.specs.Report.{refusal_text, refusals_from};
+ghost use Rattle.pf_journal.specs.Replies.{refusal_text, refusals_from};
 ghost use Rattle.pf_store.specs.Verdicts.{verdict_of};
 
 use crate::word::{Word, push_line, push_line_with_value};

@@ -2,7 +2,7 @@
 
 ghost use Rattle.std.specs.Prelude.{◌≡◌, ◌<◌, [], ◌∷◌, ◌++◌, length, map, OnOk, take, vec_len};
 ghost use Rattle.pf_base.specs.NumberTexts.{value_text};
-ghost use Rattle.pf_script.specs.Report.{line_text};
+ghost use Rattle.pf_journal.specs.Replies.{line_text};
 ghost use Rattle.pf_report.specs.Words.{word_text, words_behind, words_joined};
 
 use crate::json_text::push_number;

@@ -1,5 +1,5 @@
 use Rattle.std.proofs.Common.{◌≡◌, ◌++◌, drop, map, take, vec_len}
-use Rattle.pf_script.specs.Report.{refusals_from}
+use Rattle.pf_journal.specs.Replies.{refusals_from}
 use Rattle.pf_store.specs.Verdicts.{verdict_of}
 use Rattle.pf_report.proofs.refused_rows.push_refused_rows.Given as goal
 

@@ -1,5 +1,5 @@
 use Rattle.std.proofs.Common.{◌≡◌, ◌+◌, drop, map}
-use Rattle.pf_script.specs.Report.{count_refused, count_repeated, count_taken}
+use Rattle.pf_journal.specs.Replies.{count_refused, count_repeated, count_taken}
 use Rattle.pf_store.specs.Verdicts.{verdict_of}
 use Rattle.pf_report.proofs.counts.Counts.of.Given as goal
 
