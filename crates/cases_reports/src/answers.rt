@@ -6,7 +6,7 @@ use cases_rows::setting::{Part, Setting};
 use pf_base::{OutOfMemory, Sample, Text};
 use pf_matrix::{Matrix, MatrixRow};
 use pf_model::{ErrorKind, Kind};
-use pf_report::{Body, push_answered, push_evaluation, push_waiting};
+use pf_report::{Body, push_answered, push_error, push_evaluation, push_waiting};
 
 /// A point `TIME MICROS`.
 fn point_of(out: &mut Output, line: &str) -> Sample {
@@ -145,4 +145,10 @@ pub fn evaluated(
 ) -> Result<(), OutOfMemory> {
     let body = body_of(out, setting, text);
     push_evaluation(out.alloc(), line, &body)
+}
+
+/// `KIND MESSAGE`.
+pub fn error(out: &mut Output, line: &mut Vec<u8>, text: &str) -> Result<(), OutOfMemory> {
+    let (kind, message) = cut(text);
+    push_error(out.alloc(), line, kind, message)
 }

@@ -29,6 +29,7 @@ pub enum Form {
     Answered,
     Waiting,
     Evaluated,
+    ErrorBody,
     Entry,
 }
 
@@ -52,6 +53,7 @@ impl Form {
             "answered" => Form::Answered,
             "waiting" => Form::Waiting,
             "evaluation text" => Form::Evaluated,
+            "error body" => Form::ErrorBody,
             "entry" => Form::Entry,
             _ => return None,
         };
@@ -98,6 +100,7 @@ impl Form {
             Form::Answered => answers::answered(out, line, setting, text),
             Form::Waiting => answers::waiting(out, line, text),
             Form::Evaluated => answers::evaluated(out, line, setting, text),
+            Form::ErrorBody => answers::error(out, line, text),
             Form::Entry => entries::entry(out, line, text),
         }
     }

@@ -1,5 +1,5 @@
 -- The texts of answers are those that the definitions give of what was told and entered.
-use Rattle.std.proofs.Common.{◌≡◌, ℕ, Option, Some, Ok, Err, Bool, true, false, List, [], ◌∷◌, codes, refl, ap, sym, ◌∙◌}
+use Rattle.std.proofs.Common.{◌≡◌, ℕ, Option, Some, None, Ok, Err, Bool, true, false, List, [], ◌∷◌, codes, refl, ap, sym, ◌∙◌}
 use Rattle.std.specs.Fmt.{decimal, digits}
 use Rattle.pf_base.specs.declared.plain.Limits.{Limits}
 use Rattle.pf_base.specs.declared.plain.Row.{Row}
@@ -9,12 +9,12 @@ use Rattle.pf_model.specs.declared.expr.Kind.TheVariants as kinds
 use Rattle.pf_model.specs.Direct.{Answer, MatrixRow, gathered, failed, direct}
 use Rattle.pf_journal.specs.Asking.{Asked}
 use Rattle.pf_journal.specs.Bodies.{body_text, memory_body, result_text}
+use Rattle.pf_journal.specs.Entered.{what_of}
 use Rattle.pf_journal.specs.Evaluations.{evaluated_text, evaluation_text}
 use Rattle.pf_journal.specs.Legal.{Moment}
 use Rattle.pf_journal.specs.Machine.{What, answer, full, no_tenant, Open, answer_of, code_of, open_at}
 use Rattle.pf_journal.specs.Replies.{answer_reply, answered, asking_refusal, body_of, refused_reply, reply_line, unasked, unentered_reply}
 use Rattle.pf_journal.specs.Rest.{Known, Told, nothing, no_memory, waiting, failed_five}
-use Rattle.pf_journal.specs.Scripts.{Line}
 use Rattle.pf_journal.specs.Turns.{Ran, Turn}
 use Rattle.pf_report.specs.Bodies.{answer_body, code_in, result_body, text_of}
 use Rattle.pf_report.specs.declared.bodies.Body.{Body}
@@ -72,44 +72,66 @@ memory_is = refl
 
 -- ---- answers
 
-abbrev saying : Moment → What → Moment
-saying x what = record { before = x.before; entry = record { client = x.entry.client; line = x.entry.line; what = what } }
+-- the reply to an answer, had its moment this entry
+abbrev answered_as : Known → ℕ → List ℕ → Turn → Moment → What → List ℕ
+answered_as known n id t x what =
+    answer_reply known n id t
+    (Some (record { before = x.before; entry = record { client = x.entry.client; line = x.entry.line; what = what } }))
 
 pub answer_entered : (known : Known) (n : ℕ) (id : List ℕ) (t : Turn) (x : Moment) (query code cached evaluated : ℕ)
     → x.entry.what ≡ answer query code cached evaluated
     → answered n id (decimal code) cached evaluated (body_of known.limits t.ran.told code (open_at query x.before.queries))
     ≡ answer_reply known n id t (Some x)
-answer_entered known n id t x query code cached evaluated e = ap (λ w. answer_reply known n id t (Some (saying x w))) (sym e)
+answer_entered known n id t x query code cached evaluated e = ap (answered_as known n id t x) (sym e)
 
-pub answer_waits : (known : Known) (n : ℕ) (id : List ℕ) (t : Turn) (jobs : ℕ)
-    → reply_line n (codes "answer") id (codes "waiting" ∷ decimal jobs ∷ []) ≡ unentered_reply known n id t (waiting jobs)
-answer_waits known n id t jobs = refl
+pub answer_waits : (known : Known) (n : ℕ) (id : List ℕ) (t : Turn) (jobs : ℕ) → t.ran.told ≡ waiting jobs
+    → reply_line n (codes "answer") id (codes "waiting" ∷ decimal jobs ∷ []) ≡ answer_reply known n id t None
+answer_waits known n id t jobs e = ap (unentered_reply known n id t) (sym e)
 
-pub answer_lacks : (known : Known) (n : ℕ) (id : List ℕ) (t : Turn)
-    → answered n id (decimal 507) 0 0 (text_of OutOfMemory) ≡ unentered_reply known n id t no_memory
+pub answer_lacks : (known : Known) (n : ℕ) (id : List ℕ) (t : Turn) → t.ran.told ≡ no_memory
+    → answered n id (decimal 507) 0 0 (text_of OutOfMemory) ≡ answer_reply known n id t None
 unfolding digits
-answer_lacks known n id t = refl
+answer_lacks known n id t e = ap (unentered_reply known n id t) (sym e)
 
--- those of refused asks
-pub answer_refused : (known : Known) (n : ℕ) (id : List ℕ) (asking : Line)
-    → answered n id (decimal 400) 0 0 (text_of (Refused (asking_refusal known asking))) ≡ unasked known n id asking nothing
-unfolding digits
-answer_refused known n id asking = refl
+-- of a refused ask
+of_refused : (known : Known) (n : ℕ) (id : List ℕ) (t : Turn) → t.ran.told ≡ nothing
+    → refused_reply known n id t.asking (what_of t.asked) ≡ answer_reply known n id t None
+of_refused known n id t e = ap (unentered_reply known n id t) (sym e)
 
-pub answer_unasked : (known : Known) (n : ℕ) (id : List ℕ) (asking : Line)
-    → answered n id (decimal 507) 0 0 (text_of OutOfMemory) ≡ unasked known n id asking no_memory
+pub answer_filled : (known : Known) (n : ℕ) (id : List ℕ) (t : Turn) (u outstanding : ℕ)
+    → t.ran.told ≡ nothing → what_of t.asked ≡ Some (full u outstanding)
+    → answered n id (decimal 429) 0 0 (text_of Full) ≡ answer_reply known n id t None
 unfolding digits
-answer_unasked known n id asking = refl
+answer_filled known n id t u outstanding e a =
+    ap (refused_reply known n id t.asking) (sym a) ∙ of_refused known n id t e
 
-pub answer_filled : (known : Known) (n : ℕ) (id : List ℕ) (asking : Option Ran) (u outstanding : ℕ)
-    → answered n id (decimal 429) 0 0 (text_of Full) ≡ refused_reply known n id asking (Some (full u outstanding))
+pub answer_unknown : (known : Known) (n : ℕ) (id : List ℕ) (t : Turn) (name : List ℕ)
+    → t.ran.told ≡ nothing → what_of t.asked ≡ Some (no_tenant name)
+    → answered n id (decimal 503) 0 0 (text_of TooManyTenants) ≡ answer_reply known n id t None
 unfolding digits
-answer_filled known n id asking u outstanding = refl
+answer_unknown known n id t name e a =
+    ap (refused_reply known n id t.asking) (sym a) ∙ of_refused known n id t e
 
-pub answer_unknown : (known : Known) (n : ℕ) (id : List ℕ) (asking : Option Ran) (name : List ℕ)
-    → answered n id (decimal 503) 0 0 (text_of TooManyTenants) ≡ refused_reply known n id asking (Some (no_tenant name))
+-- of an ask without an entry
+of_unentered : (known : Known) (n : ℕ) (id : List ℕ) (t : Turn) (r : Ran)
+    → t.ran.told ≡ nothing → what_of t.asked ≡ None → t.asking ≡ Some r
+    → unasked known n id r.line.line r.told ≡ answer_reply known n id t None
+of_unentered known n id t r e a k =
+    ap (λ q. refused_reply known n id q None) (sym k) ∙ ap (refused_reply known n id t.asking) (sym a) ∙ of_refused known n id t e
+
+pub answer_refused : (known : Known) (n : ℕ) (id : List ℕ) (t : Turn) (r : Ran)
+    → t.ran.told ≡ nothing → what_of t.asked ≡ None → t.asking ≡ Some r → r.told ≡ nothing
+    → answered n id (decimal 400) 0 0 (text_of (Refused (asking_refusal known r.line.line))) ≡ answer_reply known n id t None
 unfolding digits
-answer_unknown known n id asking name = refl
+answer_refused known n id t r e a k m =
+    ap (unasked known n id r.line.line) (sym m) ∙ of_unentered known n id t r e a k
+
+pub answer_unasked : (known : Known) (n : ℕ) (id : List ℕ) (t : Turn) (r : Ran)
+    → t.ran.told ≡ nothing → what_of t.asked ≡ None → t.asking ≡ Some r → r.told ≡ no_memory
+    → answered n id (decimal 507) 0 0 (text_of OutOfMemory) ≡ answer_reply known n id t None
+unfolding digits
+answer_unasked known n id t r e a k m =
+    ap (unasked known n id r.line.line) (sym m) ∙ of_unentered known n id t r e a k
 
 -- ---- evaluations
 

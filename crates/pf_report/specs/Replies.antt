@@ -49,6 +49,9 @@ delete_words deleting.JournalFull = journal_words
 delete_words deleting.OutOfMemory = memory_words
 delete_words deleting.TooManyTenants = tenants_words
 
+abbrev pub delete_text : ℕ → List ℕ → DeleteReply → List ℕ
+delete_text n tenant reply = reply_line n (codes "delete") tenant (delete_words reply)
+
 -- ---- ask and instant
 
 abbrev pub ask_words : AskReply → List (List ℕ)
@@ -56,13 +59,19 @@ ask_words (asking.Asked pin place) = codes "pin" ∷ decimal pin ∷ codes "plac
 ask_words (asking.Refused code) = refused_words (decimal code)
 ask_words asking.JournalFull = journal_words
 
+abbrev pub ask_text : ℕ → List ℕ → AskReply → List ℕ
+ask_text n id reply = reply_line n (codes "ask") id (ask_words reply)
+
 -- ---- cancel
 
-abbrev pub cancel_reply_words : CancelReply → List (List ℕ)
-cancel_reply_words cancelling.Done = codes "done" ∷ []
-cancel_reply_words cancelling.NotOutstanding = not_outstanding_words
-cancel_reply_words (cancelling.OtherTenant owner) = codes "other" ∷ codes "tenant" ∷ owner.now ∷ []
-cancel_reply_words (cancelling.Already place) = codes "already" ∷ decimal place ∷ []
+abbrev pub cancel_words : CancelReply → List (List ℕ)
+cancel_words cancelling.Done = codes "done" ∷ []
+cancel_words cancelling.NotOutstanding = not_outstanding_words
+cancel_words (cancelling.OtherTenant owner) = codes "other" ∷ codes "tenant" ∷ owner.now ∷ []
+cancel_words (cancelling.Already place) = codes "already" ∷ decimal place ∷ []
+
+abbrev pub cancel_text : ℕ → List ℕ → CancelReply → List ℕ
+cancel_text n id reply = reply_line n (codes "cancel") id (cancel_words reply)
 
 -- ---- answer
 

@@ -1,6 +1,7 @@
 -- The replies to step lines, as the definitions say them. This project's own.
 use Rattle.std.specs.Prelude.{ℕ, List, [], ◌∷◌, codes}
 use Rattle.std.specs.Fmt.{decimal}
+use Rattle.pf_journal.specs.Replies.{reply_line}
 use Rattle.pf_journal.specs.Steps as steps
 use Rattle.pf_report.specs.declared.steps.DoneReply.{DoneReply}
 use Rattle.pf_report.specs.declared.steps.DoneReply.TheVariants as done
@@ -30,12 +31,15 @@ take_of take.NoneWaits = steps.none_waits
 take_of take.Busy = steps.busy
 
 -- what a `take` is told, with the name of the tenant that asked the job's query
-abbrev pub take_reply_words : TakeReply → List (List ℕ)
-take_reply_words (take.Took tenant query job leg first last) =
+abbrev pub take_words : TakeReply → List (List ℕ)
+take_words (take.Took tenant query job leg first last) =
     tenant.now ∷ codes "query" ∷ decimal query ∷ codes "job" ∷ decimal job ∷ codes "leg" ∷ decimal leg
     ∷ codes "first" ∷ decimal first ∷ codes "last" ∷ decimal last ∷ []
-take_reply_words take.NoneWaits = codes "none" ∷ []
-take_reply_words take.Busy = codes "busy" ∷ []
+take_words take.NoneWaits = codes "none" ∷ []
+take_words take.Busy = codes "busy" ∷ []
+
+abbrev pub take_text : (n worker : ℕ) → TakeReply → List ℕ
+take_text n worker reply = reply_line n (codes "take") (decimal worker) (take_words reply)
 
 abbrev pub done_of : DoneReply → steps.DoneReply
 done_of done.Stored = steps.stored

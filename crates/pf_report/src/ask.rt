@@ -1,8 +1,7 @@
 //! The replies to `ask` and `instant`.
 
-ghost use Rattle.std.specs.Prelude.{◌≡◌, ◌++◌, codes, OnOk, take, vec_len};
-ghost use Rattle.pf_journal.specs.Replies.{reply_line};
-ghost use Rattle.pf_report.specs.Replies.{ask_words};
+ghost use Rattle.std.specs.Prelude.{◌≡◌, ◌++◌, OnOk, take, vec_len};
+ghost use Rattle.pf_report.specs.Replies.{ask_text};
 
 use crate::replies::{push_journal_full, push_reply};
 use crate::word::Word;
@@ -25,7 +24,7 @@ pub fn push_ask_reply(
     id: &str,
     reply: &AskReply,
 ) -> Result<(), OutOfMemory>
-    ensures ok { OnOk result (out.new.items ≡ out.old.items ++ reply_line number (codes "ask") id.now (ask_words reply.now)) }
+    ensures ok { OnOk result (out.new.items ≡ out.old.items ++ ask_text number id.now reply.now) }
     ensures kept { take (vec_len out.old) out.new.items ≡ out.old.items }
 {
     match *reply {

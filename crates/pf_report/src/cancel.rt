@@ -1,8 +1,7 @@
 //! The replies to `cancel`.
 
-ghost use Rattle.std.specs.Prelude.{◌≡◌, ◌++◌, codes, OnOk, take, vec_len};
-ghost use Rattle.pf_journal.specs.Replies.{reply_line};
-ghost use Rattle.pf_report.specs.Replies.{cancel_reply_words};
+ghost use Rattle.std.specs.Prelude.{◌≡◌, ◌++◌, OnOk, take, vec_len};
+ghost use Rattle.pf_report.specs.Replies.{cancel_text};
 
 use crate::replies::push_reply;
 use crate::word::Word;
@@ -27,7 +26,7 @@ pub fn push_cancel_reply(
     id: &str,
     reply: &CancelReply<'_>,
 ) -> Result<(), OutOfMemory>
-    ensures ok { OnOk result (out.new.items ≡ out.old.items ++ reply_line number (codes "cancel") id.now (cancel_reply_words reply.now)) }
+    ensures ok { OnOk result (out.new.items ≡ out.old.items ++ cancel_text number id.now reply.now) }
     ensures kept { take (vec_len out.old) out.new.items ≡ out.old.items }
 {
     match *reply {

@@ -1,8 +1,7 @@
 //! The replies to `delete`.
 
-ghost use Rattle.std.specs.Prelude.{◌≡◌, ◌++◌, codes, OnOk, take, vec_len};
-ghost use Rattle.pf_journal.specs.Replies.{reply_line};
-ghost use Rattle.pf_report.specs.Replies.{delete_words};
+ghost use Rattle.std.specs.Prelude.{◌≡◌, ◌++◌, OnOk, take, vec_len};
+ghost use Rattle.pf_report.specs.Replies.{delete_text};
 
 use crate::replies::{push_journal_full, push_no_memory, push_reply, push_too_many_tenants};
 use crate::word::Word;
@@ -28,7 +27,7 @@ fn push_deleted(
     generation: u64,
     entry: u64,
 ) -> Result<(), OutOfMemory>
-    ensures ok { OnOk result (out.new.items ≡ out.old.items ++ reply_line number (codes "delete") tenant.now (delete_words (DeleteReply.Deleted generation entry))) }
+    ensures ok { OnOk result (out.new.items ≡ out.old.items ++ delete_text number tenant.now (DeleteReply.Deleted generation entry)) }
     ensures kept { take (vec_len out.old) out.new.items ≡ out.old.items }
 {
     let words = [
@@ -47,7 +46,7 @@ pub fn push_delete_reply(
     tenant: &str,
     reply: &DeleteReply,
 ) -> Result<(), OutOfMemory>
-    ensures ok { OnOk result (out.new.items ≡ out.old.items ++ reply_line number (codes "delete") tenant.now (delete_words reply.now)) }
+    ensures ok { OnOk result (out.new.items ≡ out.old.items ++ delete_text number tenant.now reply.now) }
     ensures kept { take (vec_len out.old) out.new.items ≡ out.old.items }
 {
     match *reply {

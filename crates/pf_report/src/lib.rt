@@ -32,6 +32,7 @@ pub use bodies::{Body, push_body};
 pub use cancel::{CancelReply, push_cancel_reply};
 pub use delete::{DeleteReply, push_delete_reply};
 pub use entries::{EntryWords, push_entry, push_journal_head};
+pub use error_json::push_error;
 pub use evaluations::push_evaluation;
 pub use ingest::{FileFault, IngestReply, push_ingest_reply};
 pub use steps::{

@@ -3,7 +3,7 @@
 ghost use Rattle.std.specs.Prelude.{◌≡◌, ◌∷◌, ◌++◌, codes, decimal, map, OnOk, take, vec_len};
 ghost use Rattle.pf_journal.specs.Rest.{of_done, of_keep, of_plan};
 ghost use Rattle.pf_journal.specs.Replies.{done_words, keep_words, plan_words, reply_line, stop_words};
-ghost use Rattle.pf_report.specs.Steps.{done_of, keep_of, plan_of, stop_of, take_reply_words};
+ghost use Rattle.pf_report.specs.Steps.{done_of, keep_of, plan_of, stop_of, take_text};
 ghost use Rattle.pf_report.specs.Words.{word_text};
 
 use crate::replies::push_reply;
@@ -135,7 +135,7 @@ pub fn push_take_reply(
     worker: u32,
     reply: &TakeReply<'_>,
 ) -> Result<(), OutOfMemory>
-    ensures ok { OnOk result (out.new.items ≡ out.old.items ++ reply_line number (codes "take") (decimal worker) (take_reply_words reply.now)) }
+    ensures ok { OnOk result (out.new.items ≡ out.old.items ++ take_text number worker reply.now) }
     ensures kept { take (vec_len out.old) out.new.items ≡ out.old.items }
 {
     match *reply {
