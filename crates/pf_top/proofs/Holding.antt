@@ -4,13 +4,13 @@ use Rattle.std.specs.BTreeMap.{get_by_text}
 use Rattle.std.specs.Str.{bytes_eq}
 use Rattle.std.proofs.lemmas.Slice.Eq.{bytes_eq-Decides}
 use Rattle.pf_io.specs.Outside.{Holds}
-use Rattle.pf_script.specs.Scripts.{most_bytes}
-use Rattle.pf_top.specs.Correct.{Agree, Held, all_of}
-use Rattle.pf_top.specs.Files.{AreHeld, Contents, HoldsContent}
+use Rattle.pf_journal.specs.Scripts.{most_bytes}
+use Rattle.pf_top.specs.Correct.{Agree, Held}
+use Rattle.pf_top.specs.Files.{AreHeld, AreTold, Contents, HoldsContent, TellsContent}
 use Rattle.pf_top.specs.declared.loaded.Content.{Content}
 use Rattle.pf_top.specs.declared.loaded.Content.TheVariants.{Bytes, TooLong}
 use Rattle.pf_top.proofs.Lists.{some_is}
-use Rattle.pf_top.proofs.Machines.{bool_cases}
+use Rattle.pf_top.proofs.Cases.{bool_cases}
 
 -- some bytes are longer than a length
 longer : (n : ℕ) → (bytes : List ℕ) × (n < length bytes)
@@ -25,23 +25,22 @@ held_at (Some TooLong) None = (longer most_bytes).0
 held_at None (Some there) = there
 held_at None None = []
 
-agree_at : (read : Option Content) (told : Option (List ℕ)) → ((c : Content) → read ≡ Some c → HoldsContent told c) → Holds told (held_at read told)
+agree_at : (read : Option Content) (told : Option (List ℕ)) → ((c : Content) → read ≡ Some c → TellsContent told c) → Holds told (held_at read told)
 agree_at (Some (Bytes bytes)) told h = (h (Bytes bytes) refl).0
 agree_at (Some TooLong) (Some there) h = refl
 agree_at (Some TooLong) None h = tt
 agree_at None (Some there) h = refl
 agree_at None None h = tt
 
-same_at : (read : Option Content) (told : Option (List ℕ)) → ((c : Content) → read ≡ Some c → HoldsContent told c)
-    → (c : Content) → read ≡ Some c → HoldsContent (Some (held_at read told)) c
-same_at (Some (Bytes bytes)) told h c e =
-    subst (HoldsContent (Some bytes.items)) (some_is (Bytes bytes) c e) (refl, (h (Bytes bytes) refl).1)
-same_at (Some TooLong) (Some there) h c e = subst (HoldsContent (Some there)) (some_is TooLong c e) (h TooLong refl)
-same_at (Some TooLong) None h c e = subst (HoldsContent (Some (longer most_bytes).0)) (some_is TooLong c e) (longer most_bytes).1
+same_at : (read : Option Content) (told : Option (List ℕ)) → ((c : Content) → read ≡ Some c → TellsContent told c)
+    → (c : Content) → read ≡ Some c → HoldsContent (held_at read told) c
+same_at (Some (Bytes bytes)) told h c e = subst (HoldsContent bytes.items) (some_is (Bytes bytes) c e) (refl, (h (Bytes bytes) refl).1)
+same_at (Some TooLong) (Some there) h c e = subst (HoldsContent there) (some_is TooLong c e) (h TooLong refl)
+same_at (Some TooLong) None h c e = subst (HoldsContent (longer most_bytes).0) (some_is TooLong c e) (longer most_bytes).1
 same_at None told h c e = cc
 
 -- of what is kept
-pub holding : (told : List ℕ → Option (List ℕ)) (kept : Contents) → AreHeld told kept → (held : Held) × (Agree told held × AreHeld (all_of held) kept)
+pub holding : (told : List ℕ → Option (List ℕ)) (kept : Contents) → AreTold told kept → (held : Held) × (Agree told held × AreHeld held kept)
 holding told kept h = (
   λ name. held_at (get_by_text kept name) (told name),
   (
@@ -51,9 +50,9 @@ holding told kept h = (
 )
 
 -- of one file
-pub holding_one : (told : Option (List ℕ)) (content : Content) → HoldsContent told content → (bytes : List ℕ) × (Holds told bytes × HoldsContent (Some bytes) content)
+pub holding_one : (told : Option (List ℕ)) (content : Content) → TellsContent told content → (bytes : List ℕ) × (Holds told bytes × HoldsContent bytes content)
 holding_one told content h =
-    let all : (c : Content) → Some content ≡ Some c → HoldsContent told c = λ c e. subst (HoldsContent told) (some_is content c e) h in
+    let all : (c : Content) → Some content ≡ Some c → TellsContent told c = λ c e. subst (TellsContent told) (some_is content c e) h in
     (held_at (Some content) told, (agree_at (Some content) told all, same_at (Some content) told all content refl))
 
 -- of no file

@@ -1,22 +1,21 @@
 -- What the steps of a replay give is what a run may print.
-use Rattle.std.proofs.Common.{◌≡◌, ℕ, ◌<◌, ◌≤◌, inl, inr, Bool, true, false, cond, nat_le, Option, Some, None, List, [], ◌∷◌, refl, arith, sym, ap, ◌∙◌, append-nil, length, take, subst, true≢false}
-use Rattle.std.specs.Prelude.{option_and_then}
+use Rattle.std.proofs.Common.{◌≡◌, ℕ, ◌<◌, ◌≤◌, inl, inr, Bool, true, false, cond, nat_le, Option, Some, None, Result, Ok, Err, List, [], ◌∷◌, refl, arith, sym, ap, ◌∙◌, append-nil, length, take, subst, true≢false}
 use Rattle.std.specs.BTreeMap.{get_by_text}
 use Rattle.std.proofs.lemmas.Bool.Decides.{nat_tests}
 use Rattle.pf_base.specs.declared.plain.Limits.{Limits}
 use Rattle.pf_io.specs.Outside.{Rose, Holds, Grows, LongerThan, StayKnown}
 use Rattle.pf_model.specs.Lists.{Each}
-use Rattle.pf_model.specs.Cuts.{kept}
-use Rattle.pf_script.specs.Scripts.{Numbered, evaluation_words, script_of, script_word, most_bytes}
-use Rattle.pf_script.specs.Weave.{Files}
+use Rattle.pf_model.specs.Exposition.{file_lines}
+use Rattle.pf_journal.specs.Scripts.{Numbered, is_stepped, lines_from, most_bytes, script_of}
 use Rattle.pf_script.specs.Lines.{AllFollow, IsRead, lines_of}
 use Rattle.pf_script.specs.declared.script.Script.{Script}
-use Rattle.pf_top.specs.Correct.{Agree, AllRead, AreScripts, Correct, EndsWell, FilesSeen, HasFailed, Held, IsOutput, IsUnbuilt, Outside, Reaches, Reported, all_of, files_of, needed, needed_by, script_files}
+use Rattle.pf_top.specs.Correct.{Agree, AllRead, AreScripts, Correct, EndsWell, FilesSeen, HasFailed, Held, IsOutput, IsUnbuilt, Outside, Reaches, Refused, Reported, files_of, needed, needed_by, script_files}
 use Rattle.pf_top.specs.Drives.{AreShort, CanRun, IsReport}
-use Rattle.pf_top.specs.Files.{AreHeld, AreLoaded, Contents, HoldsContent, IsKept, NamesFile}
+use Rattle.pf_top.specs.Files.{AreHeld, AreLoaded, Contents, IsKept, NamesFile, TellsContent}
 use Rattle.pf_top.specs.Queries.{AreReadAs, IsKeptFor}
 use Rattle.pf_top.specs.Outputs.{IsPrinted, IsReplay, IsRun, IsScriptOutput, IsWordsOutput}
-use Rattle.pf_top.specs.Refusals.{refused_read, refused_not_built}
+use Rattle.pf_top.specs.Refusals.{refused_not_built, refused_read, refused_script}
+use Rattle.pf_top.specs.Words.{evaluation_words, script_word}
 use Rattle.std.specs.declared.vec.Vec.{Vec}
 use Rattle.std.specs.declared.alloc.Global.{Global}
 use Rattle.pf_top.specs.declared.loaded.Content.{Content}
@@ -28,18 +27,18 @@ use Rattle.pf_top.proofs.Texts.{each_file, failed_since, held_short, read_there}
 -- ---- once the script is read
 
 -- contents that were loaded are short
-pub loaded_short : (told : Files) (lost : List ℕ → Bool) (first : Contents) (lines : List Numbered) (kept : Contents) → AreLoaded told lost first lines kept → AreShort kept
+pub loaded_short : (told : List ℕ → Option (List ℕ)) (lost : List ℕ → Bool) (first : Contents) (lines : List Numbered) (kept : Contents) → AreLoaded told lost first lines kept → AreShort kept
 loaded_short told lost first lines kept l name content g = held_short told kept name content l.held g
 
 -- the bytes of the script are kept as they are held
-script_held : (held : Held) (kept : Contents) (script : List ℕ) (bytes : Vec ℕ Global) → AreHeld (all_of held) kept
+script_held : (held : Held) (kept : Contents) (script : List ℕ) (bytes : Vec ℕ Global) → AreHeld held kept
     → get_by_text kept script ≡ Some (Bytes bytes) → held script ≡ bytes.items
-script_held held kept script bytes h g = sym ((h script (Bytes bytes) g).0)
+script_held held kept script bytes h g = (h script (Bytes bytes) g).0
 
 -- what a run gives, over one reading of each file
 pub replayed : (limits : Limits) (files : FilesSeen) (script : List ℕ) (bytes : Vec ℕ Global) (lines : List Numbered) (first kept : Contents) (status : ℕ) (text : List ℕ)
     → AreLoaded files.told files.lost first lines kept → get_by_text first script ≡ Some (Bytes bytes) → files.after ≡ files.before
-    → ((told : Files) → AreHeld told kept → IsRun limits told lines status text)
+    → ((held : Held) → AreHeld held kept → IsRun limits held lines status text)
     → IsReplay limits files script bytes.items lines status text
 replayed limits files script bytes lines first kept status text loaded at_hand steady run =
     let h = holding files.told kept loaded.held in
@@ -52,7 +51,7 @@ replayed limits files script bytes lines first kept status text loaded at_hand s
           there = each_file (λ name. files.lost name ≡ false) lines (read_there files.told files.lost first kept lines loaded);
           steady = steady;
         },
-        run (all_of h.0) h.1.1,
+        run h.0 h.1.1,
       );
     }
 
@@ -68,87 +67,115 @@ replay_failed limits files script bytes name given lines status text holds reach
 pub can_run : (script : Script) (loaded : Loaded) → AreShort loaded.files
     → ((name : List ℕ) → NamesFile (lines_of script) name → IsKept loaded.files name)
     → AreReadAs loaded.queries × Each (λ l. IsKeptFor loaded.queries l.line) (lines_of script)
-    → Each IsRead script.lines.items → AllFollow [] (lines_of script) → CanRun script loaded
-can_run script loaded short there queries read following =
-    record { short = short; files = there; right = queries.0; texts = queries.1; read = read; following = following }
+    → Each IsRead script.lines.items → AllFollow [] (lines_of script) → is_stepped (lines_of script) ≡ false → CanRun script loaded
+can_run script loaded short there queries read following unstepped =
+    record { short = short; files = there; right = queries.0; texts = queries.1; read = read; following = following; unstepped = unstepped }
 
 -- what a run gives, once the script and the files are read, by its report
-pub run_ended : (limits : Limits) (files : Files) (lines : List Numbered) (full : Bool) (status : ℕ) (text : List ℕ)
-    → status ≡ cond full 8 0 → IsReport limits files lines full text → IsRun limits files lines status text
-run_ended limits files lines false status text is r = inl (is, r)
-run_ended limits files lines true status text is r = inr (is, r)
+pub run_ended : (limits : Limits) (held : Held) (lines : List Numbered) (full : Bool) (status : ℕ) (text : List ℕ)
+    → status ≡ cond full 8 0 → IsReport limits held lines full text → IsRun limits held lines status text
+run_ended limits held lines false status text is r = inl (is, r)
+run_ended limits held lines true status text is r = inr (is, r)
 
 -- ---- by the words
 
 -- the script that was read is the one that the words name
 scripts_are : (held : Held) (word : Option (List ℕ)) (name : List ℕ) (lines : List Numbered)
-    → word ≡ Some name → script_of (held name) ≡ Some lines → AreScripts held word (lines ∷ [])
-scripts_are held word name lines p read =
+    → word ≡ Some name → script_of true (held name) ≡ Ok lines → is_stepped lines ≡ false → AreScripts held word (lines ∷ [])
+scripts_are held word name lines p read unstepped =
     let P : Option (List ℕ) → Type 0 = λ w. AreScripts held w (lines ∷ []) in
-    subst P (sym p) (lines, (refl, read))
+    subst P (sym p) (lines, (refl, (read, unstepped)))
 
 module _ (held : Held) (words : List (List ℕ)) (name : List ℕ) (is : script_word words ≡ Some name) where
-  needed_script : needed held words ≡ name ∷ script_files (script_of (held name))
+  needed_script : needed held words ≡ name ∷ script_files (script_of true (held name))
   needed_script = ap (λ (w : Option (List ℕ)). needed_by held w (evaluation_words words)) is
 
-  needed_lines : (lines : List Numbered) → script_of (held name) ≡ Some lines → needed held words ≡ name ∷ files_of lines
-  needed_lines lines read = needed_script ∙ ap (λ (s : Option (List Numbered)). name ∷ script_files s) read
+  -- what is needed of a script by whether it has step lines, and of one that is refused
+  needed_lines : (lines : List Numbered) (stepped : Bool) → script_of true (held name) ≡ Ok lines → is_stepped lines ≡ stepped
+      → needed held words ≡ name ∷ cond stepped [] (files_of lines)
+  needed_lines lines stepped read is_so =
+      needed_script ∙ ap (λ (s : Result (List Numbered) ℕ). name ∷ script_files s) read
+      ∙ ap (λ (b : Bool). name ∷ cond b [] (files_of lines)) is_so
 
-  all_read : (files : FilesSeen) (lines : List Numbered) → script_of (held name) ≡ Some lines → files.lost name ≡ false
-      → AllRead files (files_of lines) → AllRead files (needed held words)
-  all_read files lines read found a = subst (AllRead files) (sym (needed_lines lines read)) (record { there = (found, a.there); steady = a.steady })
+  needed_alone : (line : ℕ) → script_of true (held name) ≡ Err line → needed held words ≡ name ∷ []
+  needed_alone line bad = needed_script ∙ ap (λ (s : Result (List Numbered) ℕ). name ∷ script_files s) bad
+
+  all_read : (files : FilesSeen) (names : List (List ℕ)) → needed held words ≡ name ∷ names → files.lost name ≡ false
+      → AllRead files names → AllRead files (needed held words)
+  all_read files names is_so found a = subst (AllRead files) (sym is_so) (record { there = (found, a.there); steady = a.steady })
 
   -- the report of the script is that of the words
   reported_by : (limits : Limits) (files : FilesSeen) (lines : List Numbered) (full : Bool) (text : List ℕ)
-      → script_of (held name) ≡ Some lines → AllRead files (needed held words) → IsReport limits (all_of held) lines full text
-      → Reported limits files held words full text
-  reported_by limits files lines full text read a r = record {
+      → script_of true (held name) ≡ Ok lines → is_stepped lines ≡ false → AllRead files (needed held words)
+      → IsReport limits held lines full text → Reported limits files held words full text
+  reported_by limits files lines full text read unstepped a r = record {
     all = a;
     scripts = lines ∷ [];
     journal = r.journal;
     names = r.names;
+    readings = r.readings;
     rest = r.rest;
-    read = scripts_are held (script_word words) name lines is read;
+    read = scripts_are held (script_word words) name lines is read unstepped;
     legal = r.legal;
-    known = r.known;
+    named = r.named;
     woven = r.woven;
     uncached = r.uncached;
+    fed = r.fed;
+    untried = r.untried;
     met = r.met;
     whole = r.whole;
   }
 
   -- what comes once the script is read is what comes by the words
-  printed_by : (limits : Limits) (files : FilesSeen) (lines : List Numbered) (status : ℕ) (text : List ℕ)
-      → script_of (held name) ≡ Some lines → files.lost name ≡ false
-      → IsScriptOutput limits files held lines status text → IsPrinted limits files held words status text
-  printed_by limits files lines status text read found (inl (a, inl (zero, r))) =
-      inl (zero, inl (reported_by limits files lines false text read (all_read files lines read found a) r))
-  printed_by limits files lines status text read found (inl (a, inr (eight, r))) =
-      inr (inl (eight, reported_by limits files lines true text read (all_read files lines read found a) r))
-  printed_by limits files lines status text read found (inr (four, (file, (reached, (fault, whole))))) =
-      inr (inr (inl (
-        four,
-        record {
-          name = file;
-          reached = subst (λ (ns : List (List ℕ)). Reaches files.lost ns file) (sym (needed_lines lines read)) (inr (found, reached));
-          fault = fault;
-          whole = whole;
-        },
-      )))
+  module _ (limits : Limits) (files : FilesSeen) (lines : List Numbered) (status : ℕ) (text : List ℕ)
+      (read : script_of true (held name) ≡ Ok lines) (unstepped : is_stepped lines ≡ false) (found : files.lost name ≡ false) where
+    printed_by : IsScriptOutput limits files held lines status text → IsPrinted limits files held words status text
+    printed_by (inl (a, inl (zero, r))) =
+        inl (zero, inl (reported_by limits files lines false text read unstepped
+        (all_read files (files_of lines) (needed_lines lines false read unstepped) found a) r))
+    printed_by (inl (a, inr (eight, r))) =
+        inr (inl (eight, reported_by limits files lines true text read unstepped
+        (all_read files (files_of lines) (needed_lines lines false read unstepped) found a) r))
+    printed_by (inr (four, (file, (reached, (fault, whole))))) =
+        inr (inr (inl (
+          four,
+          record {
+            name = file;
+            reached = subst (λ (ns : List (List ℕ)). Reaches files.lost ns file) (sym (needed_lines lines false read unstepped)) (inr (found, reached));
+            fault = fault;
+            whole = whole;
+          },
+        )))
 
-  -- a script of no form that is built
-  unbuilt_by : (limits : Limits) (files : FilesSeen) (status : ℕ) (text : List ℕ)
-      → script_of (held name) ≡ None → files.lost name ≡ false → files.after ≡ files.before → (status ≡ 9) × (text ≡ refused_not_built)
-      → IsPrinted limits files held words status text
-  unbuilt_by limits files status text none found steady p =
-      let only : needed held words ≡ name ∷ [] = needed_script ∙ ap (λ (s : Option (List Numbered)). name ∷ script_files s) none in
+  -- a script with step lines
+  unbuilt_by : (limits : Limits) (files : FilesSeen) (lines : List Numbered) (status : ℕ) (text : List ℕ)
+      → script_of true (held name) ≡ Ok lines → is_stepped lines ≡ true → files.lost name ≡ false → files.after ≡ files.before
+      → (status ≡ 9) × (text ≡ refused_not_built) → IsPrinted limits files held words status text
+  unbuilt_by limits files lines status text read stepped found steady p =
       inr (inr (inr (inl (
         p.0,
         record {
-          all = subst (AllRead files) (sym only) (record { there = (found, tt); steady = steady });
-          unbuilt = subst (λ (w : Option (List ℕ)). IsUnbuilt held w (evaluation_words words)) (sym is) none;
+          all = all_read files [] (needed_lines lines true read stepped) found (record { there = tt; steady = steady });
+          unbuilt = subst (λ (w : Option (List ℕ)). IsUnbuilt held w (evaluation_words words)) (sym is) (lines, (read, stepped));
           whole = p.1;
         },
+      ))))
+
+  -- a script that is refused
+  refused_by : (limits : Limits) (files : FilesSeen) (line status : ℕ) (text : List ℕ)
+      → script_of true (held name) ≡ Err line → files.lost name ≡ false → files.after ≡ files.before
+      → (status ≡ 3) × (text ≡ refused_script 0 line) → IsPrinted limits files held words status text
+  refused_by limits files line status text bad found steady p =
+      inr (inr (inr (inr (
+        p.0,
+        inr (record {
+          all = all_read files [] (needed_alone line bad) found (record { there = tt; steady = steady });
+          name = name;
+          by_words = is;
+          line = line;
+          refused = bad;
+          whole = p.1;
+        }),
       ))))
 
 -- what is seen since the script was read is seen since before
@@ -160,60 +187,71 @@ seen_since limits old resure middle held lines status text s m (inl (a, run)) = 
 seen_since limits old resure middle held lines status text s m (inr (four, (file, (reached, (fault, whole))))) =
     inr (four, (file, (reached, (failed_since old.sure resure old.before middle old.after old.failed file s (omega (arith, m)) fault, whole))))
 
-same_seen : (limits : Limits) (old : FilesSeen) (resure relost : List ℕ → Bool) (again : Files) (middle : ℕ) (script bytes : List ℕ) (lines : List Numbered) (status : ℕ) (text : List ℕ)
+same_seen : (limits : Limits) (old : FilesSeen) (resure relost : List ℕ → Bool) (again : List ℕ → Option (List ℕ)) (middle : ℕ) (script bytes : List ℕ) (lines : List Numbered) (status : ℕ) (text : List ℕ)
     → ((other : List ℕ) → again other ≡ old.told other) → ((other : List ℕ) → relost other ≡ old.lost other)
     → IsReplay limits (record { told = again; sure = resure; lost = relost; before = middle; after = old.after; failed = old.failed }) script bytes lines status text
     → IsReplay limits (record { told = old.told; sure = resure; lost = old.lost; before = middle; after = old.after; failed = old.failed }) script bytes lines status text
 same_seen limits old resure relost again middle script bytes lines status text told lost r =
     let all_told : again ≡ old.told = λ i other. told other i in
     let all_lost : relost ≡ old.lost = λ i other. lost other i in
-    subst (λ (t : Files). IsReplay limits (record { told = t; sure = resure; lost = old.lost; before = middle; after = old.after; failed = old.failed }) script bytes lines status text) all_told
+    subst (λ (t : List ℕ → Option (List ℕ)). IsReplay limits (record { told = t; sure = resure; lost = old.lost; before = middle; after = old.after; failed = old.failed }) script bytes lines status text) all_told
     (subst (λ (l : List ℕ → Bool). IsReplay limits (record { told = again; sure = resure; lost = l; before = middle; after = old.after; failed = old.failed }) script bytes lines status text) all_lost r)
 
-pub words_output : (limits : Limits) (old : FilesSeen) (resure relost : List ℕ → Bool) (again : Files) (middle : ℕ) (words : List (List ℕ)) (name bytes given : List ℕ) (lines : List Numbered) (status : ℕ) (text : List ℕ)
-    → script_word words ≡ Some name → given ≡ bytes → script_of given ≡ Some lines → old.lost name ≡ false
+pub words_output : (limits : Limits) (old : FilesSeen) (resure relost : List ℕ → Bool) (again : List ℕ → Option (List ℕ)) (middle : ℕ) (words : List (List ℕ)) (name bytes given : List ℕ) (lines : List Numbered) (status : ℕ) (text : List ℕ)
+    → script_word words ≡ Some name → given ≡ bytes → script_of true given ≡ Ok lines → is_stepped lines ≡ false → old.lost name ≡ false
     → ((other : List ℕ) → again other ≡ old.told other) → ((other : List ℕ) → relost other ≡ old.lost other) → StayKnown old.sure resure → middle ≡ old.before
     → IsReplay limits (record { told = again; sure = resure; lost = relost; before = middle; after = old.after; failed = old.failed }) name bytes lines status text
     → IsWordsOutput limits old words status text
-words_output limits old resure relost again middle words name bytes given lines status text word e read found told lost sure m o =
+words_output limits old resure relost again middle words name bytes given lines status text word e read unstepped found told lost sure m o =
     let r = same_seen limits old resure relost again middle name bytes lines status text told lost o in
     record {
       held = r.held;
       agree = r.agree;
-      printed = printed_by r.held words name word limits old lines status text (ap script_of (r.same ∙ sym e) ∙ read) found
+      printed = printed_by r.held words name word limits old lines status text (ap (script_of true) (r.same ∙ sym e) ∙ read) unstepped found
           (seen_since limits old resure middle r.held lines status text sure m r.output);
     }
 
--- a script of no form that is built
-pub unbuilt_output : (limits : Limits) (files : FilesSeen) (words : List (List ℕ)) (name bytes given : List ℕ) (status : ℕ) (text : List ℕ)
-    → script_word words ≡ Some name → Holds (files.told name) bytes → given ≡ bytes → script_of given ≡ None → files.lost name ≡ false → files.after ≡ files.before
-    → (status ≡ 9) × (text ≡ refused_not_built) → IsWordsOutput limits files words status text
-unbuilt_output limits files words name bytes given status text word holds e none found steady p =
+-- a script with step lines
+pub unbuilt_output : (limits : Limits) (files : FilesSeen) (words : List (List ℕ)) (name bytes given : List ℕ) (lines : List Numbered) (status : ℕ) (text : List ℕ)
+    → script_word words ≡ Some name → Holds (files.told name) bytes → given ≡ bytes → script_of true given ≡ Ok lines → is_stepped lines ≡ true
+    → files.lost name ≡ false → files.after ≡ files.before → (status ≡ 9) × (text ≡ refused_not_built)
+    → IsWordsOutput limits files words status text
+unbuilt_output limits files words name bytes given lines status text word holds e read stepped found steady p =
     let h = holding_bytes files.told name bytes holds in
     record {
       held = h.0;
       agree = h.1.0;
-      printed = unbuilt_by h.0 words name word limits files status text (ap script_of (h.1.1 ∙ sym e) ∙ none) found steady p;
+      printed = unbuilt_by h.0 words name word limits files lines status text (ap (script_of true) (h.1.1 ∙ sym e) ∙ read) stepped found steady p;
+    }
+
+-- a script that is refused
+pub refused_output : (limits : Limits) (files : FilesSeen) (words : List (List ℕ)) (name bytes given : List ℕ) (line printed status : ℕ) (text : List ℕ)
+    → script_word words ≡ Some name → Holds (files.told name) bytes → given ≡ bytes → script_of true given ≡ Err line
+    → files.lost name ≡ false → files.after ≡ files.before → (status ≡ 3) × (text ≡ refused_script 0 printed) → printed ≡ line
+    → IsWordsOutput limits files words status text
+refused_output limits files words name bytes given line printed status text word holds e bad found steady p same =
+    let h = holding_bytes files.told name bytes holds in
+    record {
+      held = h.0;
+      agree = h.1.0;
+      printed = refused_by h.0 words name word limits files line status text (ap (script_of true) (h.1.1 ∙ sym e) ∙ bad) found steady
+          (p.0, p.1 ∙ ap (refused_script 0) same);
     }
 
 past : (n most : ℕ) → most < n → nat_le n most ≡ false
 past n most h = grind (arith, nat_tests)
 
-none_kept : {A B : Type 0} (b : Bool) (x : A) (f : A → Option B) → b ≡ false → option_and_then f (kept b x) ≡ None
-none_kept true x f p = absurd (true≢false p)
-none_kept false x f p = refl
-
-long_script : (bytes : List ℕ) → most_bytes < length bytes → script_of bytes ≡ None
+long_script : (bytes : List ℕ) → most_bytes < length bytes → script_of true bytes ≡ Err 0
 unfolding script_of
-long_script bytes h = none_kept (nat_le (length bytes) most_bytes) _ _ (past (length bytes) most_bytes h)
+long_script bytes h = ap (λ (b : Bool). cond b (lines_from true 1 [] (file_lines bytes)) (Err 0)) (past (length bytes) most_bytes h)
 
 -- a script that is too long
 pub long_output : (limits : Limits) (files : FilesSeen) (words : List (List ℕ)) (name : List ℕ) (status : ℕ) (text : List ℕ)
     → script_word words ≡ Some name → LongerThan (files.told name) most_bytes → files.lost name ≡ false → files.after ≡ files.before
-    → (status ≡ 9) × (text ≡ refused_not_built) → IsWordsOutput limits files words status text
+    → (status ≡ 3) × (text ≡ refused_script 0 0) → IsWordsOutput limits files words status text
 long_output limits files words name status text word long found steady p =
     let h = holding_one (files.told name) TooLong long in
-    unbuilt_output limits files words name h.0 h.0 status text word h.1.0 refl (long_script h.0 h.1.1) found steady p
+    refused_output limits files words name h.0 h.0 0 0 status text word h.1.0 refl (long_script h.0 h.1.1) found steady p refl
 
 -- a script that was not read
 pub unread_output : (limits : Limits) (files : FilesSeen) (words : List (List ℕ)) (name : List ℕ) (status : ℕ) (text : List ℕ)
@@ -236,9 +274,9 @@ unread_output limits files words name status text word fault p =
     }
 
 -- bytes that were read are those that are told
-pub bytes_told : (told : Option (List ℕ)) (content : Content) (bytes : Vec ℕ Global) → content ≡ Bytes bytes → HoldsContent told content
+pub bytes_told : (told : Option (List ℕ)) (content : Content) (bytes : Vec ℕ Global) → content ≡ Bytes bytes → TellsContent told content
     → Holds told bytes.items × (length bytes.items ≤ most_bytes)
-bytes_told told content bytes is h = subst (HoldsContent told) is h
+bytes_told told content bytes is h = subst (TellsContent told) is h
 
 -- ---- the claim
 

@@ -12,11 +12,11 @@ use Rattle.std.proofs.lemmas.Slice.Eq.{bytes_eq-Decides}
 use Rattle.std.proofs.lemmas.List.{take_more}
 use Rattle.pf_io.specs.Outside.{Rose, StayKnown}
 use Rattle.pf_model.specs.Lists.{Each}
-use Rattle.pf_script.specs.Scripts.{Line, Numbered, ingest, delete, ask, answer}
+use Rattle.pf_journal.specs.Scripts.{Numbered}
 use Rattle.pf_script.specs.Lines.{numbered_of}
 use Rattle.pf_script.specs.declared.script.NumberedLine.{NumberedLine}
-use Rattle.pf_top.specs.Correct.{HasFailed, Reaches, files_of, with_file}
-use Rattle.pf_top.specs.Files.{Contents, AreHeld, AreLoaded, AreThere, HoldsContent, IsKept, IsShort, IsLoaded, IsLoadedFor, IsUnread, LineNames, NamesFile, StayKept}
+use Rattle.pf_top.specs.Correct.{HasFailed, Reaches, file_of, files_of, with_file}
+use Rattle.pf_top.specs.Files.{Contents, AreLoaded, AreThere, AreTold, IsFile, IsKept, IsShort, IsLoaded, IsLoadedFor, IsUnread, LineNames, NamesFile, StayKept, TellsContent}
 use Rattle.pf_top.specs.declared.loaded.LoadError.{LoadError}
 use Rattle.pf_top.specs.declared.loaded.LoadError.TheVariants.{Unread, OutOfMemory}
 use Rattle.pf_top.specs.declared.loaded.Content.{Content}
@@ -24,7 +24,7 @@ use Rattle.pf_top.specs.declared.loaded.Content.TheVariants.{Bytes, TooLong}
 use Rattle.pf_io.specs.declared.outside.ReadError.{ReadError}
 use Rattle.pf_io.specs.declared.outside.ReadError.TheVariants.{Failed}
 use Rattle.pf_top.proofs.Lists.{map_push, some_is}
-use Rattle.pf_top.proofs.Machines.{bool_cases}
+use Rattle.pf_top.proofs.Cases.{bool_cases}
 
 -- an insertion leaves what stands under other texts
 pub other_text : {X : Type 0} (key name other : List ℕ) (m n : BTreeMap (String Global) X) (w : Option X) → key ≡ name
@@ -34,18 +34,18 @@ other_text key name other m n w is up d = elim (bool_cases (bytes_eq key other))
   | inr t ↦ let u = btree_map_updates_text key m n w up other in rw t at u
 ]
 
-pub short_by : (told : Option (List ℕ)) (content : Content) → HoldsContent told content → IsShort content
+pub short_by : (told : Option (List ℕ)) (content : Content) → TellsContent told content → IsShort content
 short_by told (Bytes bytes) h = h.1
 short_by told TooLong h = tt
 
-pub held_short : (told : List ℕ → Option (List ℕ)) (kept : Contents) (name : List ℕ) (content : Content) → AreHeld told kept → get_by_text kept name ≡ Some content → IsShort content
+pub held_short : (told : List ℕ → Option (List ℕ)) (kept : Contents) (name : List ℕ) (content : Content) → AreTold told kept → get_by_text kept name ≡ Some content → IsShort content
 held_short told kept name content h g = short_by (told name) content (h name content g)
 
 pub kept_short : (kept : Contents) (name : List ℕ) (content : Content) → IsKept kept name → get_by_text kept name ≡ Some content → IsShort content
 kept_short kept name content k g = subst IsShort (some_is k.content content (sym k.there ∙ g)) k.short
 
 pub loaded_there : (told : List ℕ → Option (List ℕ)) (lost : List ℕ → Bool) (kept : Contents) (name : List ℕ) (content : Content)
-    → AreHeld told kept → AreThere lost kept → get_by_text kept name ≡ Some content → IsLoaded told lost kept name kept
+    → AreTold told kept → AreThere lost kept → get_by_text kept name ≡ Some content → IsLoaded told lost kept name kept
 loaded_there told lost kept name content h p g =
     record { held = h; present = p; there = record { content = content; there = g; short = held_short told kept name content h g }; still = λ other c o. o }
 
@@ -65,8 +65,8 @@ module _ (old new : Contents) (name : List ℕ) (content : Content) (there : get
         before other c (sym (others other differ) ∙ g)
   ]
 
-  pub held_new : (told : List ℕ → Option (List ℕ)) → AreHeld told old → HoldsContent (told name) content → AreHeld told new
-  held_new told h holds = each_new (λ n c. HoldsContent (told n) c) h holds
+  pub held_new : (told : List ℕ → Option (List ℕ)) → AreTold told old → TellsContent (told name) content → AreTold told new
+  held_new told h holds = each_new (λ n c. TellsContent (told n) c) h holds
 
   pub there_new : (lost : List ℕ → Bool) → AreThere lost old → lost name ≡ false → AreThere lost new
   there_new lost p found = each_new (λ n c. lost n ≡ false) p found
@@ -83,8 +83,8 @@ module _ (old new : Contents) (name : List ℕ) (content : Content) (there : get
         others other differ ∙ g
   ]
 
-  pub loaded_new : (told : List ℕ → Option (List ℕ)) (lost : List ℕ → Bool) → AreHeld told old → AreThere lost old → get_by_text old name ≡ None
-      → HoldsContent (told name) content → lost name ≡ false → IsLoaded told lost old name new
+  pub loaded_new : (told : List ℕ → Option (List ℕ)) (lost : List ℕ → Bool) → AreTold told old → AreThere lost old → get_by_text old name ≡ None
+      → TellsContent (told name) content → lost name ≡ false → IsLoaded told lost old name new
   loaded_new told lost h p none holds found = record {
     held = held_new told h holds;
     present = there_new lost p found;
@@ -129,7 +129,7 @@ loaded_more told again lost relost ls i l first old new p is same same_lost h n 
     ap (map numbered_of) (take_more ls i l p) ∙ map_push numbered_of (take i ls) (get_or ls i l)
     ∙ ap (λ (x : NumberedLine). map numbered_of (take i ls) ++ numbered_of x ∷ []) (sym is) in
     record {
-      held = λ name content g. subst (λ (t : Option (List ℕ)). HoldsContent t content) (same name) (n.held name content g);
+      held = λ name content g. subst (λ (t : Option (List ℕ)). TellsContent t content) (same name) (n.held name content g);
       present = λ name content g. sym (same_lost name) ∙ n.present name content g;
       there = λ name named. elim (names_push (map numbered_of (take i ls)) (numbered_of l) name (subst (λ (xs : List Numbered). NamesFile xs name) more named)) [
         | inl before ↦ still_kept old new n.still name (h.there name before)
@@ -139,7 +139,7 @@ loaded_more told again lost relost ls i l first old new p is same same_lost h n 
     }
 
 -- what was read before the first line
-pub loaded_none : (told : List ℕ → Option (List ℕ)) (lost : List ℕ → Bool) (kept : Contents) → AreHeld told kept → AreThere lost kept → AreLoaded told lost kept [] kept
+pub loaded_none : (told : List ℕ → Option (List ℕ)) (lost : List ℕ → Bool) (kept : Contents) → AreTold told kept → AreThere lost kept → AreLoaded told lost kept [] kept
 loaded_none told lost kept h p = record { held = h; present = p; there = λ name named. absurd named; still = λ name content g. g }
 
 -- a file that was read is not lost
@@ -147,29 +147,23 @@ pub read_there : (told : List ℕ → Option (List ℕ)) (lost : List ℕ → Bo
     → (name : List ℕ) → NamesFile lines name → lost name ≡ false
 read_there told lost first kept lines l name named = let k = l.there name named in l.present name k.content k.there
 
-each_with : (P : List ℕ → Type 0) (line : Line) (names : List (List ℕ)) → ((name : List ℕ) → LineNames line name → P name) → Each P names → Each P (with_file line names)
-each_with P (ingest tenant file time) names h e = (h file refl, e)
-each_with P (delete tenant from to selector) names h e = e
-each_with P (ask id tenant start end step query) names h e = e
-each_with P (answer id asked) names h e = e
+each_with : (P : List ℕ → Type 0) (file : Option (List ℕ)) (names : List (List ℕ)) → ((name : List ℕ) → IsFile file name → P name) → Each P names → Each P (with_file file names)
+each_with P None names h e = e
+each_with P (Some file) names h e = (h file refl, e)
 
 -- what holds of each file that lines name
 pub each_file : (P : List ℕ → Type 0) (lines : List Numbered) → ((name : List ℕ) → NamesFile lines name → P name) → Each P (files_of lines)
 each_file P [] h = tt
-each_file P (l ∷ ls) h = each_with P l.line (files_of ls) (λ name n. h name (inl n)) (each_file P ls (λ name n. h name (inr n)))
+each_file P (l ∷ ls) h = each_with P (file_of l.line) (files_of ls) (λ name n. h name (inl n)) (each_file P ls (λ name n. h name (inr n)))
 
-reach_here : (lost : List ℕ → Bool) (line : Line) (names : List (List ℕ)) (name : List ℕ) → LineNames line name → Reaches lost (with_file line names) name
-reach_here lost (ingest tenant file time) names name h = inl h
-reach_here lost (delete tenant from to selector) names name h = absurd h
-reach_here lost (ask id tenant start end step query) names name h = absurd h
-reach_here lost (answer id asked) names name h = absurd h
+reach_here : (lost : List ℕ → Bool) (file : Option (List ℕ)) (names : List (List ℕ)) (name : List ℕ) → IsFile file name → Reaches lost (with_file file names) name
+reach_here lost None names name h = absurd h
+reach_here lost (Some file) names name h = inl h
 
-reach_past : (lost : List ℕ → Bool) (line : Line) (names : List (List ℕ)) (name : List ℕ) → ((n : List ℕ) → LineNames line n → lost n ≡ false)
-    → Reaches lost names name → Reaches lost (with_file line names) name
-reach_past lost (ingest tenant file time) names name h r = inr (h file refl, r)
-reach_past lost (delete tenant from to selector) names name h r = r
-reach_past lost (ask id tenant start end step query) names name h r = r
-reach_past lost (answer id asked) names name h r = r
+reach_past : (lost : List ℕ → Bool) (file : Option (List ℕ)) (names : List (List ℕ)) (name : List ℕ) → ((n : List ℕ) → IsFile file n → lost n ≡ false)
+    → Reaches lost names name → Reaches lost (with_file file names) name
+reach_past lost None names name h r = r
+reach_past lost (Some file) names name h r = inr (h file refl, r)
 
 -- where no file of the lines before is lost, a line's file is come to
 pub reaches_at : (lost : List ℕ → Bool) (ls : List NumberedLine) (i : ℕ) (l : NumberedLine) (name : List ℕ) → i < length ls → l ≡ get_or ls i l
@@ -177,9 +171,9 @@ pub reaches_at : (lost : List ℕ → Bool) (ls : List NumberedLine) (i : ℕ) (
     → Reaches lost (files_of (map numbered_of ls)) name
 reaches_at lost [] i l name p is h here = absurd (omega (arith, p))
 reaches_at lost (k ∷ ks) zero l name p is h here =
-    reach_here lost (numbered_of k).line (files_of (map numbered_of ks)) name (subst (λ (x : NumberedLine). LineNames (numbered_of x).line name) is here)
+    reach_here lost (file_of (numbered_of k).line) (files_of (map numbered_of ks)) name (subst (λ (x : NumberedLine). LineNames (numbered_of x).line name) is here)
 reaches_at lost (k ∷ ks) (suc i) l name p is h here =
-    reach_past lost (numbered_of k).line (files_of (map numbered_of ks)) name (λ n named. h n (inl named))
+    reach_past lost (file_of (numbered_of k).line) (files_of (map numbered_of ks)) name (λ n named. h n (inl named))
     (reaches_at lost ks i l name (omega (arith, p)) is (λ n named. h n (inr named)) here)
 
 -- the line that names a file is one of the script's

@@ -1,7 +1,7 @@
 -- Which file a run may say that it did not read, on a worked script. The right sides were written by hand.
 use Rattle.std.proofs.Common.{◌≡◌, ℕ, Bool, ◌||◌, List, [], ◌∷◌, codes, refl, sym, ap, inl, inr, true≢false}
 use Rattle.std.specs.Str.{bytes_eq}
-use Rattle.pf_script.specs.Scripts.{Numbered, ingest, ask}
+use Rattle.pf_journal.specs.Scripts.{Numbered, ingest, ask}
 use Rattle.pf_top.specs.Correct.{Reaches, files_of}
 
 abbrev lines : List Numbered

@@ -1,18 +1,24 @@
 -- What the program promises of a replay and of an evaluation: this project's own.
-use Rattle.std.specs.Prelude.{◌≡◌, ℕ, ◌⊎◌, Bool, true, false, Option, Some, None, List, [], ◌∷◌, take}
+use Rattle.std.specs.Prelude.{◌≡◌, ℕ, ◌⊎◌, Bool, true, false, cond, Option, Some, None, Result, Ok, Err, List, [], ◌∷◌, take}
 use Rattle.pf_base.specs.Batches.{BatchData}
 use Rattle.pf_base.specs.Grids.{grid_of}
 use Rattle.pf_base.specs.declared.plain.Limits.{Limits}
 use Rattle.pf_io.specs.Outside.{Rose, Grows, Holds}
-use Rattle.pf_script.specs.Legal.{Legal, AreNames}
 use Rattle.pf_model.specs.Lists.{Each}
 use Rattle.pf_model.specs.Log.{batch_samples}
-use Rattle.pf_script.specs.Machine.{Entry}
-use Rattle.pf_model.specs.Queries.{IsReading, Reading, asked_with}
-use Rattle.pf_script.specs.Report.{evaluated_text, report}
-use Rattle.pf_script.specs.Scripts.{Evaluation, Line, Numbered, ingest, delete, ask, answer, evaluation_words, script_of, script_word}
-use Rattle.pf_script.specs.Weave.{Files, Gives, IsRefusedAs, IsUncached, Refusal, Rest, Stop, Weave}
-use Rattle.pf_top.specs.Refusals.{refused_file, refused_not_built, refused_read}
+use Rattle.pf_model.specs.Queries.{IsReading, Reading, Readings}
+use Rattle.pf_journal.specs.Asking.{asked_with}
+use Rattle.pf_journal.specs.Evaluations.{evaluated_text}
+use Rattle.pf_journal.specs.Files.{Gives, IsRefusedAs, Refusal}
+use Rattle.pf_journal.specs.Legal.{Legal, AreNames}
+use Rattle.pf_journal.specs.Machine.{Entry, What}
+use Rattle.pf_journal.specs.Machine as entry
+use Rattle.pf_journal.specs.Report.{report}
+use Rattle.pf_journal.specs.Rest.{Client, Known, Rest, at_full, no_memory}
+use Rattle.pf_journal.specs.Scripts.{Line, Numbered, ingest, is_stepped, script_of}
+use Rattle.pf_journal.specs.Weave.{Weave}
+use Rattle.pf_top.specs.Refusals.{refused_file, refused_not_built, refused_read, refused_script}
+use Rattle.pf_top.specs.Words.{Evaluation, evaluation_words, script_word}
 
 -- ---- what a run sees of its outside
 
@@ -48,35 +54,33 @@ Held = List ℕ → List ℕ
 abbrev pub Agree : (List ℕ → Option (List ℕ)) → Held → Type 0
 Agree told held = (name : List ℕ) → Holds (told name) (held name)
 
--- what files hold, where all of it is known
-abbrev pub all_of : Held → Files
-all_of held name = Some (held name)
-
--- the scripts are those that the words name
+-- the scripts are those that the words name: one that is not refused and has no step lines
 abbrev pub AreScripts : Held → Option (List ℕ) → List (List Numbered) → Type 0
 AreScripts held None scripts = ⊥
 AreScripts held (Some name) scripts =
-    (lines : List Numbered) × ((scripts ≡ lines ∷ []) × (script_of (held name) ≡ Some lines))
+    (lines : List Numbered) × ((scripts ≡ lines ∷ []) × ((script_of true (held name) ≡ Ok lines) × (is_stepped lines ≡ false)))
 
--- the files that lines name, in the order of the lines
-abbrev pub with_file : Line → List (List ℕ) → List (List ℕ)
-with_file (ingest tenant file time) names = file ∷ names
-with_file (delete tenant from to selector) names = names
-with_file (ask id tenant start end step query) names = names
-with_file (answer id asked) names = names
+-- the file that a line names, and those that lines name, in the order of the lines
+abbrev pub file_of : Line → Option (List ℕ)
+file_of (ingest tenant file time) = Some file
+file_of _ = None
+
+abbrev pub with_file : Option (List ℕ) → List (List ℕ) → List (List ℕ)
+with_file None names = names
+with_file (Some file) names = file ∷ names
 
 abbrev pub files_of : List Numbered → List (List ℕ)
 files_of [] = []
-files_of (l ∷ ls) = with_file l.line (files_of ls)
+files_of (l ∷ ls) = with_file (file_of l.line) (files_of ls)
 
-abbrev pub script_files : Option (List Numbered) → List (List ℕ)
-script_files None = []
-script_files (Some lines) = files_of lines
+abbrev pub script_files : Result (List Numbered) ℕ → List (List ℕ)
+script_files (Err line) = []
+script_files (Ok lines) = cond (is_stepped lines) [] (files_of lines)
 
--- the files that are needed, in the order in which they are read: a script, and what it names if it is of a form that is
--- built; or the file of an evaluation
+-- the files that are needed, in the order in which they are read: a script, and what it names if it runs; or the file of an
+-- evaluation
 abbrev pub needed_by : Held → Option (List ℕ) → Option Evaluation → List (List ℕ)
-needed_by held (Some name) _ = name ∷ script_files (script_of (held name))
+needed_by held (Some name) _ = name ∷ script_files (script_of true (held name))
 needed_by held None (Some named) = named.file ∷ []
 needed_by held None None = []
 
@@ -102,9 +106,23 @@ pub record HasFailed (sure : List ℕ → Bool) (before after : ℕ) (failed : B
 -- ---- what is printed
 
 -- a client met the full journal, or none did
-abbrev pub HaveMetFull : Bool → List Stop → Type 0
-HaveMetFull false stops = Each (λ s. s.full ≡ false) stops
-HaveMetFull true stops = (Each (λ s. s.full ≡ false) stops) → ⊥
+abbrev pub HaveMetFull : Bool → List Client → Type 0
+HaveMetFull false clients = Each (λ c. c.why ≡ at_full → ⊥) clients
+HaveMetFull true clients = (Each (λ c. c.why ≡ at_full → ⊥) clients) → ⊥
+
+-- no step of an answer came from a cache
+abbrev pub IsUncached : What → Type 0
+IsUncached (entry.answer query code cached evaluated) = cached ≡ 0
+IsUncached _ = Unit {0}
+
+-- no answer was given for want of memory, and no line lacked it
+abbrev pub IsFed : What → Type 0
+IsFed (entry.answer query code cached evaluated) = code ≡ 507 → ⊥
+IsFed _ = Unit {0}
+
+pub record AreFed (journal : List Entry) (rest : Rest) : Type 0 where
+  pub answers : Each (λ e. IsFed e.what) journal
+  pub lines : Each (λ c. Each (λ t. t ≡ no_memory → ⊥) c.told) rest.clients
 
 -- text is the report of a legal journal that is woven from the scripts
 pub record Reported (limits : Limits) (files : FilesSeen) (held : Held) (words : List (List ℕ)) (full : Bool) (text : List ℕ) : Type 0 where
@@ -112,14 +130,18 @@ pub record Reported (limits : Limits) (files : FilesSeen) (held : Held) (words :
   pub scripts : List (List Numbered)
   pub journal : List Entry
   pub names : List (List ℕ)
+  pub readings : Readings
   pub rest : Rest
   pub read : AreScripts held (script_word words) scripts
   pub legal : Legal limits names journal
-  pub known : AreNames names journal
-  pub woven : Weave (all_of held) limits names journal scripts rest
+  pub named : AreNames names journal
+  pub woven : Weave (record { limits = limits; names = names; files = held; readings = readings }) journal scripts rest
   pub uncached : Each (λ e. IsUncached e.what) journal
-  pub met : HaveMetFull full rest.stops
-  pub whole : text ≡ report limits names journal scripts rest
+  pub fed : AreFed journal rest
+  -- no work on a query failed
+  pub untried : rest.failed ≡ []
+  pub met : HaveMetFull full rest.clients
+  pub whole : text ≡ report (record { limits = limits; names = names; files = held; readings = readings }) journal scripts rest
 
 -- text is what the evaluation of a query prints over the samples of one file
 pub record Evaluated (files : FilesSeen) (held : Held) (words : List (List ℕ)) (text : List ℕ) : Type 0 where
@@ -127,10 +149,10 @@ pub record Evaluated (files : FilesSeen) (held : Held) (words : List (List ℕ))
   pub named : Evaluation
   pub by_words : evaluation_words words ≡ Some named
   pub batch : BatchData
-  pub gives : Gives (Some (held named.file)) 0 batch
+  pub gives : Gives (held named.file) 0 batch
   pub reading : Reading
   pub read : IsReading named.query reading
-  pub whole : text ≡ evaluated_text (batch_samples batch.rows) (asked_with (grid_of named.start named.end named.step) (Some reading))
+  pub whole : text ≡ evaluated_text (batch_samples batch.rows) (asked_with false (grid_of named.start named.end named.step) (Some reading))
 
 -- text says at which line an evaluation's file is refused
 pub record FileRefused (files : FilesSeen) (held : Held) (words : List (List ℕ)) (text : List ℕ) : Type 0 where
@@ -138,8 +160,20 @@ pub record FileRefused (files : FilesSeen) (held : Held) (words : List (List ℕ
   pub named : Evaluation
   pub by_words : evaluation_words words ≡ Some named
   pub refusal : Refusal
-  pub refused : IsRefusedAs (Some (held named.file)) 0 refusal
+  pub refused : IsRefusedAs (held named.file) 0 refusal
   pub whole : text ≡ refused_file refusal
+
+-- text says at which line a script is refused: its first that is none, or 0 where it is too long
+pub record ScriptRefused (files : FilesSeen) (held : Held) (words : List (List ℕ)) (text : List ℕ) : Type 0 where
+  pub all : AllRead files (needed held words)
+  pub name : List ℕ
+  pub by_words : script_word words ≡ Some name
+  pub line : ℕ
+  pub refused : script_of true (held name) ≡ Err line
+  pub whole : text ≡ refused_script 0 line
+
+abbrev pub Refused : FilesSeen → Held → List (List ℕ) → List ℕ → Type 0
+Refused files held words text = FileRefused files held words text ⊎ ScriptRefused files held words text
 
 -- what a run to its end prints
 abbrev pub Ended : Limits → FilesSeen → Held → List (List ℕ) → List ℕ → Type 0
@@ -152,11 +186,11 @@ pub record Unread (files : FilesSeen) (held : Held) (words : List (List ℕ)) (t
   pub fault : HasFailed files.sure files.before files.after files.failed name
   pub whole : text ≡ refused_read name
 
--- the words, or the script that they name, are of no form that is built
+-- the words are of no form that is built, or the script that they name has step lines
 abbrev pub IsUnbuilt : Held → Option (List ℕ) → Option Evaluation → Type 0
 IsUnbuilt held None None = Unit {0}
 IsUnbuilt held None (Some named) = ⊥
-IsUnbuilt held (Some name) _ = script_of (held name) ≡ None
+IsUnbuilt held (Some name) _ = (lines : List Numbered) × ((script_of true (held name) ≡ Ok lines) × (is_stepped lines ≡ true))
 
 pub record Unbuilt (files : FilesSeen) (held : Held) (words : List (List ℕ)) (text : List ℕ) : Type 0 where
   pub all : AllRead files (needed held words)
@@ -168,7 +202,7 @@ abbrev pub IsOutput : Limits → FilesSeen → Held → List (List ℕ) → List
 IsOutput limits files held words text =
     ((full : Bool) × Reported limits files held words full text)
     ⊎ (Evaluated files held words text
-    ⊎ (FileRefused files held words text ⊎ (Unread files held words text ⊎ Unbuilt files held words text)))
+    ⊎ (Refused files held words text ⊎ (Unread files held words text ⊎ Unbuilt files held words text)))
 
 -- a text of this kind was written whole, or a front of one
 abbrev pub Writes : (List ℕ → Type 0) → Option (List ℕ) → Option (List ℕ) → Type 0
@@ -179,7 +213,7 @@ WritesPart IsText old new = (text : List ℕ) × (IsText text × ((n : ℕ) × G
 
 -- ---- the claim
 
--- the statuses of a report, of a refused file and of a form that is not built
+-- the statuses of a report, of what is refused and of a form that is not built
 abbrev pub EndsWell : ℕ → Type 0
 EndsWell status = (status ≡ 0) ⊎ ((status ≡ 3) ⊎ ((status ≡ 8) ⊎ (status ≡ 9)))
 
@@ -190,8 +224,8 @@ pub record Correct (limits : Limits) (o : Outside) (words : List (List ℕ)) (st
   pub agree : Agree o.files.told held
   -- 0: the report was written, and no client met the full journal; or what an evaluation prints
   pub ended : status ≡ 0 → Writes (Ended limits o.files held words) o.old o.new
-  -- 3: an evaluation's file was refused
-  pub refused : status ≡ 3 → Writes (FileRefused o.files held words) o.old o.new
+  -- 3: the script, or an evaluation's file, was refused
+  pub refused : status ≡ 3 → Writes (Refused o.files held words) o.old o.new
   -- 4: a file that was needed was not read
   pub unread : status ≡ 4 → Writes (Unread o.files held words) o.old o.new
   -- 5: the output's count of faults rose, behind a front of what was to be written

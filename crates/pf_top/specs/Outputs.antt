@@ -1,9 +1,8 @@
 -- What a replay gives, before it is written: this project's own.
 use Rattle.std.specs.Prelude.{◌≡◌, ℕ, ◌⊎◌, true, false, List}
 use Rattle.pf_base.specs.declared.plain.Limits.{Limits}
-use Rattle.pf_script.specs.Scripts.{Numbered}
-use Rattle.pf_script.specs.Weave.{Files}
-use Rattle.pf_top.specs.Correct.{Agree, AllRead, Ended, FileRefused, FilesSeen, HasFailed, Held, Reaches, Reported, Unread, Unbuilt, all_of, files_of}
+use Rattle.pf_journal.specs.Scripts.{Numbered}
+use Rattle.pf_top.specs.Correct.{Agree, AllRead, Ended, FilesSeen, HasFailed, Held, Reaches, Refused, Reported, Unread, Unbuilt, files_of}
 use Rattle.pf_top.specs.Drives.{IsReport}
 use Rattle.pf_top.specs.Refusals.{refused_read}
 
@@ -19,7 +18,7 @@ IsPrinted limits files held words status text =
     ⊎ (((status ≡ 8) × Reported limits files held words true text)
     ⊎ (((status ≡ 4) × Unread files held words text)
     ⊎ (((status ≡ 9) × Unbuilt files held words text)
-    ⊎ ((status ≡ 3) × FileRefused files held words text))))
+    ⊎ ((status ≡ 3) × Refused files held words text))))
 
 -- the same over one reading of each file, which gave what is told
 pub record IsWordsOutput (limits : Limits) (files : FilesSeen) (words : List (List ℕ)) (status : ℕ) (text : List ℕ) : Type 0 where
@@ -28,14 +27,14 @@ pub record IsWordsOutput (limits : Limits) (files : FilesSeen) (words : List (Li
   pub printed : IsPrinted limits files held words status text
 
 -- a text with its status, once the script and the files are read
-abbrev pub IsRun : Limits → Files → List Numbered → ℕ → List ℕ → Type 0
-IsRun limits files lines status text =
-    ((status ≡ 0) × IsReport limits files lines false text) ⊎ ((status ≡ 8) × IsReport limits files lines true text)
+abbrev pub IsRun : Limits → Held → List Numbered → ℕ → List ℕ → Type 0
+IsRun limits held lines status text =
+    ((status ≡ 0) × IsReport limits held lines false text) ⊎ ((status ≡ 8) × IsReport limits held lines true text)
 
 -- a text with its status, once the script is read
 abbrev pub IsScriptOutput : Limits → FilesSeen → Held → List Numbered → ℕ → List ℕ → Type 0
 IsScriptOutput limits files held lines status text =
-    (AllRead files (files_of lines) × IsRun limits (all_of held) lines status text)
+    (AllRead files (files_of lines) × IsRun limits held lines status text)
     ⊎ ((status ≡ 4) × ((name : List ℕ) × (Reaches files.lost (files_of lines) name
     × (HasFailed files.sure files.before files.after files.failed name × (text ≡ refused_read name)))))
 

@@ -2,8 +2,8 @@
 use Rattle.std.specs.Prelude.{ℕ, List, [], ◌∷◌, codes}
 use Rattle.std.specs.Fmt.{decimal}
 use Rattle.pf_model.specs.Exposition.{bad_line, late_line, too_many}
-use Rattle.pf_script.specs.Report.{line_text}
-use Rattle.pf_script.specs.Weave.{Refusal, at_line, too_long}
+use Rattle.pf_journal.specs.Files.{Refusal, at_line, too_long}
+use Rattle.pf_journal.specs.Replies.{line_text}
 
 -- a file with this name was not read
 abbrev pub refused_read : List ℕ → List ℕ
@@ -12,6 +12,11 @@ refused_read name = line_text (codes "refused:" ∷ codes "read" ∷ name ∷ []
 -- no form that is built
 abbrev pub refused_not_built : List ℕ
 refused_not_built = line_text (codes "refused:" ∷ codes "not" ∷ codes "built" ∷ [])
+
+-- a script is refused, by the first of its lines that is: 0 where the script is too long; scripts are counted from 0
+abbrev pub refused_script : (script line : ℕ) → List ℕ
+refused_script script line =
+    line_text (codes "refused:" ∷ codes "script" ∷ decimal script ∷ codes "line" ∷ decimal line ∷ [])
 
 -- the line of a refused file: that of the first bad one, and 0 where the file has too many rows or bytes
 abbrev pub refused_line : Refusal → ℕ

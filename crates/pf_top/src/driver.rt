@@ -1,19 +1,19 @@
 //! The call that does all that the program does.
 
-ghost use Rattle.std.specs.Prelude.{◌≡◌, ◌≢◌, ◌≤◌, ℕ, List, [], IfOk, None, Option, false, length, true, vec_len};
+ghost use Rattle.std.specs.Prelude.{◌≡◌, ◌≢◌, ◌≤◌, ℕ, List, [], IfOk, None, false, length, true, vec_len};
 ghost use Rattle.pf_block.specs.Snaps.{are_timed};
 ghost use Rattle.pf_model.specs.Lists.{Each};
 ghost use Rattle.pf_script.specs.Lines.{AllFollow, IsRead, lines_of};
-ghost use Rattle.pf_script.specs.Weave.{Files};
-ghost use Rattle.pf_top.specs.Correct.{Correct, FilesSeen, Outside};
+ghost use Rattle.pf_top.specs.Correct.{Correct, FilesSeen, Held, Outside};
 ghost use Rattle.pf_top.specs.Drives.{AreShort};
 ghost use Rattle.pf_io.specs.Outside.{Holds};
-ghost use Rattle.pf_script.specs.Scripts.{evaluation_words, most_bytes, script_word};
+ghost use Rattle.pf_journal.specs.Scripts.{is_stepped, most_bytes};
 ghost use Rattle.pf_top.specs.Clients.{refusal_in};
 ghost use Rattle.pf_top.specs.Evaluations.{IsBatchOutput, IsFileOutput, IsNamedOutput, evaluation_in};
 ghost use Rattle.pf_top.specs.Files.{AreHeld, HoldsContent, IsKept, IsShort, NamesFile};
 ghost use Rattle.pf_top.specs.Outputs.{IsReplay, IsRun, IsWordsOutput, default_limits};
-ghost use Rattle.pf_top.specs.Refusals.{refused_file, refused_line, refused_not_built, refused_read};
+ghost use Rattle.pf_top.specs.Refusals.{refused_file, refused_line, refused_not_built, refused_read, refused_script};
+ghost use Rattle.pf_top.specs.Words.{evaluation_words, script_word};
 
 use crate::client::{FileFault, FileRead, read_content};
 use crate::drive::run_script;
@@ -71,6 +71,24 @@ fn unbuilt(alloc: Global) -> Result<Output, OutOfMemory>
     })
 }
 
+/// `refused: script 0 line N`, with its status.
+fn script_refused(alloc: Global, line: u32) -> Result<Output, OutOfMemory>
+    ensures { IfOk result (λ o. (o.status ≡ 3) × (o.text.items ≡ refused_script 0 line)) }
+{
+    let mut text = Vec::new(alloc);
+    push_line(
+        &mut text,
+        &[
+            Word::Text("refused:"),
+            Word::Text("script"),
+            Word::Number(0),
+            Word::Text("line"),
+            Word::Number(line as u64),
+        ],
+    )?;
+    Ok(Output { status: 3, text })
+}
+
 /// Reads the queries of a script whose files are read, and runs it.
 fn run_loaded(
     alloc: Global,
@@ -84,7 +102,8 @@ fn run_loaded(
     requires there { (name : List ℕ) → NamesFile (lines_of script.now) name → IsKept files name }
     requires read { Each IsRead script.now.lines.items }
     requires following { AllFollow [] (lines_of script.now) }
-    ensures { IfOk result (λ o. (told : Files) → AreHeld told files → IsRun limits told (lines_of script.now) o.status o.text.items) }
+    requires unstepped { is_stepped (lines_of script.now) ≡ false }
+    ensures { IfOk result (λ o. (held : Held) → AreHeld held files → IsRun limits held (lines_of script.now) o.status o.text.items) }
 {
     let queries = read_queries(alloc, script)?;
     let loaded = Loaded { files, queries };
@@ -110,6 +129,7 @@ fn replay_script<F: Files>(
     requires some { 1 ≤ limits.outstanding }
     requires read { Each IsRead script.now.lines.items }
     requires following { AllFollow [] (lines_of script.now) }
+    requires unstepped { is_stepped (lines_of script.now) ≡ false }
     requires held { Holds (F.told files.old name.now) bytes.items }
     requires short { length bytes.items ≤ most_bytes }
     requires there { F.lost files.old name.now ≡ false }
@@ -129,7 +149,7 @@ fn replay_script<F: Files>(
 }
 
 /// `refused: file line N`, with its status. The line is 0 where the file has too many rows or bytes.
-fn refused(alloc: Global, fault: FileFault) -> Result<Output, OutOfMemory>
+fn file_refused(alloc: Global, fault: FileFault) -> Result<Output, OutOfMemory>
     ensures { IfOk result (λ o. (o.status ≡ 3) × (o.text.items ≡ refused_file (refusal_in fault))) }
 {
     let mut text = Vec::new(alloc);
@@ -174,11 +194,11 @@ fn evaluate_content(
     named: &Evaluation<'_>,
 ) -> Result<Output, OutOfMemory>
     requires { IsShort content.now }
-    ensures { IfOk result (λ o. (told : Option (List ℕ)) → HoldsContent told content.now → IsFileOutput told (evaluation_in named.now) o.status o.text.items) }
+    ensures { IfOk result (λ o. (held : List ℕ) → HoldsContent held content.now → IsFileOutput held (evaluation_in named.now) o.status o.text.items) }
 {
     match read_content(alloc, content, 0)? {
         FileRead::Batch(batch) => evaluate_batch(alloc, &batch, named),
-        FileRead::Refused(fault) => refused(alloc, fault),
+        FileRead::Refused(fault) => file_refused(alloc, fault),
     }
 }
 
@@ -239,13 +259,19 @@ fn run_words<F: Files>(
     };
     let bytes = match read_file(alloc, files, name) {
         Ok(Content::Bytes(bytes)) => bytes,
-        Ok(Content::TooLong) => return unbuilt(alloc),
+        Ok(Content::TooLong) => return script_refused(alloc, 0),
         Err(ReadError::Failed) => return unread(alloc, name),
         Err(_) => return Err(OutOfMemory),
     };
-    match read_script(alloc, bytes.as_slice()) {
-        Ok(script) => replay_script(alloc, limits, files, &script, name, bytes),
-        Err(ScriptError::NotBuilt) => unbuilt(alloc),
+    match read_script(alloc, bytes.as_slice(), true) {
+        Ok(script) => {
+            if script.is_stepped() {
+                unbuilt(alloc)
+            } else {
+                replay_script(alloc, limits, files, &script, name, bytes)
+            }
+        }
+        Err(ScriptError::Line { line }) => script_refused(alloc, line),
         Err(ScriptError::OutOfMemory) => Err(OutOfMemory),
     }
 }
@@ -276,12 +302,12 @@ pub fn run_within<F: Files, O: Sink>(
 
 /// Does all that the program does: takes its words, reads the files, writes what it prints and answers its status.
 ///
-/// Built are the words `replay SCRIPT`, and scripts of `ingest`, `delete`, `ask`, `answer`, empty and comment lines; and the
-/// words `eval FILE QUERY START END STEP`, which print the code and the body of a query over one file. Any text is read as a
-/// query or a selector, and one that is refused is answered so. The hops, the gate and the doors are of no use to these. The
-/// statuses are 0 for a report or an evaluation, 3 for an evaluation's file that is refused, 4 for a file that was not read, 5
-/// for output that was not taken, 6 for want of memory, 8 for a report of a client that met the full journal, and 9 for words
-/// and scripts that are not built.
+/// Built are the words `replay SCRIPT`, and scripts of `ingest`, `delete`, `ask`, `instant`, `cancel`, `answer`, empty and
+/// comment lines; and the words `eval FILE QUERY START END STEP`, which print the code and the body of a query over one file. Any
+/// text is read as a query or a selector, and one that is refused is answered so. The hops, the gate and the doors are of no use
+/// to these. The statuses are 0 for a report or an evaluation, 3 for a script with a line that is none, or an evaluation's file
+/// that is refused, 4 for a file that was not read, 5 for output that was not taken, 6 for want of memory, 8 for a report of a
+/// client that met the full journal, and 9 for words that are not built and scripts with step lines.
 pub fn run<R, F: Files, O: Sink, H: Hop + Send + Drop, G: Gate + Sync, D: Doors>(
     rt: &R,
     alloc: Global,

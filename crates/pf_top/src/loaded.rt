@@ -3,10 +3,10 @@
 ghost use Rattle.std.specs.Prelude.{◌≡◌, ◌≢◌, ◌≤◌, ℕ, Bool, Err, IfErr, IfOk, List, MatchOption, OnOk, Option, Some, None, [], false, length, map};
 ghost use Rattle.std.specs.BTreeMap.{get_by_text};
 ghost use Rattle.pf_io.specs.Outside.{Holds, LongerThan, StayKnown};
-ghost use Rattle.pf_script.specs.Scripts.{most_bytes};
+ghost use Rattle.pf_journal.specs.Scripts.{most_bytes};
 ghost use Rattle.pf_script.specs.Lines.{lines_of, numbered_of};
 ghost use Rattle.pf_top.specs.Correct.{HasFailed, Reaches, files_of};
-ghost use Rattle.pf_top.specs.Files.{AreHeld, AreLoaded, AreThere, HoldsContent, IsLoaded, IsLoadedFor, IsUnread, LineNames};
+ghost use Rattle.pf_top.specs.Files.{AreLoaded, AreThere, AreTold, IsLoaded, IsLoadedFor, IsUnread, LineNames, TellsContent};
 ghost use Rattle.pf_top.specs.declared.loaded.LoadError.{LoadError};
 
 use crate::queries::Queries;
@@ -80,7 +80,7 @@ impl<T: Drop> From<AllocFailed<T>> for LoadError {
 /// What a file holds, of at most 64 MiB.
 #[tactic(auto, using(crate::proofs::Texts::not_lost, crate::proofs::Texts::has_failed))]
 pub fn read_file<F: Files>(alloc: Global, files: &mut F, name: &str) -> Result<Content, ReadError>
-    ensures contents { IfOk result (HoldsContent (F.told files.old name.now)) }
+    ensures contents { IfOk result (TellsContent (F.told files.old name.now)) }
     ensures failed { result ≡ Err ReadError.Failed → HasFailed (F.sure files.old) (F.faults files.old) (F.faults files.new) (F.failed files.new) name.now }
     ensures there { result ≢ Err ReadError.Failed → F.lost files.old name.now ≡ false }
     ensures steady { result ≢ Err ReadError.Failed → F.faults files.new ≡ F.faults files.old }
@@ -124,7 +124,7 @@ fn insert(
 /// What one file holds, under its name.
 pub fn only(alloc: Global, name: &str, content: Content) -> Result<Contents, LoadError>
     ensures there { IfOk result (λ loaded. get_by_text loaded name.now ≡ Some content) }
-    ensures held { IfOk result (λ loaded. (told : List ℕ → Option (List ℕ)) → HoldsContent (told name.now) content → AreHeld told loaded) }
+    ensures held { IfOk result (λ loaded. (told : List ℕ → Option (List ℕ)) → TellsContent (told name.now) content → AreTold told loaded) }
     ensures present { IfOk result (λ loaded. (lost : List ℕ → Bool) → lost name.now ≡ false → AreThere lost loaded) }
     ensures memory { IfErr result (λ e. e ≡ LoadError.OutOfMemory) }
 {
@@ -141,7 +141,7 @@ fn load_one<F: Files>(
     loaded: &mut Contents,
     name: &Text,
 ) -> Result<(), LoadError>
-    requires held { AreHeld (F.told files.old) loaded.old }
+    requires held { AreTold (F.told files.old) loaded.old }
     requires there { AreThere (F.lost files.old) loaded.old }
     ensures ok { OnOk result (IsLoaded (F.told files.old) (F.lost files.old) loaded.old name.now loaded.new) }
     ensures err { IfErr result (IsUnread (λ n. n ≡ name.now) (F.sure files.old) (F.faults files.old) (F.faults files.new) (F.failed files.new)) }
@@ -173,7 +173,7 @@ fn load_for<F: Files>(
     loaded: &mut Contents,
     line: &NumberedLine,
 ) -> Result<(), LoadError>
-    requires held { AreHeld (F.told files.old) loaded.old }
+    requires held { AreTold (F.told files.old) loaded.old }
     requires there { AreThere (F.lost files.old) loaded.old }
     ensures ok { OnOk result (IsLoadedFor (F.told files.old) (F.lost files.old) loaded.old (numbered_of line.now) loaded.new) }
     ensures err { IfErr result (IsUnread (LineNames (numbered_of line.now).line) (F.sure files.old) (F.faults files.old) (F.faults files.new) (F.failed files.new)) }
@@ -199,7 +199,7 @@ pub fn load_all<F: Files>(
     loaded: &mut Contents,
     script: &Script,
 ) -> Result<(), LoadError>
-    requires held { AreHeld (F.told files.old) loaded.old }
+    requires held { AreTold (F.told files.old) loaded.old }
     requires there { AreThere (F.lost files.old) loaded.old }
     ensures ok { OnOk result (AreLoaded (F.told files.old) (F.lost files.old) loaded.old (lines_of script.now) loaded.new) }
     ensures err { IfErr result (IsUnread (Reaches (F.lost files.old) (files_of (lines_of script.now))) (F.sure files.old) (F.faults files.old) (F.faults files.new) (F.failed files.new)) }

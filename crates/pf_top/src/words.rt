@@ -2,8 +2,8 @@
 
 ghost use Rattle.std.specs.Prelude.{◌≡◌, MatchOption, None, Some};
 ghost use Rattle.std.specs.Option.{option_map};
-ghost use Rattle.pf_script.specs.Scripts.{evaluation_words, is_script_word, script_word, with_times};
 ghost use Rattle.pf_top.specs.Evaluations.{evaluation_in};
+ghost use Rattle.pf_top.specs.Words.{evaluation_words, is_script_word, script_word, with_times};
 
 use pf_base::Text;
 use pf_script::number_of;

@@ -1,16 +1,16 @@
 use Rattle.std.proofs.Common.{inl, inr, subst}
-use Rattle.pf_top.proofs.Steps.{if_ok_map}
+use Rattle.pf_top.proofs.Cases.{if_ok_map}
 use Rattle.pf_top.specs.Clients.{IsFileRead, refusal_in}
 use Rattle.pf_top.proofs.driver.evaluate_content.Goals as goal
 
 pub returns-in-Batch : goal.returns-in-Batch
 returns-in-Batch c =
     if_ok_map _ _ c.evaluate_batch.result
-    (λ o printed told held. inl (c.in-Batch.batch, (subst (IsFileRead told 0) c.in-Batch.is (c.in_ok-batch.ensures.read told held), printed)))
+    (λ o printed bytes held. inl (c.in-Batch.batch, (subst (IsFileRead bytes 0) c.in-Batch.is (c.in_ok-batch.ensures.read bytes held), printed)))
     c.evaluate_batch.ensures
 
 pub returns-in-Refused : goal.returns-in-Refused
 returns-in-Refused c =
-    if_ok_map _ _ c.refused.result
-    (λ o p told held. inr (p.0, (refusal_in c.in-Refused.fault, (subst (IsFileRead told 0) c.in-Refused.is (c.in_ok-batch.ensures.read told held), p.1))))
-    c.refused.ensures
+    if_ok_map _ _ c.file_refused.result
+    (λ o p bytes held. inr (p.0, (refusal_in c.in-Refused.fault, (subst (IsFileRead bytes 0) c.in-Refused.is (c.in_ok-batch.ensures.read bytes held), p.1))))
+    c.file_refused.ensures

@@ -1,6 +1,6 @@
 use Rattle.std.proofs.Common.{rules, inr}
 use Rattle.pf_top.proofs.Printed.{named_read}
-use Rattle.pf_top.proofs.Steps.{if_ok_map}
+use Rattle.pf_top.proofs.Cases.{if_ok_map}
 use Rattle.pf_top.proofs.Texts.{short_by}
 use Rattle.pf_top.specs.Correct.{FilesSeen}
 use Rattle.pf_top.specs.Evaluations.{evaluation_in}

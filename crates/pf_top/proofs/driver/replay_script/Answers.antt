@@ -1,7 +1,7 @@
 use Rattle.std.proofs.Common.{rules}
 use Rattle.pf_script.specs.Lines.{lines_of}
 use Rattle.pf_top.proofs.OutputLaws.{loaded_short, replay_failed, replayed}
-use Rattle.pf_top.proofs.Steps.{if_ok_map}
+use Rattle.pf_top.proofs.Cases.{if_ok_map}
 use Rattle.pf_top.specs.Correct.{FilesSeen}
 use Rattle.pf_top.proofs.driver.replay_script.Goals as goal
 

@@ -1,8 +1,8 @@
 -- What is given is what comes by the words.
 use Rattle.std.proofs.Common.{rules}
 use Rattle.pf_script.specs.Lines.{lines_of}
-use Rattle.pf_top.proofs.Steps.{if_ok_map}
-use Rattle.pf_top.proofs.OutputLaws.{bytes_told, long_output, unbuilt_output, unread_output, words_output}
+use Rattle.pf_top.proofs.Cases.{if_ok_map}
+use Rattle.pf_top.proofs.OutputLaws.{bytes_told, long_output, refused_output, unbuilt_output, unread_output, words_output}
 use Rattle.pf_top.specs.Correct.{FilesSeen}
 use Rattle.pf_top.proofs.driver.run_words.Goals as goal
 
@@ -10,9 +10,9 @@ pub returns-in-Ok-TooLong-clause-output : goal.returns-in-Ok-TooLong-clause-outp
 returns-in-Ok-TooLong-clause-output g c =
     let f = g.F.Files in
     let seen : FilesSeen = record { told = f.told c.args.files.now; sure = f.sure c.args.files.now; lost = f.lost c.args.files.now; before = f.faults c.args.files.now; after = f.faults c.read_file.new.files; failed = f.failed c.read_file.new.files } in
-    if_ok_map _ _ c.unbuilt.result
+    if_ok_map _ _ c.script_refused.result
     (λ o p. long_output c.args.limits seen c.args.words.now c.in-Some.name.now o.status o.text.items c.in-Some.ensures (search rules) (search rules) (search rules) p)
-    c.unbuilt.ensures
+    c.script_refused.ensures
 
 pub returns-in-Ok-clause-output : goal.returns-in-Ok-clause-output
 returns-in-Ok-clause-output g c =
@@ -21,18 +21,28 @@ returns-in-Ok-clause-output g c =
     if_ok_map _ _ c.replay_script.result
     (λ o replay. words_output c.args.limits seen (f.sure c.read_file.new.files) (f.lost c.read_file.new.files) (f.told c.read_file.new.files) (f.faults c.read_file.new.files)
     c.args.words.now c.in-Some.name.now c.in-Ok-Bytes.bytes.items c.as_slice.result.now (lines_of c.in-Ok.script) o.status o.text.items c.in-Some.ensures
-    (search rules) (search rules) (search rules) c.read_file.ensures.kept c.read_file.ensures.kept_lost c.read_file.ensures.kept_sure (search rules) replay)
+    (search rules) (search rules) (search rules) (search rules) c.read_file.ensures.kept c.read_file.ensures.kept_lost c.read_file.ensures.kept_sure (search rules) replay)
     c.replay_script.ensures.output
 
-pub returns-in-Err-NotBuilt-clause-output : goal.returns-in-Err-NotBuilt-clause-output
-returns-in-Err-NotBuilt-clause-output g c =
+pub returns-then-is_stepped-clause-output : goal.returns-then-is_stepped-clause-output
+returns-then-is_stepped-clause-output g c =
     let f = g.F.Files in
     let seen : FilesSeen = record { told = f.told c.args.files.now; sure = f.sure c.args.files.now; lost = f.lost c.args.files.now; before = f.faults c.args.files.now; after = f.faults c.read_file.new.files; failed = f.failed c.read_file.new.files } in
-    if_ok_map _ _ c.unbuilt-in-Err-NotBuilt.result
-    (λ o p. unbuilt_output c.args.limits seen c.args.words.now c.in-Some.name.now c.in-Ok-Bytes.bytes.items c.as_slice.result.now o.status o.text.items c.in-Some.ensures
+    if_ok_map _ _ c.unbuilt.result
+    (λ o p. unbuilt_output c.args.limits seen c.args.words.now c.in-Some.name.now c.in-Ok-Bytes.bytes.items c.as_slice.result.now (lines_of c.in-Ok.script) o.status o.text.items c.in-Some.ensures
     (bytes_told (f.told c.args.files.now c.in-Some.name.now) c.in-Ok-Bytes.field-0 c.in-Ok-Bytes.bytes (search rules) c.in-Ok-Bytes.ensures.contents).0
-    (search rules) (search rules) (search rules) (search rules) p)
-    c.unbuilt-in-Err-NotBuilt.ensures
+    (search rules) (search rules) (search rules) (search rules) (search rules) p)
+    c.unbuilt.ensures
+
+pub returns-in-Err-Line-clause-output : goal.returns-in-Err-Line-clause-output
+returns-in-Err-Line-clause-output g c =
+    let f = g.F.Files in
+    let seen : FilesSeen = record { told = f.told c.args.files.now; sure = f.sure c.args.files.now; lost = f.lost c.args.files.now; before = f.faults c.args.files.now; after = f.faults c.read_file.new.files; failed = f.failed c.read_file.new.files } in
+    if_ok_map _ _ c.script_refused-in-Err-Line.result
+    (λ o p. refused_output c.args.limits seen c.args.words.now c.in-Some.name.now c.in-Ok-Bytes.bytes.items c.as_slice.result.now c.in-Err-Line.line _ o.status o.text.items c.in-Some.ensures
+    (bytes_told (f.told c.args.files.now c.in-Some.name.now) c.in-Ok-Bytes.field-0 c.in-Ok-Bytes.bytes (search rules) c.in-Ok-Bytes.ensures.contents).0
+    (search rules) (search rules) (search rules) (search rules) p (search rules))
+    c.script_refused-in-Err-Line.ensures
 
 pub returns-in-Err-Failed-clause-output : goal.returns-in-Err-Failed-clause-output
 returns-in-Err-Failed-clause-output g c =
