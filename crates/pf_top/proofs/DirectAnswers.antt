@@ -1,18 +1,19 @@
--- A lawful query is answered by its direct evaluation.
-use Rattle.std.proofs.Common.{◌≡◌, ℕ, zero, suc, ◌<◌, ◌≤◌, Bool, true, false, ◌||◌, All, get_or, length, List, [], ◌∷◌, map, refl, sym, ap, ◌∙◌, arith, subst}
+-- A query is answered by its direct evaluation.
+use Rattle.std.proofs.Common.{◌≡◌, ℕ, zero, suc, ◌<◌, Bool, true, false, ◌||◌, All, get_or, length, List, [], ◌∷◌, refl, sym, ap, ◌∙◌, arith, subst}
 use Rattle.std.specs.List.{list_any}
 use Rattle.std.specs.Str.{bytes_eq}
 use Rattle.std.proofs.lemmas.Slice.Eq.{bytes_eq-Decides}
-use Rattle.pf_base.specs.GridLists.{GridData}
-use Rattle.pf_base.specs.Grids.{points}
-use Rattle.pf_base.specs.LabelSets.{Pairs}
 use Rattle.pf_base.specs.declared.plain.Row.{Row}
-use Rattle.pf_model.specs.declared.expr.Matcher.{Matcher}
-use Rattle.pf_model.specs.Binding.{accepted_ids, bound_series, patterns_of, selectors_of}
-use Rattle.pf_model.specs.Built.{is_evaluated}
-use Rattle.pf_model.specs.Direct.{Answer, answered, direct, evaluated}
-use Rattle.pf_model.specs.Resolving.{resolved, resolved_over}
-use Rattle.pf_model.specs.Trees.{Tree, height}
+use Rattle.pf_model.specs.declared.cell.ErrorKind.{ErrorKind}
+use Rattle.pf_model.specs.declared.expr.Kind.{Kind}
+use Rattle.pf_model.specs.declared.expr.Kind.TheVariants.{Scalar, Instant, Range, Text}
+use Rattle.pf_model.specs.Direct.{Answer, MatrixRow, direct, gathered, failed}
+use Rattle.pf_journal.specs.Asking.{Asked}
+use Rattle.pf_journal.specs.Bodies.{body_text, result_text}
+use Rattle.pf_journal.specs.Machine.{code_of}
+use Rattle.pf_report.specs.Bodies.{answer_body, code_in, result_body, text_of}
+use Rattle.pf_report.specs.declared.bodies.Body.{Body}
+use Rattle.pf_report.specs.declared.bodies.Body.TheVariants as body
 
 -- ---- the patterns
 
@@ -28,35 +29,41 @@ among (x ∷ xs) (suc k) d h = behind (bytes_eq x (get_or xs k d)) (among xs k d
 pub all_among : (texts wanted : List (List ℕ)) → texts ≡ wanted → All (λ text. list_any (λ p. bytes_eq p text) texts ≡ true) wanted
 all_among texts wanted is = subst (All (λ text. list_any (λ p. bytes_eq p text) texts ≡ true)) is (among texts)
 
--- ---- one that no range changes, as it stands
+-- ---- the body
 
-pub shared_evaluated : (t u : Tree) → u ≡ t → is_evaluated t ≡ true → is_evaluated u ≡ true
-shared_evaluated t u is h = ap is_evaluated is ∙ h
+pub has_result : (samples : List Row) (asked : Asked) (rows : List MatrixRow) (b : Body) → b ≡ result_body asked.instant asked.kind rows
+    → direct samples asked.query ≡ gathered rows → b ≡ answer_body asked.instant asked.kind (direct samples asked.query)
+has_result samples asked rows b is d = is ∙ ap (answer_body asked.instant asked.kind) (sym d)
 
-pub settled_direct : (samples : List Row) (t u : Tree) (g : GridData) (a : Answer) → u ≡ t → ((start end : ℕ) → resolved start end u ≡ u)
-    → answered (evaluated samples u (points g)) ≡ a → direct samples (record { tree = resolved_over g t; grid = g }) ≡ a
-settled_direct samples t u g a is same d =
-    ap (λ (x : Tree). answered (evaluated samples (resolved_over g x) (points g))) (sym is)
-    ∙ ap (λ (x : Tree). answered (evaluated samples x (points g))) (same _ _) ∙ d
+pub has_failed : (samples : List Row) (asked : Asked) (step : ℕ) (kind : ErrorKind)
+    → direct samples asked.query ≡ failed step kind → body.Failed step kind ≡ answer_body asked.instant asked.kind (direct samples asked.query)
+has_failed samples asked step kind d = ap (answer_body asked.instant asked.kind) (sym d)
 
--- ---- or its copy with the range put in
+result_texts : (instant : Bool) (kind : Kind) (rows : List MatrixRow) → text_of (result_body instant kind rows) ≡ result_text instant kind rows
+result_texts false kind rows = refl
+result_texts true Scalar rows = refl
+result_texts true Instant rows = refl
+result_texts true Range rows = refl
+result_texts true Text rows = refl
 
-pub copied_evaluated : (t u v : Tree) → u ≡ t → is_evaluated v ≡ is_evaluated u → is_evaluated t ≡ true → is_evaluated v ≡ true
-copied_evaluated t u v is same h = same ∙ ap is_evaluated is ∙ h
+result_codes : (instant : Bool) (kind : Kind) (rows : List MatrixRow) → code_in (result_body instant kind rows) ≡ 200
+result_codes false kind rows = refl
+result_codes true Scalar rows = refl
+result_codes true Instant rows = refl
+result_codes true Range rows = refl
+result_codes true Text rows = refl
 
-pub copied_height : (t u v : Tree) → u ≡ t → height v ≡ height u → height t ≤ 64 → height v ≤ 64
-copied_height t u v is same h = subst (λ n. n ≤ 64) (sym (same ∙ ap height is)) h
+texts : (asked : Asked) (a : Answer) → text_of (answer_body asked.instant asked.kind a) ≡ body_text asked a
+texts asked (gathered rows) = result_texts asked.instant asked.kind rows
+texts asked (failed step kind) = refl
 
-pub copied_series : (t u v : Tree) (ls : List Pairs) (ids : List (List ℕ)) → u ≡ t → selectors_of v ≡ selectors_of u → ids ≡ bound_series t ls
-    → ids ≡ bound_series v ls
-copied_series t u v ls ids is same h =
-    h ∙ ap (λ (x : Tree). bound_series x ls) (sym is) ∙ ap (λ (x : List (List Matcher)). map (λ ms. accepted_ids ms ls) x) (sym same)
+codes : (asked : Asked) (a : Answer) → code_in (answer_body asked.instant asked.kind a) ≡ code_of a
+codes asked (gathered rows) = result_codes asked.instant asked.kind rows
+codes asked (failed step kind) = refl
 
-pub copied_patterns : (t u v : Tree) (texts : List (List ℕ)) → u ≡ t → patterns_of v ≡ patterns_of u → texts ≡ patterns_of t → texts ≡ patterns_of v
-copied_patterns t u v texts is same h = h ∙ ap patterns_of (sym is) ∙ sym same
+-- the text and the code of an answer's body
+pub body_texts : (asked : Asked) (a : Answer) (b : Body) → b ≡ answer_body asked.instant asked.kind a → text_of b ≡ body_text asked a
+body_texts asked a b is = ap text_of is ∙ texts asked a
 
-pub resolved_direct : (samples : List Row) (t u v : Tree) (g : GridData) (a : Answer) → u ≡ t → v ≡ resolved_over g u
-    → answered (evaluated samples v (points g)) ≡ a → direct samples (record { tree = resolved_over g t; grid = g }) ≡ a
-resolved_direct samples t u v g a is over d =
-    ap (λ (x : Tree). answered (evaluated samples (resolved_over g x) (points g))) (sym is)
-    ∙ ap (λ (x : Tree). answered (evaluated samples x (points g))) (sym over) ∙ d
+pub body_codes : (asked : Asked) (a : Answer) (b : Body) → b ≡ answer_body asked.instant asked.kind a → code_in b ≡ code_of a
+body_codes asked a b is = ap code_in is ∙ codes asked a

@@ -1,6 +1,7 @@
 pub mod Admitted
 pub mod Answering
 pub mod Batches
+pub mod Cases
 pub mod DirectAnswers
 pub mod Driving
 pub mod Entered
@@ -15,6 +16,7 @@ pub mod Onward
 pub mod OutputLaws
 pub mod OpenQueries
 pub mod Printed
+pub mod RangeSteps
 pub mod TextReads
 pub mod Reports
 pub mod SlotLaws

@@ -1,5 +1,5 @@
 -- What the steps of a replay give is what a run may print.
-use Rattle.std.proofs.Common.{◌≡◌, ℕ, ◌<◌, ◌≤◌, inl, inr, Bool, true, false, cond, nat_le, Option, Some, None, Result, Ok, Err, List, [], ◌∷◌, refl, arith, sym, ap, ◌∙◌, append-nil, length, take, subst, true≢false}
+use Rattle.std.proofs.Common.{◌≡◌, ℕ, ◌<◌, ◌≤◌, inl, inr, Bool, true, false, cond, nat_le, Option, Some, None, Result, Ok, Err, List, [], ◌∷◌, refl, arith, sym, ap, ◌∙◌, append-nil, length, take, subst}
 use Rattle.std.specs.BTreeMap.{get_by_text}
 use Rattle.std.proofs.lemmas.Bool.Decides.{nat_tests}
 use Rattle.pf_base.specs.declared.plain.Limits.{Limits}
@@ -9,7 +9,7 @@ use Rattle.pf_model.specs.Exposition.{file_lines}
 use Rattle.pf_journal.specs.Scripts.{Numbered, is_stepped, lines_from, most_bytes, script_of}
 use Rattle.pf_script.specs.Lines.{AllFollow, IsRead, lines_of}
 use Rattle.pf_script.specs.declared.script.Script.{Script}
-use Rattle.pf_top.specs.Correct.{Agree, AllRead, AreScripts, Correct, EndsWell, FilesSeen, HasFailed, Held, IsOutput, IsUnbuilt, Outside, Reaches, Refused, Reported, files_of, needed, needed_by, script_files}
+use Rattle.pf_top.specs.Correct.{Agree, AllRead, AreScripts, Correct, EndsWell, FilesSeen, HasFailed, Held, IsOutput, IsUnbuilt, Outside, Reaches, Reported, files_of, needed, needed_by, script_files}
 use Rattle.pf_top.specs.Drives.{AreShort, CanRun, IsReport}
 use Rattle.pf_top.specs.Files.{AreHeld, AreLoaded, Contents, IsKept, NamesFile, TellsContent}
 use Rattle.pf_top.specs.Queries.{AreReadAs, IsKeptFor}
@@ -131,11 +131,17 @@ module _ (held : Held) (words : List (List ℕ)) (name : List ℕ) (is : script_
       (read : script_of true (held name) ≡ Ok lines) (unstepped : is_stepped lines ≡ false) (found : files.lost name ≡ false) where
     printed_by : IsScriptOutput limits files held lines status text → IsPrinted limits files held words status text
     printed_by (inl (a, inl (zero, r))) =
-        inl (zero, inl (reported_by limits files lines false text read unstepped
-        (all_read files (files_of lines) (needed_lines lines false read unstepped) found a) r))
+        inl (
+          zero,
+          inl (reported_by limits files lines false text read unstepped
+              (all_read files (files_of lines) (needed_lines lines false read unstepped) found a) r),
+        )
     printed_by (inl (a, inr (eight, r))) =
-        inr (inl (eight, reported_by limits files lines true text read unstepped
-        (all_read files (files_of lines) (needed_lines lines false read unstepped) found a) r))
+        inr (inl (
+          eight,
+          reported_by limits files lines true text read unstepped
+              (all_read files (files_of lines) (needed_lines lines false read unstepped) found a) r,
+        ))
     printed_by (inr (four, (file, (reached, (fault, whole))))) =
         inr (inr (inl (
           four,

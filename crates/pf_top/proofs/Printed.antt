@@ -1,6 +1,7 @@
 -- What an evaluation prints.
-use Rattle.std.proofs.Common.{◌≡◌, ℕ, false, Option, Some, None, Result, Ok, Err, List, [], ◌++◌, refl, sym, ap, ◌∙◌, inl, inr, codes, decimal, subst}
+use Rattle.std.proofs.Common.{◌≡◌, ℕ, false, Option, Some, None, Result, Ok, Err, List, refl, sym, ap, ◌∙◌, inl, inr, codes, decimal, subst}
 use Rattle.std.specs.Arc.{arc_value}
+use Rattle.std.specs.Fmt.{digits}
 use Rattle.std.specs.Option.{option_map_or}
 use Rattle.std.specs.declared.alloc.Global.{Global}
 use Rattle.std.specs.declared.sync.Arc.{Arc}
@@ -10,48 +11,55 @@ use Rattle.pf_base.specs.Grids.{grid_of}
 use Rattle.pf_base.specs.declared.grid.GridError.{GridError}
 use Rattle.pf_base.specs.declared.plain.Limits.{Limits}
 use Rattle.pf_base.specs.declared.plain.Row.{Row}
-use Rattle.pf_model.specs.Direct.{Answer, Asked, direct}
+use Rattle.pf_model.specs.Direct.{direct}
 use Rattle.pf_model.specs.ErrorTexts.{QueryFault, grid_text, memory_text, query_text}
-use Rattle.pf_model.specs.Json.{answer_text, error_text}
 use Rattle.pf_model.specs.Log.{batch_samples}
-use Rattle.pf_script.specs.Machine.{code_of}
-use Rattle.pf_model.specs.Queries.{Reading, asked_with, lawful, refused}
-use Rattle.pf_script.specs.Report.{evaluated_text, evaluation_text}
-use Rattle.pf_model.specs.Resolving.{resolved_over}
-use Rattle.pf_script.specs.Scripts.{Evaluation, evaluation_words, script_word}
-use Rattle.pf_model.specs.Trees.{Tree}
+use Rattle.pf_journal.specs.Asking.{Asked, asked_over, asked_with}
+use Rattle.pf_journal.specs.Bodies.{body_text, refused_body}
+use Rattle.pf_journal.specs.Evaluations.{evaluated_text, evaluation_text}
+use Rattle.pf_journal.specs.Machine.{code_of}
+use Rattle.pf_model.specs.Queries.{Reading, lawful, refused}
+use Rattle.pf_report.specs.Bodies.{code_in, text_of}
+use Rattle.pf_report.specs.declared.bodies.Body.{Body}
 use Rattle.pf_types.specs.Errors.{words_of_error}
 use Rattle.pf_types.specs.declared.query.QueryError.{QueryError}
 use Rattle.pf_top.specs.Correct.{AllRead, FilesSeen, Held, IsUnbuilt, Reaches, needed, needed_by}
 use Rattle.pf_top.specs.Evaluations.{IsFileOutput, IsNamedOutput, IsText}
-use Rattle.pf_top.specs.Files.{HoldsContent}
+use Rattle.pf_top.specs.Files.{HoldsContent, TellsContent}
 use Rattle.pf_top.specs.Outputs.{IsPrinted, IsWordsOutput}
 use Rattle.pf_top.specs.Queries.{IsQueryRead}
 use Rattle.pf_top.specs.Refusals.{refused_not_built}
-use Rattle.pf_top.specs.declared.bound.BoundQuery.{BoundQuery}
+use Rattle.pf_top.specs.Words.{Evaluation, evaluation_words, script_word}
+use Rattle.pf_types.specs.declared.bound.BoundQuery.{BoundQuery}
 use Rattle.pf_top.specs.declared.loaded.Content.{Content}
 use Rattle.pf_top.specs.declared.queries.QueryRead.{QueryRead}
 use Rattle.pf_top.specs.declared.queries.QueryRead.TheVariants as query
 use Rattle.pf_top.proofs.Holding.{holding_bytes, holding_none, holding_one}
 
--- an answer over samples
-pub answer_printed : (samples : List Row) (t : Tree) (g : GridData) (wanted : Asked) (a : Answer) (text : List ℕ)
-    → wanted ≡ record { tree = t; grid = g } → direct samples wanted ≡ a → text ≡ [] ++ evaluation_text (decimal (code_of a)) (answer_text a)
-    → text ≡ evaluated_text samples (Some (Ok (record { tree = t; grid = g })))
-answer_printed samples t g wanted a text same is told =
-    told ∙ ap (λ (x : Answer). evaluation_text (decimal (code_of x)) (answer_text x)) (sym is)
+-- the code of a refusal
+pub code_400 : decimal 400 ≡ codes "400"
+unfolding digits
+code_400 = refl
+
+-- a body over samples
+pub body_printed : (samples : List Row) (wanted asked : Asked) (b : Body) (text : List ℕ)
+    → asked ≡ wanted → text_of b ≡ body_text asked (direct samples asked.query) → code_in b ≡ code_of (direct samples asked.query)
+    → text ≡ evaluation_text (decimal (code_in b)) (text_of b) → text ≡ evaluated_text samples (Some (Ok wanted))
+body_printed samples wanted asked b text same is coded told =
+    told ∙ ap (λ (n : ℕ). evaluation_text (decimal n) (text_of b)) coded
+    ∙ ap (evaluation_text (decimal (code_of (direct samples asked.query)))) is
     ∙ ap (λ (x : Asked). evaluated_text samples (Some (Ok x))) same
 
 -- a lawful query, and one that is refused, over a grid
 pub query_printed : (batch : BatchData) (words : List ℕ) (start end step : ℕ) (grid : GridData) (q : Arc BoundQuery Global) (text : List ℕ)
-    → text ≡ evaluated_text (batch_samples batch.rows) (Some (Ok (record { tree = resolved_over grid (arc_value q); grid = grid })))
+    → text ≡ evaluated_text (batch_samples batch.rows) (Some (Ok (asked_over false grid (arc_value q))))
     → IsQueryRead words (query.Lawful q) → grid_of start end step ≡ Ok grid → IsText batch words start end step text
 query_printed batch words start end step grid q text told h gridded =
     let reading : Reading = lawful (arc_value q) in
-    (reading, (h, told ∙ ap (λ (g : Result GridData GridError). evaluated_text (batch_samples batch.rows) (asked_with g (Some reading))) (sym gridded)))
+    (reading, (h, told ∙ ap (λ (g : Result GridData GridError). evaluated_text (batch_samples batch.rows) (asked_with false g (Some reading))) (sym gridded)))
 
 pub refusal_printed : (batch : BatchData) (words : List ℕ) (start end step : ℕ) (grid : GridData) (e : QueryError) (text : List ℕ)
-    → text ≡ evaluation_text (codes "400") (error_text (codes "bad_data") (words_of_error e))
+    → text ≡ evaluation_text (codes "400") (refused_body (words_of_error e))
     → IsQueryRead words (query.Refused e) → grid_of start end step ≡ Ok grid → IsText batch words start end step text
 refusal_printed batch words start end step grid e text told h gridded =
     let reading : Reading = refused h.0 in (
@@ -59,21 +67,21 @@ refusal_printed batch words start end step grid e text told h gridded =
       (
         h.1.1,
         told
-            ∙ ap (λ (o : Option QueryFault). evaluation_text (codes "400") (error_text (codes "bad_data") (option_map_or query_text o memory_text))) h.1.0
-            ∙ ap (λ (g : Result GridData GridError). evaluated_text (batch_samples batch.rows) (asked_with g (Some reading))) (sym gridded),
+            ∙ ap (λ (o : Option QueryFault). evaluation_text (codes "400") (refused_body (option_map_or query_text o memory_text))) h.1.0
+            ∙ ap (λ (g : Result GridData GridError). evaluated_text (batch_samples batch.rows) (asked_with false g (Some reading))) (sym gridded),
       ),
     )
 
 -- where the times are refused, however the query is read
 pub times_printed : (batch : BatchData) (words : List ℕ) (start end step : ℕ) (error : GridError) (q : QueryRead) (text : List ℕ)
-    → text ≡ evaluation_text (codes "400") (error_text (codes "bad_data") (grid_text error))
+    → text ≡ evaluation_text (codes "400") (refused_body (grid_text error))
     → IsQueryRead words q → grid_of start end step ≡ Err error → IsText batch words start end step text
 times_printed batch words start end step error (query.Lawful q) text told h gridded =
     let reading : Reading = lawful (arc_value q) in
-    (reading, (h, told ∙ ap (λ (g : Result GridData GridError). evaluated_text (batch_samples batch.rows) (asked_with g (Some reading))) (sym gridded)))
+    (reading, (h, told ∙ ap (λ (g : Result GridData GridError). evaluated_text (batch_samples batch.rows) (asked_with false g (Some reading))) (sym gridded)))
 times_printed batch words start end step error (query.Refused e) text told h gridded =
     let reading : Reading = refused h.0 in
-    (reading, (h.1.1, told ∙ ap (λ (g : Result GridData GridError). evaluated_text (batch_samples batch.rows) (asked_with g (Some reading))) (sym gridded)))
+    (reading, (h.1.1, told ∙ ap (λ (g : Result GridData GridError). evaluated_text (batch_samples batch.rows) (asked_with false g (Some reading))) (sym gridded)))
 
 -- ---- by the words
 
@@ -106,20 +114,20 @@ other_words limits files words status text none neither steady p =
 
 -- one file was read, or not
 pub named_read : (files : FilesSeen) (named : Evaluation) (content : Content) (status : ℕ) (text : List ℕ)
-    → HoldsContent (files.told named.file) content → files.lost named.file ≡ false → files.after ≡ files.before
-    → ((told : Option (List ℕ)) → HoldsContent told content → IsFileOutput told named status text)
+    → TellsContent (files.told named.file) content → files.lost named.file ≡ false → files.after ≡ files.before
+    → ((held : List ℕ) → HoldsContent held content → IsFileOutput held named status text)
     → IsNamedOutput files named status text
 named_read files named content status text holds found steady output =
     let h = holding_one (files.told named.file) content holds in
-    inl (h.0, (h.1.0, (output (Some h.0) h.1.1, record { there = (found, tt); steady = steady })))
+    inl (h.0, (h.1.0, (output h.0 h.1.1, record { there = (found, tt); steady = steady })))
 
 file_printed : (limits : Limits) (files : FilesSeen) (held : Held) (words : List (List ℕ)) (named : Evaluation) (status : ℕ) (text : List ℕ)
-    → evaluation_words words ≡ Some named → AllRead files (needed held words) → IsFileOutput (Some (held named.file)) named status text
+    → evaluation_words words ≡ Some named → AllRead files (needed held words) → IsFileOutput (held named.file) named status text
     → IsPrinted limits files held words status text
 file_printed limits files held words named status text is a (inl (batch, (gives, (zero, (reading, (read, whole)))))) =
     inl (zero, inr (record { all = a; named = named; by_words = is; batch = batch; gives = gives; reading = reading; read = read; whole = whole }))
 file_printed limits files held words named status text is a (inr (three, (refusal, (is_refused, whole)))) =
-    inr (inr (inr (inr (three, record { all = a; named = named; by_words = is; refusal = refusal; refused = is_refused; whole = whole }))))
+    inr (inr (inr (inr (three, inl (record { all = a; named = named; by_words = is; refusal = refusal; refused = is_refused; whole = whole })))))
 
 -- an evaluation, whose file may not be read
 pub named_printed : (limits : Limits) (files : FilesSeen) (words : List (List ℕ)) (named : Evaluation) (status : ℕ) (text : List ℕ)
@@ -132,7 +140,7 @@ named_printed limits files words named status text none is (inl (bytes, (holds, 
       agree = h.1.0;
       printed = file_printed limits files h.0 words named status text is
           (subst (AllRead files) (sym (needed_words h.0 words (Some named) none is)) a)
-          (subst (λ (b : List ℕ). IsFileOutput (Some b) named status text) (sym h.1.1) output);
+          (subst (λ (b : List ℕ). IsFileOutput b named status text) (sym h.1.1) output);
     }
 named_printed limits files words named status text none is (inr (four, (fault, whole))) =
     let h = holding_none files.told in

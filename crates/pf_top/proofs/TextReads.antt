@@ -1,7 +1,7 @@
 -- Queries and selectors that were read.
-use Rattle.std.proofs.Common.{◌≡◌, ◌≢◌, ℕ, ℤ, zero, suc, ◌+◌, ◌<◌, pos, inl, inr, Bool, true, false, Option, Some, None, Result, Ok, Err, cond, get_or, map, take, List, [], ◌∷◌, ◌++◌, length, refl, sym, ap, ◌∙◌, arith, subst, is_some, true≢false}
+use Rattle.std.proofs.Common.{◌≡◌, ◌≢◌, ℕ, ℤ, zero, suc, ◌+◌, ◌<◌, pos, inl, inr, Bool, true, false, Option, Some, None, Result, Ok, Err, cond, get_or, map, take, List, [], ◌∷◌, ◌++◌, length, refl, sym, ap, ◌∙◌, subst, is_some, true≢false}
 use Rattle.std.specs.BTreeMap.{get_by_text}
-use Rattle.std.specs.Prelude.{◌&&◌, ◌||◌, not, Box, Vec, option_and_then, option_map}
+use Rattle.std.specs.Prelude.{◌&&◌, not, Box, Vec, option_and_then, option_map}
 use Rattle.std.specs.Option.{is_none, option_map_or}
 use Rattle.std.specs.Ordering.{int_eq}
 use Rattle.std.proofs.Math.Bool.{and-false}
@@ -13,7 +13,6 @@ use Rattle.std.specs.declared.sync.Arc.{Arc}
 use Rattle.std.proofs.lemmas.List.{take_more}
 use Rattle.std.proofs.lemmas.Slice.Eq.{bytes_eq-Decides}
 use Rattle.pf_base.specs.GridLists.{GridData}
-use Rattle.pf_base.specs.Grids.{grid_of}
 use Rattle.pf_base.specs.declared.grid.GridError.{GridError}
 use Rattle.pf_model.specs.declared.expr.Matcher.{Matcher}
 use Rattle.pf_model.specs.declared.expr.Mods.{Mods}
@@ -26,12 +25,11 @@ use Rattle.pf_model.specs.declared.functions.AggOp.{AggOp}
 use Rattle.pf_model.specs.Clauses.{Grouped, Matched}
 use Rattle.pf_model.proofs.TreeOf.{number_tree, text_tree, unary_tree, binary_tree, call_tree, aggregate_tree, select_tree, subquery_tree}
 use Rattle.pf_model.specs.declared.matchers.Matchers.{Matchers}
-use Rattle.pf_model.specs.Direct.{Asked}
+use Rattle.pf_journal.specs.Asking.{Asked, asked_over, asked_with}
 use Rattle.pf_model.specs.ErrorTexts.{QueryFault, of_grammar, of_kinds, refused_pattern, empty_selector, memory_text, query_text}
 use Rattle.pf_model.specs.Lists.{Each, at}
-use Rattle.pf_model.specs.Queries.{CanRefuse, Readings, asked_of, asked_with, first_empty, IsFaultOf, IsNoSelector, IsQuery, IsReading, IsSelector, Reading, is_plain, is_unmodified, lawful, may_be_no_selector, may_be_refused, no_selector, refused, selecting, selector}
-use Rattle.pf_script.specs.Scripts.{Line, Numbered, ingest, delete, ask, answer}
-use Rattle.pf_model.specs.Resolving.{resolved_over}
+use Rattle.pf_model.specs.Queries.{CanRefuse, Readings, first_empty, IsFaultOf, IsNoSelector, IsQuery, IsReading, IsSelector, Reading, is_plain, is_unmodified, lawful, may_be_no_selector, may_be_refused, no_selector, refused, selecting, selector}
+use Rattle.pf_journal.specs.Scripts.{Numbered}
 use Rattle.pf_model.specs.Selection.{accepts_empty, all_compared}
 use Rattle.pf_model.specs.Trees.{Tree, number, text, unary, binary, call, aggregate, select, subquery, instant, no_mods, tree_of}
 use Rattle.pf_model.specs.Typing.{Fault, asked_fault}
@@ -40,15 +38,15 @@ use Rattle.pf_script.specs.declared.script.NumberedLine.{NumberedLine}
 use Rattle.pf_types.specs.Errors.{IsFaultFor, query_fault, words_of_error}
 use Rattle.pf_types.specs.declared.query.QueryError.{QueryError}
 use Rattle.pf_types.specs.declared.query.QueryError.TheVariants as query_error
-use Rattle.pf_top.specs.declared.bound.BoundQuery.{BoundQuery}
-use Rattle.pf_top.specs.Queries.{AreReadAs, IsKeptFor, IsLineRead, IsQueryRead, IsReadAs, IsSelectorRead, IsTextRead, Queries, SelectsAs, StayRead, query_reading, reading_in, readings_in}
+use Rattle.pf_types.specs.declared.bound.BoundQuery.{BoundQuery}
+use Rattle.pf_top.specs.Queries.{AreReadAs, IsKept, IsKeptFor, IsLineRead, IsQueryRead, IsReadAs, IsSelectorRead, IsTextRead, Queries, SelectsAs, StayRead, query_reading, reading_in, readings_in, text_in}
 use Rattle.pf_top.specs.declared.queries.QueryRead.{QueryRead}
 use Rattle.pf_top.specs.declared.queries.QueryRead.TheVariants as query
 use Rattle.pf_top.specs.declared.queries.SelectorRead.{SelectorRead}
 use Rattle.pf_top.specs.declared.queries.SelectorRead.TheVariants as chosen
 use Rattle.pf_top.specs.declared.queries.TextRead.{TextRead}
 use Rattle.pf_top.proofs.Lists.{each_push, map_push, some_is}
-use Rattle.pf_top.proofs.Machines.{bool_cases}
+use Rattle.pf_top.proofs.Cases.{bool_cases}
 
 -- ---- trees as selectors
 
@@ -243,26 +241,26 @@ selects_found kept words r m ms right there is same =
 pub selects_refused : (kept : Queries) (words : List ℕ) (r : TextRead) → AreReadAs kept → get_by_text kept words ≡ Some r → r.selector ≡ chosen.Refused → IsNoSelector words
 selects_refused kept words r right there is = subst (IsSelectorRead words) is (right words r there).1
 
--- an ask finds a query
-pub asked_found : (kept : Queries) (words : List ℕ) (r : TextRead) (q : Arc BoundQuery Global) (wanted : Asked) (read : Readings) (start end step : ℕ) (grid : GridData)
-    → get_by_text kept words ≡ Some r → r.query ≡ query.Lawful q → wanted ≡ record { tree = resolved_over grid (arc_value q); grid = grid } → read ≡ readings_in kept → grid_of start end step ≡ Ok grid
-    → asked_of read start end step words ≡ Some (Ok wanted)
-asked_found kept words r q wanted read start end step grid there is same reads gridded =
+-- an ask or an instant query finds a query, by what its times give
+pub asked_found : (kept : Queries) (words : List ℕ) (r : TextRead) (q : Arc BoundQuery Global) (wanted : Asked) (read : Readings) (instant : Bool) (g : Result GridData GridError) (grid : GridData)
+    → get_by_text kept words ≡ Some r → r.query ≡ query.Lawful q → wanted ≡ asked_over instant grid (arc_value q) → read ≡ readings_in kept → g ≡ Ok grid
+    → asked_with instant g (read words) ≡ Some (Ok wanted)
+asked_found kept words r q wanted read instant g grid there is same reads gridded =
     let reading : read words ≡ Some (lawful (arc_value q)) =
     ap (λ (f : Readings). f words) reads ∙ ap (option_and_then reading_in) there ∙ ap query_reading is in
-    ap (λ (g : Result GridData GridError). asked_with g (read words)) gridded ∙ ap (asked_with (Ok grid)) reading
+    ap (λ (x : Result GridData GridError). asked_with instant x (read words)) gridded ∙ ap (asked_with instant (Ok grid)) reading
     ∙ ap (λ (x : Asked). Some (Ok x)) (sym same)
 
 -- or a refused one
-pub asked_refused : (kept : Queries) (words : List ℕ) (r : TextRead) (e : QueryError) (read : Readings) (start end step : ℕ) (grid : GridData)
-    → AreReadAs kept → get_by_text kept words ≡ Some r → r.query ≡ query.Refused e → read ≡ readings_in kept → grid_of start end step ≡ Ok grid
-    → asked_of read start end step words ≡ Some (Err (words_of_error e))
-asked_refused kept words r e read start end step grid right there is reads gridded =
+pub asked_refused : (kept : Queries) (words : List ℕ) (r : TextRead) (e : QueryError) (read : Readings) (instant : Bool) (g : Result GridData GridError) (grid : GridData)
+    → AreReadAs kept → get_by_text kept words ≡ Some r → r.query ≡ query.Refused e → read ≡ readings_in kept → g ≡ Ok grid
+    → asked_with instant g (read words) ≡ Some (Err (words_of_error e))
+asked_refused kept words r e read instant g grid right there is reads gridded =
     let h : IsQueryRead words (query.Refused e) = subst (IsQueryRead words) is (right words r there).0 in
     let reading : read words ≡ Some (refused h.0) =
     ap (λ (f : Readings). f words) reads ∙ ap (option_and_then reading_in) there ∙ ap query_reading is ∙ ap (option_map refused) h.1.0 in
-    ap (λ (g : Result GridData GridError). asked_with g (read words)) gridded
-    ∙ ap (asked_with (Ok grid)) reading
+    ap (λ (x : Result GridData GridError). asked_with instant x (read words)) gridded
+    ∙ ap (asked_with instant (Ok grid)) reading
     ∙ ap (λ (t : List ℕ). Some (Err t)) (sym (ap (λ (o : Option QueryFault). option_map_or query_text o memory_text) h.1.0))
 
 -- ---- texts that are read one by one
@@ -295,15 +293,13 @@ read_new old new words q right is absent there others = record {
 pub read_before : (kept : Queries) (words : List ℕ) (q : TextRead) → AreReadAs kept → get_by_text kept words ≡ Some q → IsTextRead kept words kept
 read_before kept words q right there = record { right = right; read = q; there = there; still = λ other p g. g }
 
-kept_still : (old new : Queries) → StayRead old new → (l : Line) → IsKeptFor old l → IsKeptFor new l
-kept_still old new still (ingest tenant file time) k = tt
-kept_still old new still (delete tenant from to words) k = record { read = k.read; there = still words k.read k.there }
-kept_still old new still (ask id tenant start end step words) k = record { read = k.read; there = still words k.read k.there }
-kept_still old new still (answer id asked) k = tt
+kept_still : (old new : Queries) → StayRead old new → (words : Option (List ℕ)) → IsKept old words → IsKept new words
+kept_still old new still None k = tt
+kept_still old new still (Some words) k = record { read = k.read; there = still words k.read k.there }
 
 lines_still : (old new : Queries) → StayRead old new → (ls : List Numbered) → Each (λ l. IsKeptFor old l.line) ls → Each (λ l. IsKeptFor new l.line) ls
 lines_still old new still [] h = tt
-lines_still old new still (l ∷ ls) h = (kept_still old new still l.line h.0, lines_still old new still ls h.1)
+lines_still old new still (l ∷ ls) h = (kept_still old new still (text_in l.line) h.0, lines_still old new still ls h.1)
 
 -- the text of a further line
 pub read_more : (ls : List NumberedLine) (i : ℕ) (l : NumberedLine) (old new : Queries) → i < length ls → l ≡ get_or ls i l

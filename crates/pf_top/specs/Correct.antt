@@ -14,7 +14,7 @@ use Rattle.pf_journal.specs.Legal.{Legal, AreNames}
 use Rattle.pf_journal.specs.Machine.{Entry, What}
 use Rattle.pf_journal.specs.Machine as entry
 use Rattle.pf_journal.specs.Report.{report}
-use Rattle.pf_journal.specs.Rest.{Client, Known, Rest, at_full, no_memory}
+use Rattle.pf_journal.specs.Rest.{Client, Rest, at_full, no_memory}
 use Rattle.pf_journal.specs.Scripts.{Line, Numbered, ingest, is_stepped, script_of}
 use Rattle.pf_journal.specs.Weave.{Weave}
 use Rattle.pf_top.specs.Refusals.{refused_file, refused_not_built, refused_read, refused_script}

@@ -10,3 +10,4 @@ pub mod Outputs
 pub mod Queries
 pub mod Refusals
 pub mod Sessions
+pub mod Words

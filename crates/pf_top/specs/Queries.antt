@@ -6,9 +6,9 @@ use Rattle.std.specs.declared.alloc.Global.{Global}
 use Rattle.std.specs.declared.string.String.{String}
 use Rattle.pf_model.specs.ErrorTexts.{QueryFault}
 use Rattle.pf_model.specs.Queries.{IsFaultOf, IsNoSelector, IsReading, IsSelector, Reading, Readings, lawful, may_be_no_selector, no_selector, refused, selecting, selector}
-use Rattle.pf_script.specs.Scripts.{Line, ingest, delete, ask, answer}
 use Rattle.pf_model.specs.Trees.{Tree}
-use Rattle.pf_script.specs.Weave.{Known}
+use Rattle.pf_journal.specs.Rest.{Known}
+use Rattle.pf_journal.specs.Scripts.{Line, delete, ask, instant}
 use Rattle.pf_types.specs.Errors.{query_fault}
 use Rattle.pf_top.specs.Files.{AreHeld}
 use Rattle.pf_top.specs.declared.loaded.Loaded.{Loaded}
@@ -59,12 +59,20 @@ pub record IsTextKept (kept : Queries) (text : List ℕ) : Type 0 where
   pub read : TextRead
   pub there : get_by_text kept text ≡ Some read
 
--- the query or the selector of a line was read
+-- the query or the selector of a line
+abbrev pub text_in : Line → Option (List ℕ)
+text_in (delete tenant from to words) = Some words
+text_in (ask id tenant start end step words) = Some words
+text_in (instant id tenant time words) = Some words
+text_in _ = None
+
+abbrev pub IsKept : Queries → Option (List ℕ) → Type 0
+IsKept kept None = Unit {0}
+IsKept kept (Some text) = IsTextKept kept text
+
+-- that of a line was read
 abbrev pub IsKeptFor : Queries → Line → Type 0
-IsKeptFor kept (ingest tenant file time) = Unit {0}
-IsKeptFor kept (delete tenant from to words) = IsTextKept kept words
-IsKeptFor kept (ask id tenant start end step words) = IsTextKept kept words
-IsKeptFor kept (answer id asked) = Unit {0}
+IsKeptFor kept line = IsKept kept (text_in line)
 
 -- what was read stays
 abbrev pub StayRead : Queries → Queries → Type 0
@@ -83,7 +91,7 @@ pub record IsLineRead (old : Queries) (line : Line) (new : Queries) : Type 0 whe
   pub kept : IsKeptFor new line
   pub still : StayRead old new
 
--- what lines are judged by is what was loaded, wherever what files hold is told
+-- what lines are judged by is what was loaded
 pub record IsTold (known : Known) (loaded : Loaded) : Type 0 where
   pub held : AreHeld known.files loaded.files
   pub readings : known.readings ≡ readings_in loaded.queries

@@ -8,14 +8,14 @@ ghost use Rattle.pf_top.specs.Correct.{Correct, FilesSeen, Held, Outside};
 ghost use Rattle.pf_top.specs.Drives.{AreShort};
 ghost use Rattle.pf_io.specs.Outside.{Holds};
 ghost use Rattle.pf_journal.specs.Scripts.{is_stepped, most_bytes};
-ghost use Rattle.pf_top.specs.Clients.{refusal_in};
+ghost use Rattle.pf_report.specs.Replies.{fault_of};
 ghost use Rattle.pf_top.specs.Evaluations.{IsBatchOutput, IsFileOutput, IsNamedOutput, evaluation_in};
 ghost use Rattle.pf_top.specs.Files.{AreHeld, HoldsContent, IsKept, IsShort, NamesFile};
 ghost use Rattle.pf_top.specs.Outputs.{IsReplay, IsRun, IsWordsOutput, default_limits};
 ghost use Rattle.pf_top.specs.Refusals.{refused_file, refused_line, refused_not_built, refused_read, refused_script};
 ghost use Rattle.pf_top.specs.Words.{evaluation_words, script_word};
 
-use crate::client::{FileFault, FileRead, read_content};
+use crate::client::{FileRead, read_content};
 use crate::drive::run_script;
 use crate::evaluation::evaluation_of;
 use crate::loaded::{Content, Contents, LoadError, Loaded, load_all, only, read_file};
@@ -23,7 +23,7 @@ use crate::queries::read_queries;
 use crate::words::{Evaluation, evaluation_words, script_name};
 use pf_base::{Batch, Limits, OutOfMemory, Text};
 use pf_io::{Doors, Files, Gate, Hop, ReadError, Sink, put_all};
-use pf_report::{Word, push_line};
+use pf_report::{FileFault, Word, push_line};
 use pf_script::{Script, ScriptError, read_script};
 use std::alloc::Global;
 use std::net::Net;
@@ -150,7 +150,7 @@ fn replay_script<F: Files>(
 
 /// `refused: file line N`, with its status. The line is 0 where the file has too many rows or bytes.
 fn file_refused(alloc: Global, fault: FileFault) -> Result<Output, OutOfMemory>
-    ensures { IfOk result (λ o. (o.status ≡ 3) × (o.text.items ≡ refused_file (refusal_in fault))) }
+    ensures { IfOk result (λ o. (o.status ≡ 3) × (o.text.items ≡ refused_file (fault_of fault))) }
 {
     let mut text = Vec::new(alloc);
     push_line(
@@ -166,7 +166,7 @@ fn file_refused(alloc: Global, fault: FileFault) -> Result<Output, OutOfMemory>
 }
 
 fn refused_line(fault: FileFault) -> u64
-    ensures { result ≡ refused_line (refusal_in fault) }
+    ensures { result ≡ refused_line (fault_of fault) }
 {
     match fault {
         FileFault::BadLine(line) | FileFault::TimeTooLarge(line) => line as u64,

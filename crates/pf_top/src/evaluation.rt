@@ -1,30 +1,27 @@
 //! The evaluation of a query over the samples of one batch.
 
-ghost use Rattle.std.specs.Prelude.{◌≡◌, Err, IfOk, List, Ok, Some, ℕ, codes, true};
+ghost use Rattle.std.specs.Prelude.{◌≡◌, ◌<◌, IfOk, List, Ok, Some, ℕ, codes, decimal, false, true};
 ghost use Rattle.std.specs.Arc.{arc_value};
-ghost use Rattle.pf_base.specs.Batches.{BatchData};
 ghost use Rattle.pf_base.specs.Grids.{grid_of};
 ghost use Rattle.pf_block.specs.Snaps.{are_timed};
+ghost use Rattle.pf_journal.specs.Asking.{asked_over};
+ghost use Rattle.pf_journal.specs.Bodies.{refused_body};
+ghost use Rattle.pf_journal.specs.Evaluations.{evaluated_text, evaluation_text};
 ghost use Rattle.pf_model.specs.ErrorTexts.{grid_text};
-ghost use Rattle.pf_model.specs.Json.{error_text};
 ghost use Rattle.pf_model.specs.Log.{AreApart, batch_samples};
-ghost use Rattle.pf_script.specs.Report.{evaluated_text, evaluation_text};
-ghost use Rattle.pf_model.specs.Resolving.{resolved_over};
+ghost use Rattle.pf_report.specs.Bodies.{code_in, text_of};
 ghost use Rattle.pf_store.specs.Standing.{StandsFor};
-ghost use Rattle.pf_top.specs.Entries.{asked_in};
 ghost use Rattle.pf_top.specs.Evaluations.{IsEvaluationText, IsText, evaluation_in};
 ghost use Rattle.pf_top.specs.Queries.{IsQueryRead};
 ghost use Rattle.pf_types.specs.Errors.{words_of_error};
 
-use crate::bound::BoundQuery;
-use crate::entry::Asked;
 use crate::evaluate::evaluate;
 use crate::queries::{QueryRead, read_text};
 use crate::words::Evaluation;
 use pf_base::{Batch, Grid, GridError, OutOfMemory, Text};
-use pf_report::{push_bad_evaluation, push_evaluation};
+use pf_report::{Body, push_evaluation};
 use pf_store::{Pin, TenantLog};
-use pf_types::{QueryError, error_text, grid_text};
+use pf_types::{BoundQuery, QueryError, When, error_text, grid_text};
 use std::alloc::Global;
 use std::sync::Arc;
 
@@ -39,56 +36,55 @@ fn pinned(alloc: Global, batch: &Batch) -> Result<Pin, OutOfMemory>
     Ok(pin)
 }
 
-/// A query over a grid.
-fn asked_over(query: &Arc<BoundQuery>, grid: Grid) -> Result<Asked, OutOfMemory>
-    ensures { IfOk result (λ a. asked_in a ≡ record { tree = resolved_over grid (arc_value query.now); grid = grid }) }
+/// What is printed of a body.
+fn printed(alloc: Global, body: &Body) -> Result<Vec<u8>, OutOfMemory>
+    ensures { IfOk result (λ v. v.items ≡ evaluation_text (decimal (code_in body.now)) (text_of body.now)) }
 {
-    Ok(Asked {
-        query: Arc::try_clone(query)?,
-        grid,
-    })
+    let mut text = Vec::new(alloc);
+    push_evaluation(alloc, &mut text, body)?;
+    Ok(text)
 }
 
-/// What is printed of a query that is built.
+/// What is printed of a query over a grid.
 fn evaluated(
     alloc: Global,
     batch: &Batch,
     query: &Arc<BoundQuery>,
     grid: Grid,
 ) -> Result<Vec<u8>, OutOfMemory>
-    requires { are_timed batch.now.rows ≡ true }
-    ensures { IfOk result (λ v. v.items ≡ evaluated_text (batch_samples batch.now.rows) (Some (Ok (record { tree = resolved_over grid (arc_value query.now); grid = grid })))) }
+    requires timed { are_timed batch.now.rows ≡ true }
+    requires step { 0 < grid.step }
+    ensures { IfOk result (λ v. v.items ≡ evaluated_text (batch_samples batch.now.rows) (Some (Ok (asked_over false grid (arc_value query.now))))) }
 {
     let pin = pinned(alloc, batch)?;
-    let asked = asked_over(query, grid)?;
-    let answer = evaluate(alloc, &asked, &pin.snap)?;
-    let mut text = Vec::new(alloc);
-    push_evaluation(alloc, &mut text, &answer)?;
+    let asked = query.asked(alloc, When::Range(grid))?;
+    let body = evaluate(alloc, &asked, &pin.snap)?;
+    let text = printed(alloc, &body)?;
     Ok(text)
 }
 
 /// What is printed of a refusal.
-fn refused(alloc: Global, message: &Text) -> Result<Vec<u8>, OutOfMemory>
-    ensures { IfOk result (λ v. v.items ≡ evaluation_text (codes "400") (error_text (codes "bad_data") message.now)) }
+#[tactic(auto, using(crate::proofs::Printed::code_400))]
+fn refused(alloc: Global, message: Text) -> Result<Vec<u8>, OutOfMemory>
+    ensures { IfOk result (λ v. v.items ≡ evaluation_text (codes "400") (refused_body message)) }
 {
-    let mut text = Vec::new(alloc);
-    push_bad_evaluation(alloc, &mut text, message.as_str())?;
+    let text = printed(alloc, &Body::Refused(message))?;
     Ok(text)
 }
 
 fn refused_query(alloc: Global, error: &QueryError) -> Result<Vec<u8>, OutOfMemory>
-    ensures { IfOk result (λ v. v.items ≡ evaluation_text (codes "400") (error_text (codes "bad_data") (words_of_error error.now))) }
+    ensures { IfOk result (λ v. v.items ≡ evaluation_text (codes "400") (refused_body (words_of_error error.now))) }
 {
     let message = error_text(alloc, error)?;
-    let text = refused(alloc, &message)?;
+    let text = refused(alloc, message)?;
     Ok(text)
 }
 
 fn refused_grid(alloc: Global, error: GridError) -> Result<Vec<u8>, OutOfMemory>
-    ensures { IfOk result (λ v. v.items ≡ evaluation_text (codes "400") (error_text (codes "bad_data") (grid_text error))) }
+    ensures { IfOk result (λ v. v.items ≡ evaluation_text (codes "400") (refused_body (grid_text error))) }
 {
     let message = grid_text(alloc, error)?;
-    let text = refused(alloc, &message)?;
+    let text = refused(alloc, message)?;
     Ok(text)
 }
 
@@ -99,7 +95,8 @@ fn text_over(
     read: &QueryRead,
     grid: Grid,
 ) -> Result<Vec<u8>, OutOfMemory>
-    requires { are_timed batch.now.rows ≡ true }
+    requires timed { are_timed batch.now.rows ≡ true }
+    requires step { 0 < grid.step }
     ensures { IfOk result (λ t. (query : List ℕ) (start end step : ℕ) → IsQueryRead query read.now → grid_of start end step ≡ Ok grid → IsText batch.now query start end step t.items) }
 {
     match read {
@@ -115,6 +112,7 @@ fn text_over(
 }
 
 /// What the evaluation of a query prints over the samples of a batch. Refused times come before a refused query.
+#[tactic(auto, using(crate::proofs::RangeSteps::has_step))]
 pub fn evaluation_of(
     alloc: Global,
     batch: &Batch,

@@ -6,7 +6,6 @@
 //! does the same within any limits.
 #![tactic(auto)]
 
-mod bound;
 mod client;
 mod drive;
 mod driver;

@@ -10,12 +10,11 @@ ghost use Rattle.pf_script.specs.Lines.{lines_of, numbered_of};
 ghost use Rattle.pf_top.specs.Queries.{AreReadAs, IsKeptFor, IsLineRead, IsQueryRead, IsReadAs, IsTextRead, SelectsAs};
 ghost use Rattle.pf_types.specs.Errors.{query_fault};
 
-use crate::bound::{BoundQuery, evaluable};
 use pf_base::{OutOfMemory, Text};
 use pf_model::{Expr, MatchError, Matchers, Mods, Selector};
 use pf_parse::ParseError;
 use pf_script::{Line, NumberedLine, Script};
-use pf_types::{BindError, QueryError, bind, read_query};
+use pf_types::{BindError, BoundQuery, QueryError, bind, read_query};
 use std::alloc::Global;
 use std::collections::BTreeMap;
 use std::sync::Arc;
@@ -105,13 +104,11 @@ fn read_selector(alloc: Global, expr: &Expr) -> Result<SelectorRead, OutOfMemory
 
 /// What a query with its matchers and patterns is read as.
 #[tactic(auto, using(crate::proofs::TextReads::lawful_right))]
-fn read_bound(alloc: Global, query: pf_types::BoundQuery) -> Result<QueryRead, OutOfMemory>
-    requires selects { first_empty query ≡ None }
-    requires low { height query ≤ 64 }
-    requires evaluated { is_evaluated query ≡ true }
+fn read_bound(alloc: Global, query: BoundQuery) -> Result<QueryRead, OutOfMemory>
+    requires { first_empty query ≡ None }
     ensures { IfOk result (λ q. (text : List ℕ) → IsQuery text query → IsQueryRead text q) }
 {
-    Ok(QueryRead::Lawful(Arc::new(alloc, evaluable(query))?))
+    Ok(QueryRead::Lawful(Arc::new(alloc, query)?))
 }
 
 /// What a query whose kinds are lawful is read as.
@@ -204,7 +201,7 @@ fn read_line(alloc: Global, queries: &mut Queries, line: &NumberedLine) -> Resul
     ensures { OnOk result (IsLineRead queries.old (numbered_of line.now).line queries.new) }
 {
     match &line.line {
-        Line::Ask { query, .. } => read_one(alloc, queries, query),
+        Line::Ask { query, .. } | Line::Instant { query, .. } => read_one(alloc, queries, query),
         Line::Delete { selector, .. } => read_one(alloc, queries, selector),
         _ => Ok(()),
     }

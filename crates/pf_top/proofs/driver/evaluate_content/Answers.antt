@@ -1,6 +1,7 @@
 use Rattle.std.proofs.Common.{inl, inr, subst}
 use Rattle.pf_top.proofs.Cases.{if_ok_map}
-use Rattle.pf_top.specs.Clients.{IsFileRead, refusal_in}
+use Rattle.pf_report.specs.Replies.{fault_of}
+use Rattle.pf_top.specs.Clients.{IsFileRead}
 use Rattle.pf_top.proofs.driver.evaluate_content.Goals as goal
 
 pub returns-in-Batch : goal.returns-in-Batch
@@ -12,5 +13,5 @@ returns-in-Batch c =
 pub returns-in-Refused : goal.returns-in-Refused
 returns-in-Refused c =
     if_ok_map _ _ c.file_refused.result
-    (λ o p bytes held. inr (p.0, (refusal_in c.in-Refused.fault, (subst (IsFileRead bytes 0) c.in-Refused.is (c.in_ok-batch.ensures.read bytes held), p.1))))
+    (λ o p bytes held. inr (p.0, (fault_of c.in-Refused.fault, (subst (IsFileRead bytes 0) c.in-Refused.is (c.in_ok-batch.ensures.read bytes held), p.1))))
     c.file_refused.ensures
