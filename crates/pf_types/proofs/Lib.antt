@@ -3,6 +3,7 @@ pub mod BindSteps
 pub mod CountedNodes
 pub mod Exact
 pub mod Faults
+pub mod GridSteps
 mod LawfulKinds
 pub mod LawfulQueries
 mod LawfulTexts
