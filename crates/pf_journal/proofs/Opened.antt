@@ -303,7 +303,7 @@ opened_first l names m e es low h u asked pin generation floor is =
     let y : Moment = record { before = m; entry = e } in
     let h' : Lawful l names (next m (ask u asked pin generation floor)) es = subst (λ w. Lawful l names (next m w) es) is h in
     let there : open_at m.count (next m (ask u asked pin generation floor)).queries ≡ Some (asked_at y u asked) =
-        pushed_last m.count m.queries (asked_at y u asked) low (grind (arith, nat_tests)) in
+    pushed_last m.count m.queries (asked_at y u asked) low (grind (arith, nat_tests)) in
     rw is (after l names (next m (ask u asked pin generation floor)) es y (Some (asked_at y u asked)) (omega arith) there h')
 
 -- what is open of the query that was asked at a moment
