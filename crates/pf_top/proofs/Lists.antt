@@ -1,5 +1,5 @@
--- Laws of options, and of lists by place.
-use Rattle.std.proofs.Common.{◌≡◌, ◌≢◌, ℕ, zero, suc, ◌<◌, ◌≤◌, ◌⊎◌, inl, inr, Some, List, [], ◌∷◌, ◌++◌, length, map, refl, ap, arith, slice_get, slice_set, subst, take}
+-- Laws of options and of lists.
+use Rattle.std.proofs.Common.{◌≡◌, Some, List, [], ◌∷◌, ◌++◌, map, refl, ap}
 use Rattle.pf_model.specs.Lists.{Each}
 
 pub some_is : {X : Type 0} (x y : X) → Some x ≡ Some y → x ≡ y
@@ -9,58 +9,7 @@ pub map_push : {X Y : Type 0} (f : X → Y) (xs : List X) (x : X) → map f (xs 
 map_push f [] x = refl
 map_push f (y ∷ xs) x = ap (λ (ys : List _). f y ∷ ys) (map_push f xs x)
 
-module _ {X : Type 0} where
-  -- what stands at a place stands there in a longer list
-  pub get_front : (xs ys : List X) (i : ℕ) (x : X) → slice_get xs i ≡ Some x → slice_get (xs ++ ys) i ≡ Some x
-  get_front [] ys i x h = cc
-  get_front (y ∷ xs) ys zero x h = h
-  get_front (y ∷ xs) ys (suc i) x h = get_front xs ys i x h
-
-  pub get_pushed : (xs : List X) (y : X) → slice_get (xs ++ y ∷ []) (length xs) ≡ Some y
-  get_pushed [] y = refl
-  get_pushed (x ∷ xs) y = get_pushed xs y
-
-  -- and what stands at a place of a list with one more stood there, or is the one
-  pub get_push : (xs : List X) (y : X) (i : ℕ) (x : X) → slice_get (xs ++ y ∷ []) i ≡ Some x
-      → (slice_get xs i ≡ Some x) ⊎ ((i ≡ length xs) × (x ≡ y))
-  get_push [] y zero x h = inr (refl, cc)
-  get_push [] y (suc i) x h = cc
-  get_push (z ∷ xs) y zero x h = inl h
-  get_push (z ∷ xs) y (suc i) x h = pushed (get_push xs y i x h) where
-    pushed : (slice_get xs i ≡ Some x) ⊎ ((i ≡ length xs) × (x ≡ y)) → (slice_get xs i ≡ Some x) ⊎ ((suc i ≡ suc (length xs)) × (x ≡ y))
-    pushed (inl g) = inl g
-    pushed (inr g) = inr (ap suc g.0, g.1)
-
-  -- a write at a place
-  pub get_set_same : (xs : List X) (i : ℕ) (y : X) → i < length xs → slice_get (slice_set xs i y) i ≡ Some y
-  get_set_same [] i y h = absurd (omega (arith, h))
-  get_set_same (x ∷ xs) zero y h = refl
-  get_set_same (x ∷ xs) (suc i) y h = get_set_same xs i y (omega (arith, h))
-
-  pub get_set_other : (xs : List X) (i j : ℕ) (y : X) → j ≢ i → slice_get (slice_set xs i y) j ≡ slice_get xs j
-  get_set_other [] i j y d = refl
-  get_set_other (x ∷ xs) zero zero y d = absurd (d refl)
-  get_set_other (x ∷ xs) zero (suc j) y d = refl
-  get_set_other (x ∷ xs) (suc i) zero y d = refl
-  get_set_other (x ∷ xs) (suc i) (suc j) y d = get_set_other xs i j y (λ e. d (ap suc e))
-
-  pub take_front : (k : ℕ) (xs ys : List X) → k ≤ length xs → take k (xs ++ ys) ≡ take k xs
-  take_front zero xs ys h = refl
-  take_front (suc k) [] ys h = absurd (omega (arith, h))
-  take_front (suc k) (x ∷ xs) ys h = ap (λ (zs : List X). x ∷ zs) (take_front k xs ys (omega (arith, h)))
-
-  -- a fact of each element, of a list with one more
-  pub each_push : (P : X → Type 0) (xs : List X) (y : X) → Each P xs → P y → Each P (xs ++ y ∷ [])
-  each_push P [] y h p = (p, tt)
-  each_push P (x ∷ xs) y h p = (h.0, each_push P xs y h.1 p)
-
-  pub each_map : (P Q : X → Type 0) (f : (x : X) → P x → Q x) (xs : List X) → Each P xs → Each Q xs
-  each_map P Q f [] h = tt
-  each_map P Q f (x ∷ xs) h = (f x h.0, each_map P Q f xs h.1)
-
-  pub each_at : (P : X → Type 0) (xs : List X) (i : ℕ) (x : X) → Each P xs → slice_get xs i ≡ Some x → P x
-  each_at P [] i x h g = cc
-  each_at P (y ∷ xs) zero x h g = subst P (found g) h.0 where
-    found : Some y ≡ Some x → y ≡ x
-    found e = cc
-  each_at P (y ∷ xs) (suc i) x h g = each_at P xs i x h.1 g
+-- a fact of each element, of a list with one more
+pub each_push : {X : Type 0} (P : X → Type 0) (xs : List X) (y : X) → Each P xs → P y → Each P (xs ++ y ∷ [])
+each_push P [] y h p = (p, tt)
+each_push P (x ∷ xs) y h p = (h.0, each_push P xs y h.1 p)

@@ -1,8 +1,8 @@
 -- Queries and selectors that were read.
-use Rattle.std.proofs.Common.{◌≡◌, ◌≢◌, ℕ, ℤ, zero, suc, ◌+◌, ◌<◌, pos, inl, inr, Bool, true, false, Option, Some, None, Result, Ok, Err, cond, get_or, map, take, List, [], ◌∷◌, ◌++◌, length, refl, sym, ap, ◌∙◌, subst, is_some, true≢false}
+use Rattle.std.proofs.Common.{◌≡◌, ◌≢◌, ℕ, ℤ, zero, suc, ◌+◌, ◌<◌, pos, inl, inr, Bool, true, false, Option, Some, None, cond, get_or, map, take, List, [], ◌∷◌, ◌++◌, length, refl, sym, ap, ◌∙◌, subst, is_some, true≢false}
 use Rattle.std.specs.BTreeMap.{get_by_text}
-use Rattle.std.specs.Prelude.{◌&&◌, not, Box, Vec, option_and_then, option_map}
-use Rattle.std.specs.Option.{is_none, option_map_or}
+use Rattle.std.specs.Prelude.{◌&&◌, not, Box, Vec}
+use Rattle.std.specs.Option.{is_none}
 use Rattle.std.specs.Ordering.{int_eq}
 use Rattle.std.proofs.Math.Bool.{and-false}
 use Rattle.std.proofs.lemmas.Bool.Decides.{Decides-int_eq}
@@ -12,8 +12,6 @@ use Rattle.std.specs.Arc.{arc_value}
 use Rattle.std.specs.declared.sync.Arc.{Arc}
 use Rattle.std.proofs.lemmas.List.{take_more}
 use Rattle.std.proofs.lemmas.Slice.Eq.{bytes_eq-Decides}
-use Rattle.pf_base.specs.GridLists.{GridData}
-use Rattle.pf_base.specs.declared.grid.GridError.{GridError}
 use Rattle.pf_model.specs.declared.expr.Matcher.{Matcher}
 use Rattle.pf_model.specs.declared.expr.Mods.{Mods}
 use Rattle.pf_model.specs.declared.expr.At.{At}
@@ -25,21 +23,20 @@ use Rattle.pf_model.specs.declared.functions.AggOp.{AggOp}
 use Rattle.pf_model.specs.Clauses.{Grouped, Matched}
 use Rattle.pf_model.proofs.TreeOf.{number_tree, text_tree, unary_tree, binary_tree, call_tree, aggregate_tree, select_tree, subquery_tree}
 use Rattle.pf_model.specs.declared.matchers.Matchers.{Matchers}
-use Rattle.pf_journal.specs.Asking.{Asked, asked_over, asked_with}
-use Rattle.pf_model.specs.ErrorTexts.{QueryFault, of_grammar, of_kinds, refused_pattern, empty_selector, memory_text, query_text}
+use Rattle.pf_model.specs.ErrorTexts.{QueryFault, of_grammar, of_kinds, refused_pattern, empty_selector}
 use Rattle.pf_model.specs.Lists.{Each, at}
-use Rattle.pf_model.specs.Queries.{CanRefuse, Readings, first_empty, IsFaultOf, IsNoSelector, IsQuery, IsReading, IsSelector, Reading, is_plain, is_unmodified, lawful, may_be_no_selector, may_be_refused, no_selector, refused, selecting, selector}
+use Rattle.pf_model.specs.Queries.{CanRefuse, first_empty, IsFaultOf, IsNoSelector, IsQuery, IsReading, is_plain, is_unmodified, lawful, may_be_no_selector, may_be_refused, no_selector, selecting, selector}
 use Rattle.pf_journal.specs.Scripts.{Numbered}
 use Rattle.pf_model.specs.Selection.{accepts_empty, all_compared}
 use Rattle.pf_model.specs.Trees.{Tree, number, text, unary, binary, call, aggregate, select, subquery, instant, no_mods, tree_of}
 use Rattle.pf_model.specs.Typing.{Fault, asked_fault}
 use Rattle.pf_script.specs.Lines.{numbered_of}
 use Rattle.pf_script.specs.declared.script.NumberedLine.{NumberedLine}
-use Rattle.pf_types.specs.Errors.{IsFaultFor, query_fault, words_of_error}
+use Rattle.pf_types.specs.Errors.{IsFaultFor, query_fault}
 use Rattle.pf_types.specs.declared.query.QueryError.{QueryError}
 use Rattle.pf_types.specs.declared.query.QueryError.TheVariants as query_error
 use Rattle.pf_types.specs.declared.bound.BoundQuery.{BoundQuery}
-use Rattle.pf_top.specs.Queries.{AreReadAs, IsKept, IsKeptFor, IsLineRead, IsQueryRead, IsReadAs, IsSelectorRead, IsTextRead, Queries, SelectsAs, StayRead, query_reading, reading_in, readings_in, text_in}
+use Rattle.pf_top.specs.Queries.{AreReadAs, IsKept, IsKeptFor, IsLineRead, IsQueryRead, IsReadAs, IsSelectorRead, IsTextRead, Queries, SelectsAs, StayRead, text_in}
 use Rattle.pf_top.specs.declared.queries.QueryRead.{QueryRead}
 use Rattle.pf_top.specs.declared.queries.QueryRead.TheVariants as query
 use Rattle.pf_top.specs.declared.queries.SelectorRead.{SelectorRead}
@@ -213,55 +210,6 @@ refused_right words e some h = by_fault (query_fault e) refl some h where
   by_fault (Some fault) is s f = ((fault, (is, f)), fault_selects_none words fault f)
 
 -- ---- readings
-
--- how a query is read is right
-pub reading_right : (kept : Queries) → AreReadAs kept → (words : List ℕ) (r : Reading) → readings_in kept words ≡ Some r → IsReading words r
-reading_right kept right words r h = by_read (get_by_text kept words) refl h where
-  of_fault : (e : QueryError) (f : QueryFault) → query_fault e ≡ Some f → option_map refused (query_fault e) ≡ Some r → IsFaultOf words f → IsReading words r
-  of_fault e f is g fault =
-      let same : refused f ≡ r = some_is (refused f) r (ap (option_map refused) (sym is) ∙ g) in
-      subst (IsReading words) same fault
-
-  of_read : (q : QueryRead) → IsQueryRead words q → query_reading q ≡ Some r → IsReading words r
-  of_read (query.Lawful t) h g = subst (IsReading words) (some_is (lawful (arc_value t)) r g) h
-  of_read (query.Refused e) h g = of_fault e h.0 h.1.0 g h.1.1
-
-  by_read : (o : Option TextRead) → get_by_text kept words ≡ o → option_and_then reading_in o ≡ Some r → IsReading words r
-  by_read None is g = cc
-  by_read (Some q) is g = of_read q.query (right words q is).0 g
-
--- ---- what is found
-
--- what a deletion finds
-pub selects_found : (kept : Queries) (words : List ℕ) (r : TextRead) (m : Arc Matchers Global) (ms : List Matcher) → AreReadAs kept → get_by_text kept words ≡ Some r
-    → r.selector ≡ chosen.Built m → ms ≡ arc_value m → IsSelector words ms
-selects_found kept words r m ms right there is same =
-    subst (IsSelector words) (sym same) (subst (IsSelectorRead words) is (right words r there).1)
-
-pub selects_refused : (kept : Queries) (words : List ℕ) (r : TextRead) → AreReadAs kept → get_by_text kept words ≡ Some r → r.selector ≡ chosen.Refused → IsNoSelector words
-selects_refused kept words r right there is = subst (IsSelectorRead words) is (right words r there).1
-
--- an ask or an instant query finds a query, by what its times give
-pub asked_found : (kept : Queries) (words : List ℕ) (r : TextRead) (q : Arc BoundQuery Global) (wanted : Asked) (read : Readings) (instant : Bool) (g : Result GridData GridError) (grid : GridData)
-    → get_by_text kept words ≡ Some r → r.query ≡ query.Lawful q → wanted ≡ asked_over instant grid (arc_value q) → read ≡ readings_in kept → g ≡ Ok grid
-    → asked_with instant g (read words) ≡ Some (Ok wanted)
-asked_found kept words r q wanted read instant g grid there is same reads gridded =
-    let reading : read words ≡ Some (lawful (arc_value q)) =
-    ap (λ (f : Readings). f words) reads ∙ ap (option_and_then reading_in) there ∙ ap query_reading is in
-    ap (λ (x : Result GridData GridError). asked_with instant x (read words)) gridded ∙ ap (asked_with instant (Ok grid)) reading
-    ∙ ap (λ (x : Asked). Some (Ok x)) (sym same)
-
--- or a refused one
-pub asked_refused : (kept : Queries) (words : List ℕ) (r : TextRead) (e : QueryError) (read : Readings) (instant : Bool) (g : Result GridData GridError) (grid : GridData)
-    → AreReadAs kept → get_by_text kept words ≡ Some r → r.query ≡ query.Refused e → read ≡ readings_in kept → g ≡ Ok grid
-    → asked_with instant g (read words) ≡ Some (Err (words_of_error e))
-asked_refused kept words r e read instant g grid right there is reads gridded =
-    let h : IsQueryRead words (query.Refused e) = subst (IsQueryRead words) is (right words r there).0 in
-    let reading : read words ≡ Some (refused h.0) =
-    ap (λ (f : Readings). f words) reads ∙ ap (option_and_then reading_in) there ∙ ap query_reading is ∙ ap (option_map refused) h.1.0 in
-    ap (λ (x : Result GridData GridError). asked_with instant x (read words)) gridded
-    ∙ ap (asked_with instant (Ok grid)) reading
-    ∙ ap (λ (t : List ℕ). Some (Err t)) (sym (ap (λ (o : Option QueryFault). option_map_or query_text o memory_text) h.1.0))
 
 -- ---- texts that are read one by one
 

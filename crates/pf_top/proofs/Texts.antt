@@ -41,9 +41,6 @@ short_by told TooLong h = tt
 pub held_short : (told : List ℕ → Option (List ℕ)) (kept : Contents) (name : List ℕ) (content : Content) → AreTold told kept → get_by_text kept name ≡ Some content → IsShort content
 held_short told kept name content h g = short_by (told name) content (h name content g)
 
-pub kept_short : (kept : Contents) (name : List ℕ) (content : Content) → IsKept kept name → get_by_text kept name ≡ Some content → IsShort content
-kept_short kept name content k g = subst IsShort (some_is k.content content (sym k.there ∙ g)) k.short
-
 pub loaded_there : (told : List ℕ → Option (List ℕ)) (lost : List ℕ → Bool) (kept : Contents) (name : List ℕ) (content : Content)
     → AreTold told kept → AreThere lost kept → get_by_text kept name ≡ Some content → IsLoaded told lost kept name kept
 loaded_there told lost kept name content h p g =
@@ -101,20 +98,6 @@ names_push (k ∷ ls) l name (inr h) = elim (names_push ls l name h) [
   | inr here ↦ inr here
 ]
 
-names_at : (ls : List Numbered) (i : ℕ) (d : Numbered) (name : List ℕ) → i < length ls → LineNames (get_or ls i d).line name → NamesFile ls name
-names_at [] i d name p h = absurd (omega (arith, p))
-names_at (l ∷ ls) zero d name p h = inl h
-names_at (l ∷ ls) (suc i) d name p h = inr (names_at ls i d name (omega (arith, p)) h)
-
-get_or_map : {X Y : Type 0} (f : X → Y) (xs : List X) (i : ℕ) (d : X) → i < length xs → get_or (map f xs) i (f d) ≡ f (get_or xs i d)
-get_or_map f [] i d p = absurd (omega (arith, p))
-get_or_map f (x ∷ xs) zero d p = refl
-get_or_map f (x ∷ xs) (suc i) d p = get_or_map f xs i d (omega (arith, p))
-
-length_map : {X Y : Type 0} (f : X → Y) (xs : List X) → length (map f xs) ≡ length xs
-length_map f [] = refl
-length_map f (x ∷ xs) = ap suc (length_map f xs)
-
 still_kept : (old new : Contents) → StayKept old new → (name : List ℕ) → IsKept old name → IsKept new name
 still_kept old new still name k = record { content = k.content; there = still name k.content k.there; short = k.short }
 
@@ -137,10 +120,6 @@ loaded_more told again lost relost ls i l first old new p is same same_lost h n 
       ];
       still = λ name content g. n.still name content (h.still name content g);
     }
-
--- what was read before the first line
-pub loaded_none : (told : List ℕ → Option (List ℕ)) (lost : List ℕ → Bool) (kept : Contents) → AreTold told kept → AreThere lost kept → AreLoaded told lost kept [] kept
-loaded_none told lost kept h p = record { held = h; present = p; there = λ name named. absurd named; still = λ name content g. g }
 
 -- a file that was read is not lost
 pub read_there : (told : List ℕ → Option (List ℕ)) (lost : List ℕ → Bool) (first kept : Contents) (lines : List Numbered) → AreLoaded told lost first lines kept
@@ -175,14 +154,6 @@ reaches_at lost (k ∷ ks) zero l name p is h here =
 reaches_at lost (k ∷ ks) (suc i) l name p is h here =
     reach_past lost (file_of (numbered_of k).line) (files_of (map numbered_of ks)) name (λ n named. h n (inl named))
     (reaches_at lost ks i l name (omega (arith, p)) is (λ n named. h n (inr named)) here)
-
--- the line that names a file is one of the script's
-pub named_by : (ls : List NumberedLine) (i : ℕ) (l : NumberedLine) (name : List ℕ) → i < length ls → l ≡ get_or ls i l
-    → LineNames (numbered_of l).line name → NamesFile (map numbered_of ls) name
-named_by ls i l name p is h =
-    let long = length_map numbered_of ls in
-    names_at (map numbered_of ls) i (numbered_of l) name (omega (arith, p, long))
-    (subst (λ (x : Numbered). LineNames x.line name) (ap numbered_of is ∙ sym (get_or_map numbered_of ls i l p)) h)
 
 unsure_before : (a b : Bool) → (a ≡ true → b ≡ true) → b ≡ false → a ≡ false
 unsure_before true b h e = absurd (true≢false (sym (h refl) ∙ e))
