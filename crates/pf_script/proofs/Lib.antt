@@ -6,5 +6,4 @@ pub mod Going
 pub mod IdLists
 pub mod LineTexts
 pub mod StepLines
-mod Worked
 mod WorkedLines

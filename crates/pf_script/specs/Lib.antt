@@ -1,9 +1,4 @@
 pub mod Cuts
 pub mod IdLists
-pub mod Legal
 pub mod LineCuts
 pub mod Lines
-pub mod Machine
-pub mod Report
-pub mod Scripts
-pub mod Weave
