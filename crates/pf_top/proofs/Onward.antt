@@ -1,127 +1,171 @@
--- A client goes on by one line.
-use Rattle.std.proofs.Common.{◌≡◌, ℕ, ◌<◌, inl, inr, nat_eq, Option, Some, None, List, [], ◌∷◌, ◌++◌, refl, sym, ap, ◌∙◌, arith, subst, append-nil, append_assoc, codes, decimal}
+-- A client goes on by one line: what was told of its lines stays woven.
+use Rattle.std.proofs.Common.{◌≡◌, ℕ, ◌<◌, ◌⊎◌, Bool, true, false, Option, Some, None, List, [], ◌∷◌, ◌++◌, length, slice_get, take, refl, sym, ap, ◌∙◌, subst, append-nil, arith, inl, inr}
+use Rattle.std.proofs.lemmas.Bool.{le-ltb, ne_eqb}
 use Rattle.std.proofs.lemmas.Bool.Decides.{nat_tests}
-use Rattle.pf_base.specs.declared.plain.Limits.{Limits}
-use Rattle.pf_script.specs.Legal.{Moment, moments}
-use Rattle.pf_model.specs.Lists.{Each, joined}
-use Rattle.pf_script.specs.Machine.{What, Entry, started}
-use Rattle.pf_script.specs.Report.{line_text, reply_of}
-use Rattle.pf_script.specs.Scripts.{Numbered}
-use Rattle.pf_script.specs.Weave.{Known, FoundRoom, IsLineOf, IsMatched, IsUncached, IsWoven, Refusal, Refused, Rises, Turn, asked_of_line, asking_line, asking_of, line_at, moment_of, turn_of}
-use Rattle.pf_script.specs.Lines.{Follows, IsAsk, NamesAsk}
-use Rattle.pf_top.specs.Clients.{IsStep, IsUncachedBy, entries_by, moment_with, turn_with}
-use Rattle.pf_top.specs.Going.{HaveTurns, IsAmong}
-use Rattle.pf_top.specs.Sessions.{journal_of, machine_of}
-use Rattle.pf_top.specs.declared.client.Client.{Client}
-use Rattle.pf_top.proofs.Lists.{each_push, each_map}
-use Rattle.pf_top.proofs.Machines.{bool_cases}
-use Rattle.pf_top.proofs.Turns.{moments_by, moments_grow, each_moments, refused_by, line_below, line_more, line_last, among_more, turn_same, turn_new, matched_more, joined_push, joined_same, rises_by}
+use Rattle.std.proofs.lemmas.List.Elements.{filter-append}
+use Rattle.pf_journal.proofs.Going.{going, text_grows, text_stays, turn_behind, woven_enters, woven_stays}
+use Rattle.pf_journal.proofs.Growing.{hands_behind, lines_behind, moments-snoc}
+use Rattle.pf_journal.proofs.Opened.{all_above}
+use Rattle.pf_journal.specs.Legal.{Moment, machine_after, moments}
+use Rattle.pf_journal.specs.Machine.{Entry, Machine, What, next, started}
+use Rattle.pf_journal.specs.Replies.{reply_of}
+use Rattle.pf_journal.specs.Report.{client_text}
+use Rattle.pf_journal.specs.Rest.{Known, Told, nothing, refused_file, no_memory, journal_full, waiting, failed_five, of_plan, of_take, of_done, of_keep, at_end}
+use Rattle.pf_journal.specs.Scripts.{Numbered}
+use Rattle.pf_journal.specs.Turns.{Hand, Ran, Turn, asked_by, asking_line, entered_above, moment_of, own_moments, ran_lines, turn_of}
+use Rattle.pf_journal.specs.Weave.{FoundRoom, IsLineOf, IsMatched, IsWoven, Woven}
+use Rattle.pf_model.specs.Lists.{Each, first_with}
+use Rattle.pf_top.proofs.Cases.{bool_cases}
+use Rattle.pf_top.specs.Clients.{IsPlain, entries_by, entry_by, moment_by, moment_with, naming, turn_by}
 
--- an ask that is found is among the lines
-pub ask_among : (k : ℕ) (lines : List Numbered) → IsAsk (line_at k lines) → IsLineOf lines k
-ask_among k [] a = absurd a
-ask_among k (l ∷ ls) a = elim (bool_cases (nat_eq l.number k)) [
-  | inl t ↦ inl (grind (arith, nat_tests, t))
-  | inr t ↦ inr (ask_among k ls (let b = rw t at a in b))
+-- ---- lists
+
+pub each_snoc : {X : Type 0} (P : X → Type 0) (xs : List X) (x : X) → Each P xs → P x → Each P (xs ++ x ∷ [])
+each_snoc P [] x h p = (p, tt)
+each_snoc P (y ∷ xs) x h p = (h.0, each_snoc P xs x h.1 p)
+
+pub each_so : {X : Type 0} (P Q : X → Type 0) → ((x : X) → P x → Q x) → (xs : List X) → Each P xs → Each Q xs
+each_so P Q f [] h = tt
+each_so P Q f (x ∷ xs) h = (f x h.0, each_so P Q f xs h.1)
+
+pub none_with : {X : Type 0} (p : X → Bool) (xs : List X) → Each (λ x. p x ≡ false) xs → first_with p xs ≡ None
+none_with p [] h = refl
+none_with p (x ∷ xs) h = rw h.0 (none_with p xs h.1)
+
+pub last_with : {X : Type 0} (p : X → Bool) (xs : List X) (x : X) → first_with p xs ≡ None → p x ≡ true → first_with p (xs ++ x ∷ []) ≡ Some x
+last_with p [] x h t = rw t refl
+last_with p (y ∷ xs) x h t = elim (bool_cases (p y)) [
+  | inl e ↦ let g = rw e at h in cc
+  | inr e ↦ let g = rw e at h in rw e (last_with p xs x g t)
 ]
 
-named_among : (done : List Numbered) (a : Option ℕ) → NamesAsk done a → IsAmong done a
-named_among done None h = tt
-named_among done (Some k) h = ask_among k done h.0
+pub first_stays : {X : Type 0} (p : X → Bool) (xs : List X) (x : X) → p x ≡ false → first_with p (xs ++ x ∷ []) ≡ first_with p xs
+first_stays p [] x h = rw h refl
+first_stays p (y ∷ xs) x h = rw (first_stays p xs x h) refl
 
--- facts of each element, one by one, make another
-each_four : {X : Type 0} (P Q R S : X → Type 0) (xs : List X) → ((x : X) → P x → Q x → R x → S x) → Each P xs → Each Q xs → Each R xs → Each S xs
-each_four P Q R S [] f p q r = tt
-each_four P Q R S (x ∷ xs) f p q r = (f x p.0 q.0 r.0, each_four P Q R S xs f p.1 q.1 r.1)
+pub first_kept : {X : Type 0} (p : X → Bool) (xs ys : List X) (x : X) → first_with p xs ≡ Some x → first_with p (xs ++ ys) ≡ Some x
+first_kept p [] ys x h = cc
+first_kept p (y ∷ xs) ys x h = elim (bool_cases (p y)) [
+  | inl e ↦ let g = rw e at h in rw e g
+  | inr e ↦ let g = rw e at h in rw e (first_kept p xs ys x g)
+]
 
-each_by : (P : Entry → Type 0) (J : List Entry) (n : ℕ) (w : Option What) → Each P J → ((what : What) → w ≡ Some what → P (record { client = 0; line = n; what = what })) → Each P (J ++ entries_by n w)
-each_by P J n None h f = subst (Each P) (sym (append-nil J)) h
-each_by P J n (Some what) h f = each_push P J _ h (f what refl)
+-- ---- lines below
 
-each_uncached : (J : List Entry) (n : ℕ) (w : Option What) → Each (λ (e : Entry). IsUncached e.what) J → IsUncachedBy w → Each (λ (e : Entry). IsUncached e.what) (J ++ entries_by n w)
-each_uncached J n None h u = subst (Each (λ (e : Entry). IsUncached e.what)) (sym (append-nil J)) h
-each_uncached J n (Some what) h u = each_push (λ (e : Entry). IsUncached e.what) J _ h u
+-- a line of some that are below one is below it
+line_below : (ls : List Numbered) (k n : ℕ) → Each (λ l. l.number < n) ls → IsLineOf ls k → k < n
+line_below [] k n h there = absurd there
+line_below (l ∷ ls) k n h (inl same) = let low = h.0 in omega (arith, low, same)
+line_below (l ∷ ls) k n h (inr there) = line_below ls k n h.1 there
 
-each_refused : (P : Refused → Type 0) (rs : List Refused) (n : ℕ) (r : Option Refusal) → Each P rs → ((x : Refusal) → P (record { line = n; refusal = x })) → Each P (rs ++ refused_by n r)
-each_refused P rs n None h f = subst (Each P) (sym (append-nil rs)) h
-each_refused P rs n (Some x) h f = each_push P rs _ h (f x)
+pub own_below : (own : List Moment) (ls : List Numbered) (n : ℕ) → Each (λ l. l.number < n) ls
+    → Each (λ x. IsLineOf ls x.entry.line) own → Each (λ x. x.entry.line < n) own
+own_below own ls n low lined = each_so _ _ (λ x h. line_below ls x.entry.line n low h) own lined
 
-module _ (known : Known) (limits : Limits) (lines done : List Numbered) (old new : Client) (l : Numbered) where
-  -- the moments behind the line
-  pub behind : (s : IsStep known old l (asking_of lines (asking_line l.line)) (asked_of_line 0 (moments (journal_of old.session)) (asking_line l.line)) new)
-      → moments (journal_of new.session) ≡ moments (journal_of old.session) ++ moments_by (machine_of old.session) l.number s.entered
-  behind s = ap moments s.journal ∙ moments_grow started (journal_of old.session) l.number s.entered
+pub ran_below : (ls : List Numbered) (told : List Told) (n : ℕ) → Each (λ l. l.number < n) (take (length told) ls)
+    → Each (λ r. r.line.number < n) (ran_lines ls told)
+ran_below [] told n h = tt
+ran_below (l ∷ ls) [] n h = tt
+ran_below (l ∷ ls) (t ∷ told) n h = (h.0, ran_below ls told n h.1)
 
-  pub turns_on : HaveTurns known limits lines done old → old.session.limits ≡ limits → Follows done l
-      → IsStep known old l (asking_of lines (asking_line l.line)) (asked_of_line 0 (moments (journal_of old.session)) (asking_line l.line)) new
-      → HaveTurns known limits lines (done ++ l ∷ []) new
-  turns_on h limited f s =
-      let J = journal_of old.session in
-      let xs = moments J in
-      let m = machine_of old.session in
-      let rs = h.refused in
-      let among : IsAmong done (asking_line l.line) = named_among done (asking_line l.line) f.names in
-      let lower : Each (λ (e : Entry). e.line < l.number) J =
-      each_map _ _ (λ (e : Entry) (p : (e.client ≡ 0) × IsLineOf done e.line). line_below l.number e.line done f.rising p.1) J h.entries in
-      let lower_moments : Each (λ (x : Moment). x.entry.line < l.number) xs = each_moments (λ (e : Entry). e.line < l.number) started J lower in
-      let lower_refused : Each (λ (r : Refused). r.line < l.number) rs =
-      each_map _ _ (λ (r : Refused) (p : IsLineOf done r.line). line_below l.number r.line done f.rising p) rs h.refusals in
-      let xs_new : List Moment = xs ++ moments_by m l.number s.entered in
-      let rs_new : List Refused = rs ++ refused_by l.number s.refused in
-      let same : (d : Numbered) → d.number < l.number → IsAmong done (asking_line d.line) → turn_of 0 xs_new rs_new lines d ≡ turn_of 0 xs rs lines d =
-      λ d p i. turn_same l.number done lines d m s.entered xs s.refused rs f.rising p i in
-      let newest : turn_of 0 xs_new rs_new lines l ≡ turn_with m l s.refused (asking_of lines (asking_line l.line)) (asked_of_line 0 xs (asking_line l.line)) s.entered =
-      turn_new l done lines m s.entered xs s.refused rs f.rising among lower_moments lower_refused in
-      let names : List (List ℕ) = old.session.names.items ++ s.more in
-      let woven_before : Each (λ (d : Numbered). IsWoven known names (turn_of 0 xs_new rs_new lines d)) done =
-      each_four _ _ _ _ done
-      (λ (d : Numbered) (w : IsWoven known old.session.names.items (turn_of 0 xs rs lines d)) (p : d.number < l.number) (i : IsAmong done (asking_line d.line)).
-      subst (λ (t : Turn). IsMatched known names t t.mine) (sym (same d p i)) (matched_more known old.session.names.items s.more (turn_of 0 xs rs lines d) (turn_of 0 xs rs lines d).mine w))
-      h.woven f.rising h.names in
-      let woven_now : IsWoven known names (turn_of 0 xs_new rs_new lines l) =
-      subst (λ (t : Turn). IsMatched known names t t.mine) (sym newest)
-      (subst (λ (ns : List (List ℕ)). IsMatched known ns (turn_with m l s.refused (asking_of lines (asking_line l.line)) (asked_of_line 0 xs (asking_line l.line)) s.entered)
-      (moment_with m l.number s.entered)) s.grown s.woven) in
-      let roomy_before : Each (λ (d : Numbered). FoundRoom limits d.line (moment_of 0 d.number xs_new)) done =
-      each_four _ _ _ _ done
-      (λ (d : Numbered) (r : FoundRoom limits d.line (moment_of 0 d.number xs)) (p : d.number < l.number) (i : IsAmong done (asking_line d.line)).
-      subst (FoundRoom limits d.line) (sym (ap (λ (t : Turn). t.mine) (same d p i))) r)
-      h.roomy f.rising h.names in
-      let roomy_now : FoundRoom limits l.line (moment_of 0 l.number xs_new) =
-      subst (FoundRoom limits l.line) (sym (ap (λ (t : Turn). t.mine) newest))
-      (subst (λ (k : Limits). FoundRoom k l.line (moment_with m l.number s.entered)) limited s.roomy) in
-      let told_before : joined (λ (d : Numbered). reply_of limits known.readings (turn_of 0 xs_new rs_new lines d)) done ≡ joined (λ (d : Numbered). reply_of limits known.readings (turn_of 0 xs rs lines d)) done =
-      joined_same _ _ done (each_four _ _ _ _ done
-      (λ (d : Numbered) (u : Unit {0}) (p : d.number < l.number) (i : IsAmong done (asking_line d.line)). ap (reply_of limits known.readings) (same d p i))
-      (each_map _ _ (λ (d : Numbered) (p : d.number < l.number). tt) done f.rising) f.rising h.names) in
-      let told_now : reply_of limits known.readings (turn_of 0 xs_new rs_new lines l) ≡ reply_of old.session.limits known.readings (turn_with m l s.refused (asking_of lines (asking_line l.line)) (asked_of_line 0 xs (asking_line l.line)) s.entered) =
-      ap (reply_of limits known.readings) newest ∙ ap (λ (k : Limits). reply_of k known.readings (turn_with m l s.refused (asking_of lines (asking_line l.line)) (asked_of_line 0 xs (asking_line l.line)) s.entered)) (sym limited) in
-      let head : List ℕ = line_text (codes "client" ∷ decimal 0 ∷ []) in
-      let told : new.out.items ≡ head ++ joined (λ (d : Numbered). reply_of limits known.readings (turn_of 0 xs_new rs_new lines d)) (done ++ l ∷ []) =
-      s.told
-      ∙ ap (λ (t : List ℕ). t ++ reply_of old.session.limits known.readings (turn_with m l s.refused (asking_of lines (asking_line l.line)) (asked_of_line 0 xs (asking_line l.line)) s.entered)) h.told
-      ∙ append_assoc head _ _
-      ∙ ap (λ (t : List ℕ). head ++ (joined (λ (d : Numbered). reply_of limits known.readings (turn_of 0 xs rs lines d)) done ++ t)) (sym told_now)
-      ∙ ap (λ (t : List ℕ). head ++ (t ++ reply_of limits known.readings (turn_of 0 xs_new rs_new lines l))) (sym told_before)
-      ∙ ap (λ (t : List ℕ). head ++ t) (sym (joined_push (λ (d : Numbered). reply_of limits known.readings (turn_of 0 xs_new rs_new lines d)) done l)) in
-      record {
-        refused = rs_new;
-        woven = subst (λ (ns : List (List ℕ)). Each (λ (d : Numbered). IsWoven known ns (turn_of 0 (moments (journal_of new.session)) rs_new lines d)) (done ++ l ∷ [])) (sym s.grown)
-            (subst (λ (ys : List Moment). Each (λ (d : Numbered). IsWoven known names (turn_of 0 ys rs_new lines d)) (done ++ l ∷ [])) (sym (behind s))
-            (each_push _ done l woven_before woven_now));
-        roomy = subst (λ (ys : List Moment). Each (λ (d : Numbered). FoundRoom limits d.line (moment_of 0 d.number ys)) (done ++ l ∷ [])) (sym (behind s))
-            (each_push _ done l roomy_before roomy_now);
-        uncached = subst (Each (λ (e : Entry). IsUncached e.what)) (sym s.journal) (each_uncached J l.number s.entered h.uncached s.uncached);
-        told = subst (λ (ys : List Moment). new.out.items ≡ head ++ joined (λ (d : Numbered). reply_of limits known.readings (turn_of 0 ys rs_new lines d)) (done ++ l ∷ [])) (sym (behind s)) told;
-        entries = subst (Each (λ (e : Entry). (e.client ≡ 0) × IsLineOf (done ++ l ∷ []) e.line)) (sym s.journal)
-            (each_by _ J l.number s.entered
-            (each_map _ _ (λ (e : Entry) (p : (e.client ≡ 0) × IsLineOf done e.line). (p.0, line_more e.line done l p.1)) J h.entries)
-            (λ what e. (refl, line_last done l)));
-        rising = subst (Rises 0 0) (sym s.journal) (rises_by l.number J s.entered h.rising lower f.first);
-        refusals = each_refused _ rs l.number s.refused
-            (each_map _ _ (λ (r : Refused) (p : IsLineOf done r.line). line_more r.line done l p) rs h.refusals)
-            (λ x. line_last done l);
-        names = each_push _ done l
-            (each_map _ _ (λ (d : Numbered) (i : IsAmong done (asking_line d.line)). among_more (asking_line d.line) done l i) done h.names)
-            (among_more (asking_line l.line) done l among);
-      }
+-- ---- moments
+
+-- a further entry of the only client is the last of its own moments
+pub own-snoc : (journal : List Entry) (n : ℕ) (what : What)
+    → own_moments 0 (moments (journal ++ entry_by n what ∷ [])) ≡ own_moments 0 (moments journal) ++ moment_by (machine_after started journal) n what ∷ []
+own-snoc journal n what =
+    ap (own_moments 0) (moments-snoc started journal (entry_by n what))
+    ∙ filter-append _ (moments journal) (moment_by (machine_after started journal) n what ∷ [])
+
+pub machine-snoc : (m : Machine) (journal : List Entry) (e : Entry) → machine_after m (journal ++ e ∷ []) ≡ next (machine_after m journal) e.what
+machine-snoc m [] e = refl
+machine-snoc m (x ∷ journal) e = machine-snoc (next m x.what) journal e
+
+-- ---- turns
+
+-- what is told beside entries is no job that is taken
+plain_asked : (a : Option ℕ) (told : Told) (own : List Moment) → IsPlain told → asked_by a told own ≡ asked_by a nothing own
+plain_asked (Some line) told own h = refl
+plain_asked None nothing own h = refl
+plain_asked None (refused_file refusal) own h = refl
+plain_asked None journal_full own h = refl
+plain_asked None no_memory own h = absurd h
+plain_asked None (waiting jobs) own h = absurd h
+plain_asked None (failed_five job) own h = absurd h
+plain_asked None (of_plan p) own h = absurd h
+plain_asked None (of_take t) own h = absurd h
+plain_asked None (of_done d) own h = absurd h
+plain_asked None (of_keep k) own h = absurd h
+
+pub unmade : (own : List Moment) (n : ℕ) → Each (λ x. x.entry.line < n) own → moment_of n own ≡ None
+unmade own n h = none_with _ own (each_so _ _ (λ x low. ne_eqb x.entry.line n (λ e. omega (arith, e, low))) own h)
+
+-- a turn without an entry
+pub turn_stayed : (own : List Moment) (above : List Ran) (hands : List Hand) (l : Numbered) (told : Told)
+    → Each (λ x. x.entry.line < l.number) own → IsPlain told
+    → turn_of own above hands (record { line = l; told = told }) ≡ turn_by (naming own above hands l.line) l told None
+turn_stayed own above hands l told low plain =
+    rw (all_above l.number own low) (rw (unmade own l.number low) (rw (plain_asked (asking_line l.line) told own plain) refl))
+
+-- a turn with one
+pub turn_entered : (own : List Moment) (x : Moment) (above : List Ran) (hands : List Hand) (l : Numbered) (told : Told)
+    → Each (λ y. y.entry.line < l.number) own → x.entry.line ≡ l.number → IsPlain told
+    → turn_of (own ++ x ∷ []) above hands (record { line = l; told = told }) ≡ turn_by (naming own above hands l.line) l told (Some x)
+turn_entered own x above hands l told low here plain =
+    let above_it : entered_above l.number (own ++ x ∷ []) ≡ own =
+    filter-append _ own (x ∷ []) ∙ rw (le-ltb x.entry.line l.number (omega (arith, here))) (append-nil _ ∙ all_above l.number own low) in
+    let made : moment_of l.number (own ++ x ∷ []) ≡ Some x =
+    last_with _ own x (unmade own l.number low) (grind (arith, nat_tests, here)) in
+    rw above_it (rw made (rw (plain_asked (asking_line l.line) told own plain) refl))
+
+-- ---- what was told
+
+-- own entries with those of a line
+abbrev pub own_with : List Moment → Machine → ℕ → Option What → List Moment
+own_with own m n None = own
+own_with own m n (Some what) = own ++ moment_by m n what ∷ []
+
+pub own_on : (journal : List Entry) (n : ℕ) (entered : Option What)
+    → own_moments 0 (moments (journal ++ entries_by n entered)) ≡ own_with (own_moments 0 (moments journal)) (machine_after started journal) n entered
+own_on journal n None = ap (λ (es : List Entry). own_moments 0 (moments es)) (append-nil journal)
+own_on journal n (Some what) = own-snoc journal n what
+
+-- a woven client with its next line
+pub woven_on : (known : Known) (own : List Moment) (m : Machine) (lines : List Numbered) (told : List Told) (l : Numbered) (t : Told) (entered : Option What)
+    → Woven known own lines (record { told = told; why = at_end }) → slice_get lines (length told) ≡ Some l
+    → 0 < l.number → Each (λ b. b.number < l.number) (take (length told) lines) → IsPlain t
+    → IsMatched known (turn_by (naming own (lines_behind [] (ran_lines lines told)) (hands_behind [] (ran_lines lines told)) l.line) l t (moment_with m l.number entered)) (moment_with m l.number entered)
+    → FoundRoom known.limits l.line (moment_with m l.number entered)
+    → Woven known (own_with own m l.number entered) lines (going told t at_end)
+woven_on known own m lines told l t None w there first low plain matched roomy =
+    woven_stays known own lines told at_end l t w there
+    (subst (IsWoven known) (sym (turn_stayed own (lines_behind [] (ran_lines lines told)) (hands_behind [] (ran_lines lines told)) l t
+    (own_below own (take (length told) lines) l.number low w.lined) plain)) (record { matched = matched; roomy = roomy }))
+woven_on known own m lines told l t (Some what) w there first low plain matched roomy =
+    woven_enters known own (moment_by m l.number what) lines told at_end l t w there first refl
+    (own_below own (take (length told) lines) l.number low w.lined) (ran_below lines told l.number low)
+    (subst (IsWoven known) (sym (turn_entered own (moment_by m l.number what) (lines_behind [] (ran_lines lines told)) (hands_behind [] (ran_lines lines told)) l t
+    (own_below own (take (length told) lines) l.number low w.lined) refl plain)) (record { matched = matched; roomy = roomy }))
+
+-- and its text
+pub text_on : (known : Known) (own : List Moment) (m : Machine) (lines : List Numbered) (told : List Told) (l : Numbered) (t : Told) (entered : Option What) (out out' : List ℕ)
+    → Woven known own lines (record { told = told; why = at_end }) → slice_get lines (length told) ≡ Some l
+    → Each (λ b. b.number < l.number) (take (length told) lines) → IsPlain t
+    → out ≡ client_text known own 0 lines (record { told = told; why = at_end })
+    → out' ≡ out ++ reply_of known (turn_by (naming own (lines_behind [] (ran_lines lines told)) (hands_behind [] (ran_lines lines told)) l.line) l t (moment_with m l.number entered))
+    → out' ≡ client_text known (own_with own m l.number entered) 0 lines (going told t at_end)
+text_on known own m lines told l t None out out' w there low plain said more =
+    let turn = turn_stayed own (lines_behind [] (ran_lines lines told)) (hands_behind [] (ran_lines lines told)) l t
+    (own_below own (take (length told) lines) l.number low w.lined) plain in
+    more ∙ ap (λ (bytes : List ℕ). bytes ++ reply_of known (turn_by (naming own (lines_behind [] (ran_lines lines told)) (hands_behind [] (ran_lines lines told)) l.line) l t None)) said
+    ∙ ap (λ (turn : Turn). client_text known own 0 lines (record { told = told; why = at_end }) ++ reply_of known turn) (sym turn)
+    ∙ sym (text_grows known own 0 lines told at_end l t there)
+text_on known own m lines told l t (Some what) out out' w there low plain said more =
+    let x : Moment = moment_by m l.number what in
+    let turn = turn_entered own x (lines_behind [] (ran_lines lines told)) (hands_behind [] (ran_lines lines told)) l t
+    (own_below own (take (length told) lines) l.number low w.lined) refl plain in
+    more ∙ ap (λ (bytes : List ℕ). bytes ++ reply_of known (turn_by (naming own (lines_behind [] (ran_lines lines told)) (hands_behind [] (ran_lines lines told)) l.line) l t (Some x))) said
+    ∙ ap (λ (turn : Turn). client_text known own 0 lines (record { told = told; why = at_end }) ++ reply_of known turn) (sym turn)
+    ∙ ap (λ (bytes : List ℕ). bytes ++ reply_of known (turn_behind (own ++ x ∷ []) (ran_lines lines told) (record { line = l; told = t })))
+    (sym (text_stays known own x 0 lines (record { told = told; why = at_end }) (ran_below lines told l.number low)))
+    ∙ sym (text_grows known (own ++ x ∷ []) 0 lines told at_end l t there)

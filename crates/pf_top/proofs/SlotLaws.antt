@@ -1,280 +1,397 @@
--- What is kept of asks goes on by one line.
-use Rattle.std.proofs.Common.{◌≡◌, ◌≢◌, ℕ, ◌<◌, ◌≤◌, ◌⊎◌, inl, inr, Bool, true, false, cond, nat_eq, Option, Some, None, List, [], ◌∷◌, ◌++◌, refl, sym, ap, ◌∙◌, arith, subst}
+-- What became of asks, as lines are run.
+use Rattle.std.proofs.Common.{◌≡◌, ℕ, ◌<◌, ◌≤◌, ◌⊎◌, inl, inr, Bool, true, false, cond, nat_eq, Option, Some, None, List, [], ◌∷◌, ◌++◌, refl, sym, ap, ◌∙◌, subst, arith}
+use Rattle.std.proofs.lemmas.Bool.{ne_eqb}
+use Rattle.std.proofs.lemmas.Bool.Decides.{nat_tests}
 use Rattle.std.specs.BTreeMap.{get}
 use Rattle.std.specs.Ordering.{nat_cmp}
-use Rattle.std.proofs.lemmas.Bool.Decides.{nat_tests}
 use Rattle.pf_base.specs.declared.plain.Limits.{Limits}
-use Rattle.pf_script.specs.Legal.{Moment, moments}
-use Rattle.pf_model.specs.Lists.{Each}
-use Rattle.pf_script.specs.Machine.{Machine, Open as OpenQuery, Entry, started, open_at}
-use Rattle.pf_model.specs.Queries.{Readings}
-use Rattle.pf_script.specs.Scripts.{Line, Numbered}
-use Rattle.pf_script.specs.Weave.{Known, IsLineOf, IsOfAsk, asked_of_line, asking_line, asking_of, line_at, moment_of}
-use Rattle.pf_script.specs.Lines.{Follows, IsAsk, NamesAsk}
-use Rattle.pf_top.specs.Asks.{IsAskStep, LeavesOpen, SlotRight}
-use Rattle.pf_top.specs.Clients.{IsStep, SameQueries, moment_with}
-use Rattle.pf_top.specs.Going.{Going, HaveSlots, HaveTurns}
-use Rattle.pf_top.specs.Sessions.{IsQuery, journal_of, machine_of}
-use Rattle.pf_top.specs.declared.client.Client.{Client}
-use Rattle.pf_top.specs.declared.session.Query.{Query}
+use Rattle.pf_core.specs.Cores.{CoreData, machine_of}
+use Rattle.pf_journal.proofs.Opened.{IsAmong, all_own, asked_at, found_among, opened, opened_by}
+use Rattle.pf_journal.specs.Asking.{Asked}
+use Rattle.pf_journal.specs.Entered.{what_of}
+use Rattle.pf_journal.specs.Legal.{Legal, Moment, moments}
+use Rattle.pf_journal.specs.Machine.{Entry, Machine, Open, What, append, delete, ask, full, no_tenant, cancel, answer, open_at, started}
+use Rattle.pf_journal.specs.Rest.{Known}
+use Rattle.pf_journal.specs.Scripts.{Line, Numbered}
+use Rattle.pf_journal.specs.Turns.{Ran, answer_of, asker_of, cancel_of, is_answer_of, moment_of, own_moments, place_of, ran_at}
+use Rattle.pf_journal.specs.Unentered.{HasQuery}
+use Rattle.pf_model.specs.Lists.{Each, first_with}
+use Rattle.pf_script.specs.Lines.{IsAnswerOf, IsAsk, line_at}
+use Rattle.pf_top.proofs.Cases.{bool_cases}
+use Rattle.pf_top.proofs.Onward.{first_stays, last_with, own_with}
+use Rattle.pf_top.specs.Asks.{HaveSlots, answers, is_query, IsAskAt, IsFullWhat, IsNoTenantWhat, SlotRight, Slots}
+use Rattle.pf_top.specs.Clients.{moment_by}
 use Rattle.pf_top.specs.declared.slots.Slot.{Slot}
-use Rattle.pf_top.specs.declared.slots.Slot.TheVariants.{Open, BadGrid, BadQuery, Full, TooManyTenants}
-use Rattle.pf_top.proofs.Lists.{each_map}
-use Rattle.pf_top.proofs.Machines.{bool_cases}
-use Rattle.pf_top.proofs.Onward.{ask_among, behind, turns_on}
-use Rattle.pf_top.proofs.Turns.{each_moments, line_below, moment_front, moment_new, moments_grow}
+use Rattle.pf_top.specs.declared.slots.Slot.TheVariants as slot
 
-each_front : {X : Type 0} (P : X → Type 0) (xs ys : List X) → Each P (xs ++ ys) → Each P xs
+-- ---- one ask
+
+-- a line answers no query that is kept of an ask
+abbrev pub LeavesSlot : Option Slot → Option What → Type 0
+LeavesSlot s entered = (q : ℕ) → s ≡ Some (slot.Asked q) → answers q entered ≡ false
+
+ran_other : (k : ℕ) (above : List Ran) (r : Ran) → (r.line.number ≡ k → ⊥) → ran_at k (r ∷ above) ≡ ran_at k above
+ran_other k above r h = rw (ne_eqb r.line.number k h) refl
+
+moment_other : (k : ℕ) (own : List Moment) (m : Machine) (n : ℕ) (entered : Option What) → (n ≡ k → ⊥)
+    → moment_of k (own_with own m n entered) ≡ moment_of k own
+moment_other k own m n None h = refl
+moment_other k own m n (Some what) h = first_stays _ own (moment_by m n what) (ne_eqb n k h)
+
+answer_other : (asked : Moment) (own : List Moment) (m : Machine) (n : ℕ) (entered : Option What) → answers (place_of asked) entered ≡ false
+    → answer_of (Some asked) (own_with own m n entered) ≡ answer_of (Some asked) own
+answer_other asked own m n None h = refl
+answer_other asked own m n (Some what) h = first_stays _ own (moment_by m n what) h
+
+front_none : {X : Type 0} (p : X → Bool) (xs ys : List X) → first_with p (xs ++ ys) ≡ None → first_with p xs ≡ None
+front_none p [] ys h = refl
+front_none p (x ∷ xs) ys h = elim (bool_cases (p x)) [
+  | inl t ↦ let g = rw t at h in cc
+  | inr t ↦ let g = rw t at h in rw t (front_none p xs ys g)
+]
+
+unanswered_before : (asked : Option Moment) (own : List Moment) (m : Machine) (n : ℕ) (entered : Option What)
+    → answer_of asked (own_with own m n entered) ≡ None → answer_of asked own ≡ None
+unanswered_before None own m n entered h = refl
+unanswered_before (Some x) own m n None h = h
+unanswered_before (Some x) own m n (Some what) h = front_none _ own (moment_by m n what ∷ []) h
+
+-- what is kept of an ask stays right
+pub slot_stays : (known : Known) (above : List Ran) (r : Ran) (own : List Moment) (m : Machine) (n : ℕ) (entered : Option What) (k : ℕ) (s : Option Slot)
+    → (r.line.number ≡ k → ⊥) → (n ≡ k → ⊥) → LeavesSlot s entered → SlotRight known above own k s
+    → SlotRight known (r ∷ above) (own_with own m n entered) k s
+slot_stays known above r own m n entered k None other apart leaves h = λ a e.
+    h (subst (λ (x : Option Moment). HasQuery (what_of x)) (moment_other k own m n entered apart) a)
+    (unanswered_before (moment_of k own) own m n entered
+    (subst (λ (x : Option Moment). answer_of x (own_with own m n entered) ≡ None) (moment_other k own m n entered apart) e))
+slot_stays known above r own m n entered k (Some (slot.Asked q)) other apart leaves h = record {
+  asked = h.asked;
+  there = moment_other k own m n entered apart ∙ h.there;
+  place = h.place;
+  tenant = h.tenant;
+  wanted = h.wanted;
+  pin = h.pin;
+  generation = h.generation;
+  floor = h.floor;
+  is = h.is;
+  named = h.named ∙ ap (λ (x : Option Ran). Some (asker_of x)) (sym (ran_other k above r other));
+  unanswered = answer_other h.asked own m n entered (subst (λ (i : ℕ). answers i entered ≡ false) (sym h.place) (leaves q refl)) ∙ h.unanswered;
+}
+slot_stays known above r own m n entered k (Some (slot.BadGrid e)) other apart leaves h = record {
+  none = moment_other k own m n entered apart ∙ h.none;
+  ran = h.ran;
+  there = ran_other k above r other ∙ h.there;
+  told = h.told;
+  text = h.text;
+}
+slot_stays known above r own m n entered k (Some (slot.BadQuery e)) other apart leaves h = record {
+  none = moment_other k own m n entered apart ∙ h.none;
+  ran = h.ran;
+  there = ran_other k above r other ∙ h.there;
+  told = h.told;
+  text = h.text;
+}
+slot_stays known above r own m n entered k (Some slot.Full) other apart leaves h =
+    subst (λ (x : Option Moment). IsFullWhat (what_of x)) (sym (moment_other k own m n entered apart)) h
+slot_stays known above r own m n entered k (Some slot.TooManyTenants) other apart leaves h =
+    subst (λ (x : Option Moment). IsNoTenantWhat (what_of x)) (sym (moment_other k own m n entered apart)) h
+
+-- ---- the query of an ask
+
+-- what is open of a query that no line answered
+pub record IsOpenIn (c : CoreData) (own : List Moment) (asked : Moment) (tenant query : ℕ) : Type 0 where
+  pub open_query : Open
+  pub is_open : open_at query (machine_of c).queries ≡ Some open_query
+  pub owner : open_query.tenant ≡ tenant
+  pub uncancelled : cancel_of (Some asked) own ≡ None → open_query.cancelled ≡ None
+  pub cancelled : (y : Moment) → cancel_of (Some asked) own ≡ Some y → open_query.cancelled ≡ Some (place_of y)
+
+opened_unanswered : (x : Moment) (u : ℕ) (wanted : Asked) (c a : Option Moment) → a ≡ None
+    → (o : Open) × ((opened_by (asked_at x u wanted) c a ≡ Some o) × ((o.tenant ≡ u) × ((c ≡ None → o.cancelled ≡ None) × ((y : Moment) → c ≡ Some y → o.cancelled ≡ Some (place_of y)))))
+opened_unanswered x u wanted c (Some y) e = cc
+opened_unanswered x u wanted None None e = (asked_at x u wanted, (refl, (refl, ((λ _. refl), λ y h. cc))))
+opened_unanswered x u wanted (Some y) None e = (
+  record { place = place_of x; tenant = u; asked = wanted; log = (asked_at x u wanted).log; cancelled = Some (place_of y) },
+  (refl, (refl, ((λ h. cc), λ z h. let same : y ≡ z = cc in ap (λ (w : Moment). Some (place_of w)) same))),
+)
+
+pub open_in : (known : Known) (above : List Ran) (c : CoreData) (k q : ℕ) (limits : Limits) (names : List (List ℕ)) → Legal limits names c.journal → Each (λ (e : Entry). e.client ≡ 0) c.journal
+    → (h : IsAskAt known above (own_moments 0 (moments c.journal)) k q) → IsOpenIn c (own_moments 0 (moments c.journal)) h.asked h.tenant q
+open_in known above c k q limits names legal alone h =
+    let own = own_moments 0 (moments c.journal) in
+    let all : own ≡ moments c.journal = all_own 0 started c.journal alone in
+    let among : IsAmong h.asked (moments c.journal) = subst (IsAmong h.asked) all (found_among _ own h.asked h.there) in
+    let law = opened limits names c.journal h.asked legal among h.tenant h.wanted h.pin h.generation h.floor h.is in
+    let law' : open_at (place_of h.asked) (machine_of c).queries ≡ opened_by (asked_at h.asked h.tenant h.wanted) (cancel_of (Some h.asked) own) (answer_of (Some h.asked) own) =
+    subst (λ (xs : List Moment). open_at (place_of h.asked) (machine_of c).queries ≡ opened_by (asked_at h.asked h.tenant h.wanted) (cancel_of (Some h.asked) xs) (answer_of (Some h.asked) xs)) (sym all) law in
+    let found = opened_unanswered h.asked h.tenant h.wanted (cancel_of (Some h.asked) own) (answer_of (Some h.asked) own) h.unanswered in
+    record {
+      open_query = found.0;
+      is_open = subst (λ (i : ℕ). open_at i (machine_of c).queries ≡ Some found.0) h.place (law' ∙ found.1.0);
+      owner = found.1.1.0;
+      uncancelled = found.1.1.1.0;
+      cancelled = found.1.1.1.1;
+    }
+
+-- ---- lines
+
+-- a line that is found is among those below
+pub asked_below : (k n : ℕ) (id : List ℕ) (done : List Numbered) → Each (λ b. b.number < n) done → IsAsk id (line_at k done) → k < n
+asked_below k n id [] low a = absurd a
+asked_below k n id (l ∷ done) low a = elim (bool_cases (nat_eq l.number k)) [
+  | inl t ↦ let b = low.0 in grind (arith, nat_tests, t, b)
+  | inr t ↦ let b = rw t at a in asked_below k n id done low.1 b
+]
+
+line_none : (n : ℕ) (done : List Numbered) → Each (λ b. b.number < n) done → line_at n done ≡ None
+line_none n [] low = refl
+line_none n (l ∷ done) low =
+    let b = low.0 in
+    let t : nat_eq l.number n ≡ false = grind (arith, nat_tests, b) in
+    rw t (line_none n done low.1)
+
+line_here : (done : List Numbered) (l : Numbered) → line_at l.number done ≡ None → line_at l.number (done ++ l ∷ []) ≡ Some l.line
+line_here [] l h = let t : nat_eq l.number l.number ≡ true = grind (arith, nat_tests) in rw t refl
+line_here (b ∷ done) l h = elim (bool_cases (nat_eq b.number l.number)) [
+  | inl t ↦ let g = rw t at h in cc
+  | inr t ↦ let g = rw t at h in rw t (line_here done l g)
+]
+
+line_before : (k : ℕ) (done : List Numbered) (l : Numbered) → nat_eq l.number k ≡ false → line_at k (done ++ l ∷ []) ≡ line_at k done
+line_before k [] l h = rw h refl
+line_before k (b ∷ done) l h = ap (cond (nat_eq b.number k) (Some b.line)) (line_before k done l h)
+
+pub each_front : {X : Type 0} (P : X → Type 0) (xs ys : List X) → Each P (xs ++ ys) → Each P xs
 each_front P [] ys h = tt
 each_front P (x ∷ xs) ys h = (h.0, each_front P xs ys h.1)
 
-each_last : {X : Type 0} (P : X → Type 0) (xs : List X) (y : X) → Each P (xs ++ y ∷ []) → P y
-each_last P [] y h = h.0
-each_last P (x ∷ xs) y h = each_last P xs y h.1
+each_last : {X : Type 0} (P : X → Type 0) (xs : List X) (x : X) → Each P (xs ++ x ∷ []) → P x
+each_last P [] x h = h.0
+each_last P (y ∷ xs) x h = each_last P xs x h.1
 
--- an ask among lines and one more is among the lines, or is the one
-ask_push : (k : ℕ) (done : List Numbered) (l : Numbered) → IsAsk (line_at k (done ++ l ∷ [])) → IsAsk (line_at k done) ⊎ ((l.number ≡ k) × IsAsk (Some l.line))
-ask_push k [] l a = elim (bool_cases (nat_eq l.number k)) [
-  | inl t ↦ inr (grind (arith, nat_tests, t), (let b = rw t at a in b))
-  | inr t ↦ absurd (let b = rw t at a in b)
-]
-ask_push k (d ∷ ds) l a = elim (bool_cases (nat_eq d.number k)) [
-  | inl t ↦ inl (let b = rw t at a in rw t b)
-  | inr t ↦ elim (ask_push k ds l (let b = rw t at a in b)) [
-    | inl there ↦ inl (rw t there)
-    | inr here ↦ inr here
+none_asked : (id : List ℕ) (l : Option Line) → l ≡ None → IsAsk id l → ⊥
+none_asked id None e a = a
+none_asked id (Some l) e a = cc
+
+-- the asks of lines with one more that asks nothing
+module _ (done : List Numbered) (l : Numbered) (low : Each (λ b. b.number < l.number) done) where
+  before : (k : ℕ) (id : List ℕ) → IsAsk id (line_at k done) → IsAsk id (line_at k (done ++ l ∷ []))
+  before k id a =
+      let b = asked_below k l.number id done low a in
+      subst (IsAsk id) (sym (line_before k done l (grind (arith, nat_tests, b)))) a
+
+  -- the line itself, or one before
+  asked_cases : (k : ℕ) (id : List ℕ) → IsAsk id (line_at k (done ++ l ∷ [])) → ((l.number ≡ k) × IsAsk id (Some l.line)) ⊎ IsAsk id (line_at k done)
+  asked_cases k id a = elim (bool_cases (nat_eq l.number k)) [
+    | inl t ↦
+        let same : l.number ≡ k = grind (arith, nat_tests, t) in
+        let here : line_at k (done ++ l ∷ []) ≡ Some l.line =
+        subst (λ (i : ℕ). line_at i (done ++ l ∷ []) ≡ Some l.line) same (line_here done l (line_none l.number done low)) in
+        inl (same, subst (IsAsk id) here a)
+    | inr t ↦ inr (subst (IsAsk id) (line_before k done l t) a)
   ]
-]
 
--- the line of a number behind lines of lower ones
-pub line_at_behind : (done rest : List Numbered) (l : Numbered) → Each (λ b. b.number < l.number) done → line_at l.number (done ++ l ∷ rest) ≡ Some l.line
-line_at_behind [] rest l h = let same : nat_eq l.number l.number ≡ true = grind (arith, nat_tests) in rw same refl
-line_at_behind (d ∷ ds) rest l h =
-    let other : nat_eq d.number l.number ≡ false = let b = h.0 in grind (arith, nat_tests, b) in
-    rw other (line_at_behind ds rest l h.1)
+-- ---- the asks of a client's lines
 
-slot_moves : (readings : Readings) (w v : ℕ) (m n : Machine) (asking : Option Line) (moment later : Option Moment) (s : Option Slot)
-    → SlotRight readings w m asking moment s → later ≡ moment → v ≡ w
-    → ((q : Query) → s ≡ Some (Open q) → (o : OpenQuery) → open_at q.place m.queries ≡ Some o → open_at q.place n.queries ≡ Some o)
-    → SlotRight readings v n asking later s
-slot_moves readings w v m n asking moment later None h e f still = absurd h
-slot_moves readings w v m n asking moment later (Some (Open q)) h e f still = (
-  subst (λ (x : Option Moment). IsOfAsk x q.place) (sym e) h.0,
-  subst (λ k. IsQuery k n q) (sym f) (record {
-    opened = h.1.opened;
-    is_open = still q refl h.1.opened h.1.is_open;
-    tenant = h.1.tenant;
-    asked = h.1.asked;
-    pinned = h.1.pinned;
-    uncancelled = h.1.uncancelled;
-  }),
-)
-slot_moves readings w v m n asking moment later (Some (BadGrid g)) h e f still = subst (λ (x : Option Moment). SlotRight readings v n asking x (Some (BadGrid g))) (sym e) h
-slot_moves readings w v m n asking moment later (Some (BadQuery g)) h e f still = subst (λ (x : Option Moment). SlotRight readings v n asking x (Some (BadQuery g))) (sym e) h
-slot_moves readings w v m n asking moment later (Some Full) h e f still = subst (λ (x : Option Moment). SlotRight readings v n asking x (Some Full)) (sym e) h
-slot_moves readings w v m n asking moment later (Some TooManyTenants) h e f still = subst (λ (x : Option Moment). SlotRight readings v n asking x (Some TooManyTenants)) (sym e) h
+-- a line that asks nothing and answers nothing
+pub slots_same : (known : Known) (above : List Ran) (r : Ran) (own : List Moment) (m : Machine) (done : List Numbered) (l : Numbered) (entered : Option What) (count : ℕ) (slots : Slots)
+    → Each (λ b. b.number < l.number) done → r.line.number ≡ l.number → m.count ≤ count
+    → ((id : List ℕ) → IsAsk id (Some l.line) → ⊥) → ((k : ℕ) → LeavesSlot (get nat_cmp slots k) entered)
+    → HaveSlots known above own m.count done slots
+    → HaveSlots known (r ∷ above) (own_with own m l.number entered) count (done ++ l ∷ []) slots
+slots_same known above r own m done l entered count slots low same grows asks leaves h = record {
+  right = λ k id a. elim (asked_cases done l low k id a) [
+    | inl here ↦ absurd (asks id here.1)
+    | inr b ↦
+        let under = asked_below k l.number id done low b in
+        slot_stays known above r own m l.number entered k (get nat_cmp slots k) (λ e. omega (arith, e, same, under)) (λ e. omega (arith, e, under)) (leaves k) (h.right k id b)
+  ];
+  kept = λ k id a un none. elim (asked_cases done l low k id a) [
+    | inl here ↦ asks id here.1
+    | inr b ↦ h.kept k id b (each_front _ done (l ∷ []) un) none
+  ];
+  only = λ k s g. let o = h.only k s g in (o.0, before done l low k o.0 o.1);
+  apart = h.apart;
+  below = λ k q g. let b = h.below k q g in omega (arith, b, grows);
+}
 
--- what is found in a map that changed at one key
-at_other : (get_new get_old found : Option Slot) (b : Bool) → get_new ≡ cond b found get_old → b ≡ false → get_new ≡ get_old
-at_other get_new get_old found b e t = e ∙ ap (λ x. cond x found get_old) t
+-- what is kept under a number, or else what was
+cond_cases : {X : Type 0} (b : Bool) (x y z : X) → cond b x y ≡ z → ((b ≡ true) × (x ≡ z)) ⊎ ((b ≡ false) × (y ≡ z))
+cond_cases true x y z h = inl (refl, h)
+cond_cases false x y z h = inr (refl, h)
 
-at_same : (get_new get_old found : Option Slot) (b : Bool) → get_new ≡ cond b found get_old → b ≡ true → get_new ≡ found
-at_same get_new get_old found b e t = e ∙ ap (λ x. cond x found get_old) t
+-- a line that asks, with what is kept of it
+pub slots_asked : (known : Known) (above : List Ran) (r : Ran) (own : List Moment) (m : Machine) (done : List Numbered) (l : Numbered) (entered : Option What) (count : ℕ) (slots slots' : Slots) (kept : Slot)
+    → Each (λ b. b.number < l.number) done → r.line.number ≡ l.number → m.count ≤ count
+    → (id : List ℕ) → IsAsk id (Some l.line)
+    → ((k : ℕ) → LeavesSlot (get nat_cmp slots k) entered)
+    → ((k : ℕ) → get nat_cmp slots' k ≡ cond (nat_eq l.number k) (Some kept) (get nat_cmp slots k))
+    → SlotRight known (r ∷ above) (own_with own m l.number entered) l.number (Some kept)
+    → ((q : ℕ) → kept ≡ slot.Asked q → (q ≡ m.count) × (q < count))
+    → HaveSlots known above own m.count done slots
+    → HaveSlots known (r ∷ above) (own_with own m l.number entered) count (done ++ l ∷ []) slots'
+slots_asked known above r own m done l entered count slots slots' kept low same grows id asks leaves now new fresh h = record {
+  right = λ k i a. elim (asked_cases done l low k i a) [
+    | inl here ↦
+        let at_it : nat_eq l.number k ≡ true = let e = here.0 in grind (arith, nat_tests, e) in
+        let found : get nat_cmp slots' k ≡ Some kept = now k ∙ rw at_it refl in
+        subst (λ (s : Option Slot). SlotRight known (r ∷ above) (own_with own m l.number entered) k s) (sym found)
+        (subst (λ (j : ℕ). SlotRight known (r ∷ above) (own_with own m l.number entered) j (Some kept)) here.0 new)
+    | inr b ↦
+        let under = asked_below k l.number i done low b in
+        let off_it : nat_eq l.number k ≡ false = grind (arith, nat_tests, under) in
+        let found : get nat_cmp slots' k ≡ get nat_cmp slots k = now k ∙ rw off_it refl in
+        subst (λ (s : Option Slot). SlotRight known (r ∷ above) (own_with own m l.number entered) k s) (sym found)
+        (slot_stays known above r own m l.number entered k (get nat_cmp slots k) (λ e. omega (arith, e, same, under)) (λ e. omega (arith, e, under)) (leaves k) (h.right k i b))
+  ];
+  kept = λ k i a un none. elim (asked_cases done l low k i a) [
+    | inl here ↦
+        let at_it : nat_eq l.number k ≡ true = let e = here.0 in grind (arith, nat_tests, e) in
+        let found : get nat_cmp slots' k ≡ Some kept = now k ∙ rw at_it refl in
+        cc
+    | inr b ↦
+        let under = asked_below k l.number i done low b in
+        let off_it : nat_eq l.number k ≡ false = grind (arith, nat_tests, under) in
+        let found : get nat_cmp slots' k ≡ get nat_cmp slots k = now k ∙ rw off_it refl in
+        h.kept k i b (each_front _ done (l ∷ []) un) (sym found ∙ none)
+  ];
+  only = λ k s g. elim (cond_cases (nat_eq l.number k) (Some kept) (get nat_cmp slots k) (Some s) (sym (now k) ∙ g)) [
+    | inl here ↦
+        let t = here.0 in
+        let e : l.number ≡ k = grind (arith, nat_tests, t) in (
+          id,
+          subst (λ (j : ℕ). IsAsk id (line_at j (done ++ l ∷ []))) e
+              (subst (IsAsk id) (sym (line_here done l (line_none l.number done low))) asks),
+        )
+    | inr there ↦ let o = h.only k s there.1 in (o.0, before done l low k o.0 o.1)
+  ];
+  apart = λ k j q g f. elim (cond_cases (nat_eq l.number k) (Some kept) (get nat_cmp slots k) (Some (slot.Asked q)) (sym (now k) ∙ g)) [
+    | inl here ↦ elim (cond_cases (nat_eq l.number j) (Some kept) (get nat_cmp slots j) (Some (slot.Asked q)) (sym (now j) ∙ f)) [
+      | inl too ↦ let t = here.0 in let u = too.0 in grind (arith, nat_tests, t, u)
+      | inr there ↦
+          let k_is = here.1 in
+          let is : kept ≡ slot.Asked q = cc in
+          let b = h.below j q there.1 in
+          let c = (fresh q is).0 in
+          absurd (omega (arith, b, c))
+    ]
+    | inr there ↦ elim (cond_cases (nat_eq l.number j) (Some kept) (get nat_cmp slots j) (Some (slot.Asked q)) (sym (now j) ∙ f)) [
+      | inl too ↦
+          let k_is = too.1 in
+          let is : kept ≡ slot.Asked q = cc in
+          let b = h.below k q there.1 in
+          let c = (fresh q is).0 in
+          absurd (omega (arith, b, c))
+      | inr also ↦ h.apart k j q there.1 also.1
+    ]
+  ];
+  below = λ k q g. elim (cond_cases (nat_eq l.number k) (Some kept) (get nat_cmp slots k) (Some (slot.Asked q)) (sym (now k) ∙ g)) [
+    | inl here ↦
+        let k_is = here.1 in
+        let is : kept ≡ slot.Asked q = cc in
+        (fresh q is).1
+    | inr there ↦ let b = h.below k q there.1 in omega (arith, b, grows)
+  ];
+}
 
-module _ (known : Known) (limits : Limits) (lines done : List Numbered) (old new : Client) (l : Numbered) where
-  asking : Option Line
-  asking = asking_of lines (asking_line l.line)
+-- a line that answers what a line asked
+pub slots_answered : (known : Known) (above : List Ran) (r : Ran) (own : List Moment) (m : Machine) (done : List Numbered) (l : Numbered) (j : ℕ) (entered : Option What) (count : ℕ) (slots slots' : Slots)
+    → Each (λ b. b.number < l.number) done → r.line.number ≡ l.number → m.count ≤ count
+    → ((id : List ℕ) → IsAsk id (Some l.line) → ⊥) → IsAnswerOf l.line j
+    → ((k : ℕ) → (j ≡ k → ⊥) → LeavesSlot (get nat_cmp slots k) entered)
+    → ((k : ℕ) → get nat_cmp slots' k ≡ cond (nat_eq j k) None (get nat_cmp slots k))
+    → SlotRight known (r ∷ above) (own_with own m l.number entered) j None
+    → HaveSlots known above own m.count done slots
+    → HaveSlots known (r ∷ above) (own_with own m l.number entered) count (done ++ l ∷ []) slots'
+slots_answered known above r own m done l j entered count slots slots' low same grows asks answers_it leaves now shut h = record {
+  right = λ k i a. elim (asked_cases done l low k i a) [
+    | inl here ↦ absurd (asks i here.1)
+    | inr b ↦ elim (bool_cases (nat_eq j k)) [
+      | inl t ↦
+          let e : j ≡ k = grind (arith, nat_tests, t) in
+          let found : get nat_cmp slots' k ≡ None = now k ∙ rw t refl in
+          subst (λ (s : Option Slot). SlotRight known (r ∷ above) (own_with own m l.number entered) k s) (sym found)
+          (subst (λ (n : ℕ). SlotRight known (r ∷ above) (own_with own m l.number entered) n None) e shut)
+      | inr t ↦
+          let under = asked_below k l.number i done low b in
+          let found : get nat_cmp slots' k ≡ get nat_cmp slots k = now k ∙ rw t refl in
+          subst (λ (s : Option Slot). SlotRight known (r ∷ above) (own_with own m l.number entered) k s) (sym found)
+          (slot_stays known above r own m l.number entered k (get nat_cmp slots k) (λ e. omega (arith, e, same, under)) (λ e. omega (arith, e, under))
+          (leaves k (λ e. grind (arith, nat_tests, t, e))) (h.right k i b))
+    ]
+  ];
+  kept = λ k i a un none. elim (asked_cases done l low k i a) [
+    | inl here ↦ asks i here.1
+    | inr b ↦ elim (bool_cases (nat_eq j k)) [
+      | inl t ↦
+          let e : j ≡ k = grind (arith, nat_tests, t) in
+          each_last _ done l un (subst (IsAnswerOf l.line) e answers_it)
+      | inr t ↦
+          let found : get nat_cmp slots' k ≡ get nat_cmp slots k = now k ∙ rw t refl in
+          h.kept k i b (each_front _ done (l ∷ []) un) (sym found ∙ none)
+    ]
+  ];
+  only = λ k s g. elim (cond_cases (nat_eq j k) None (get nat_cmp slots k) (Some s) (sym (now k) ∙ g)) [
+    | inl here ↦ let e = here.1 in cc
+    | inr there ↦ let o = h.only k s there.1 in (o.0, before done l low k o.0 o.1)
+  ];
+  apart = λ k i q g f. elim (cond_cases (nat_eq j k) None (get nat_cmp slots k) (Some (slot.Asked q)) (sym (now k) ∙ g)) [
+    | inl here ↦ let e = here.1 in cc
+    | inr there ↦ elim (cond_cases (nat_eq j i) None (get nat_cmp slots i) (Some (slot.Asked q)) (sym (now i) ∙ f)) [
+      | inl here ↦ let e = here.1 in cc
+      | inr also ↦ h.apart k i q there.1 also.1
+    ]
+  ];
+  below = λ k q g. elim (cond_cases (nat_eq j k) None (get nat_cmp slots k) (Some (slot.Asked q)) (sym (now k) ∙ g)) [
+    | inl here ↦ let e = here.1 in cc
+    | inr there ↦ let b = h.below k q there.1 in omega (arith, b, grows)
+  ];
+}
 
-  moment_kept : (k : ℕ) (s : IsStep known old l (asking_of lines (asking_line l.line)) (asked_of_line 0 (moments (journal_of old.session)) (asking_line l.line)) new)
-      → k ≢ l.number → moment_of 0 k (moments (journal_of new.session)) ≡ moment_of 0 k (moments (journal_of old.session))
-  moment_kept k s d =
-      ap (moment_of 0 k) (behind known limits lines done old new l s)
-      ∙ moment_front k l.number (machine_of old.session) s.entered (moments (journal_of old.session)) d
+-- an ask that was refused opened no query
+pub full_shut : (w : Option What) → IsFullWhat w → HasQuery w → ⊥
+full_shut (Some (ask u a pin generation floor)) f q = f
+full_shut (Some (full u k)) f q = q
+full_shut (Some (append u b vs e)) f q = f
+full_shut (Some (delete u ms from to g e)) f q = f
+full_shut (Some (no_tenant name)) f q = f
+full_shut (Some (cancel k)) f q = f
+full_shut (Some (answer k c x y)) f q = f
+full_shut None f q = f
 
-  number_other : (k : ℕ) → Follows done l → IsAsk (line_at k done) → k ≢ l.number
-  number_other k f a e = let b = line_below l.number k done f.rising (ask_among k done a) in omega (arith, b, e)
+pub stranger_shut : (w : Option What) → IsNoTenantWhat w → HasQuery w → ⊥
+stranger_shut (Some (ask u a pin generation floor)) f q = f
+stranger_shut (Some (full u k)) f q = f
+stranger_shut (Some (append u b vs e)) f q = f
+stranger_shut (Some (delete u ms from to g e)) f q = f
+stranger_shut (Some (no_tenant name)) f q = q
+stranger_shut (Some (cancel k)) f q = f
+stranger_shut (Some (answer k c x y)) f q = f
+stranger_shut None f q = f
 
-  pub slots_plain : HaveSlots known.readings lines done old → Follows done l
-      → IsStep known old l (asking_of lines (asking_line l.line)) (asked_of_line 0 (moments (journal_of old.session)) (asking_line l.line)) new
-      → SameQueries old new → (IsAsk (Some l.line) → ⊥) → HaveSlots known.readings lines (done ++ l ∷ []) new
-  slots_plain h f s q unasked = record {
-    right = λ k a un. elim (ask_push k done l a) [
-      | inl there ↦
-          subst (SlotRight known.readings new.session.limits.window (machine_of new.session) (line_at k lines) (moment_of 0 k (moments (journal_of new.session)))) (sym (ap (λ x. get nat_cmp x k) q.slots))
-          (slot_moves known.readings old.session.limits.window new.session.limits.window (machine_of old.session) (machine_of new.session) (line_at k lines)
-          (moment_of 0 k (moments (journal_of old.session))) (moment_of 0 k (moments (journal_of new.session))) (get nat_cmp old.slots k)
-          (h.right k there (each_front _ done (l ∷ []) un)) (moment_kept k s (number_other k f there)) (ap (λ (x : Limits). x.window) s.limits)
-          (λ p e o g. subst (λ (qs : List OpenQuery). open_at p.place qs ≡ Some o) (sym q.queries) g))
-      | inr here ↦ absurd (unasked here.1)
-    ];
-    apart = λ k j p r e g same. h.apart k j p r (sym (ap (λ x. get nat_cmp x k) q.slots) ∙ e) (sym (ap (λ x. get nat_cmp x j) q.slots) ∙ g) same;
-    below = λ k p e. let b = h.below k p (sym (ap (λ x. get nat_cmp x k) q.slots) ∙ e) in let c = q.counted in omega (arith, b, c);
-  }
-
-  pub slots_answer : (asked : ℕ) → asking_line l.line ≡ Some asked → HaveSlots known.readings lines done old → Follows done l
-      → IsStep known old l (asking_of lines (asking_line l.line)) (asked_of_line 0 (moments (journal_of old.session)) (asking_line l.line)) new
-      → ((k : ℕ) → get nat_cmp new.slots k ≡ cond (nat_eq asked k) None (get nat_cmp old.slots k))
-      → LeavesOpen (get nat_cmp old.slots asked) (machine_of old.session).queries (machine_of new.session).queries
-      → (machine_of old.session).count ≤ (machine_of new.session).count
-      → (IsAsk (Some l.line) → ⊥) → HaveSlots known.readings lines (done ++ l ∷ []) new
-  slots_answer asked names h f s left leaves counted unasked =
-      let old_of : (k : ℕ) (p : Query) → get nat_cmp new.slots k ≡ Some (Open p) → (k ≢ asked) × (get nat_cmp old.slots k ≡ Some (Open p)) =
-      λ k p e. elim (bool_cases (nat_eq asked k)) [
-        | inl t ↦ absurd (let n = at_same _ (get nat_cmp old.slots k) None _ (left k) t in let g = sym n ∙ e in cc)
-        | inr t ↦ ((λ d. grind (arith, nat_tests, t, d)), sym (at_other _ (get nat_cmp old.slots k) None _ (left k) t) ∙ e)
-      ] in
-      record {
-        right = λ k a un. elim (ask_push k done l a) [
-          | inl there ↦
-              let differ : k ≢ asked = λ e. each_last _ done l un (names ∙ ap (λ x. Some x) (sym e)) in
-              let unchanged : get nat_cmp new.slots k ≡ get nat_cmp old.slots k =
-              at_other _ (get nat_cmp old.slots k) None _ (left k) (let d = differ in grind (arith, nat_tests, d)) in
-              subst (SlotRight known.readings new.session.limits.window (machine_of new.session) (line_at k lines) (moment_of 0 k (moments (journal_of new.session)))) (sym unchanged)
-              (slot_moves known.readings old.session.limits.window new.session.limits.window (machine_of old.session) (machine_of new.session) (line_at k lines)
-              (moment_of 0 k (moments (journal_of old.session))) (moment_of 0 k (moments (journal_of new.session))) (get nat_cmp old.slots k)
-              (h.right k there (each_front _ done (l ∷ []) un)) (moment_kept k s (number_other k f there)) (ap (λ (x : Limits). x.window) s.limits)
-              (λ p e o g. open_still (get nat_cmp old.slots asked) refl leaves k p differ e o g))
-          | inr here ↦ absurd (unasked here.1)
-        ];
-        apart = λ k j p r e g same. h.apart k j p r (old_of k p e).1 (old_of j r g).1 same;
-        below = λ k p e. let b = h.below k p (old_of k p e).1 in omega (arith, b, counted);
-      } where
-        open_still : (slot : Option Slot) → get nat_cmp old.slots asked ≡ slot → LeavesOpen slot (machine_of old.session).queries (machine_of new.session).queries
-            → (k : ℕ) (p : Query) → k ≢ asked → get nat_cmp old.slots k ≡ Some (Open p) → (o : OpenQuery)
-            → open_at p.place (machine_of old.session).queries ≡ Some o → open_at p.place (machine_of new.session).queries ≡ Some o
-        open_still None is leaves k p d e o g = leaves p.place o g
-        open_still (Some (Open q)) is leaves k p d e o g = leaves p.place o (λ same. d (h.apart k asked p q e is same)) g
-        open_still (Some (BadGrid x)) is leaves k p d e o g = leaves p.place o g
-        open_still (Some (BadQuery x)) is leaves k p d e o g = leaves p.place o g
-        open_still (Some Full) is leaves k p d e o g = leaves p.place o g
-        open_still (Some TooManyTenants) is leaves k p d e o g = leaves p.place o g
-
-module _ (known : Known) (limits : Limits) (lines done rest : List Numbered) (old new : Client) (l : Numbered) where
-  pub slots_ask : lines ≡ done ++ l ∷ rest → HaveTurns known limits lines done old → HaveSlots known.readings lines done old → Follows done l
-      → (a : IsAskStep known old l new) → asking_line l.line ≡ None
-      → HaveSlots known.readings lines (done ++ l ∷ []) new
-  slots_ask whole t h f a none =
-      let J = journal_of old.session in
-      let s : IsStep known old l (asking_of lines (asking_line l.line)) (asked_of_line 0 (moments J) (asking_line l.line)) new =
-      subst (λ (n : Option ℕ). IsStep known old l (asking_of lines n) (asked_of_line 0 (moments J) n) new) (sym none) a.step in
-      let lower : Each (λ (x : Moment). x.entry.line < l.number) (moments J) =
-      each_moments (λ (e : Entry). e.line < l.number) started J
-      (each_map _ _ (λ (e : Entry) (p : (e.client ≡ 0) × IsLineOf done e.line). line_below l.number e.line done f.rising p.1) J t.entries) in
-      let mine : moment_of 0 l.number (moments (journal_of new.session)) ≡ moment_with (machine_of old.session) l.number a.step.entered =
-      ap (moment_of 0 l.number) (ap moments a.step.journal ∙ moments_grow started J l.number a.step.entered)
-      ∙ moment_new l.number (machine_of old.session) a.step.entered (moments J) lower in
-      let line_is : line_at l.number lines ≡ Some l.line = ap (line_at l.number) whole ∙ line_at_behind done rest l f.rising in
-      let is_new : (k : ℕ) → l.number ≡ k → get nat_cmp new.slots k ≡ Some a.slot =
-      λ k e. at_same _ (get nat_cmp old.slots k) (Some a.slot) _ (a.kept k) (grind (arith, nat_tests, e)) in
-      let is_old : (k : ℕ) → k ≢ l.number → get nat_cmp new.slots k ≡ get nat_cmp old.slots k =
-      λ k d. at_other _ (get nat_cmp old.slots k) (Some a.slot) _ (a.kept k) (grind (arith, nat_tests, d)) in
-      let here_right : SlotRight known.readings new.session.limits.window (machine_of new.session) (line_at l.number lines) (moment_of 0 l.number (moments (journal_of new.session))) (get nat_cmp new.slots l.number) =
-      subst (λ (x : Option Line). SlotRight known.readings new.session.limits.window (machine_of new.session) x (moment_of 0 l.number (moments (journal_of new.session))) (get nat_cmp new.slots l.number)) (sym line_is)
-      (subst (λ (x : Option Moment). SlotRight known.readings new.session.limits.window (machine_of new.session) (Some l.line) x (get nat_cmp new.slots l.number)) (sym mine)
-      (subst (SlotRight known.readings new.session.limits.window (machine_of new.session) (Some l.line) (moment_with (machine_of old.session) l.number a.step.entered)) (sym (is_new l.number refl)) a.right)) in
-      let fresh_place : (p : Query) → a.slot ≡ Open p → (p.place ≡ (machine_of old.session).count) × (p.place < (machine_of new.session).count) = a.fresh in
-      let slot_is : (k : ℕ) (p : Query) → l.number ≡ k → get nat_cmp new.slots k ≡ Some (Open p) → a.slot ≡ Open p =
-      λ k p e g. some_slot a.slot (Open p) (sym (is_new k e) ∙ g) in
-      record {
-        right = λ k asks un. elim (bool_cases (nat_eq l.number k)) [
-          | inl t ↦
-              let same : l.number ≡ k = grind (arith, nat_tests, t) in
-              subst (λ n. SlotRight known.readings new.session.limits.window (machine_of new.session) (line_at n lines) (moment_of 0 n (moments (journal_of new.session))) (get nat_cmp new.slots n)) same here_right
-          | inr t ↦
-              let differ : k ≢ l.number = λ e. grind (arith, nat_tests, t, e) in
-              let there : IsAsk (line_at k done) = elim (ask_push k done l asks) [
-                | inl b ↦ b
-                | inr b ↦ absurd (differ (sym b.0))
-              ] in
-              subst (SlotRight known.readings new.session.limits.window (machine_of new.session) (line_at k lines) (moment_of 0 k (moments (journal_of new.session)))) (sym (is_old k differ))
-              (slot_moves known.readings old.session.limits.window new.session.limits.window (machine_of old.session) (machine_of new.session) (line_at k lines)
-              (moment_of 0 k (moments J)) (moment_of 0 k (moments (journal_of new.session))) (get nat_cmp old.slots k)
-              (h.right k there (each_front _ done (l ∷ []) un))
-              (moment_kept known limits lines done old new l k s differ)
-              (ap (λ (x : Limits). x.window) a.step.limits)
-              (λ p e o g. a.still p.place o g))
-        ];
-        apart = λ k j p r e g same. elim (bool_cases (nat_eq l.number k)) [
-          | inl t ↦ elim (bool_cases (nat_eq l.number j)) [
-            | inl u ↦ grind (arith, nat_tests, t, u)
-            | inr u ↦
-                let at_j : get nat_cmp old.slots j ≡ Some (Open r) = sym (is_old j (λ d. grind (arith, nat_tests, u, d))) ∙ g in
-                let below = h.below j r at_j in
-                let at_k = (fresh_place p (slot_is k p (grind (arith, nat_tests, t)) e)).0 in
-                absurd (omega (arith, below, at_k, same))
-          ]
-          | inr t ↦ elim (bool_cases (nat_eq l.number j)) [
-            | inl u ↦
-                let at_k : get nat_cmp old.slots k ≡ Some (Open p) = sym (is_old k (λ d. grind (arith, nat_tests, t, d))) ∙ e in
-                let below = h.below k p at_k in
-                let at_j = (fresh_place r (slot_is j r (grind (arith, nat_tests, u)) g)).0 in
-                absurd (omega (arith, below, at_j, same))
-            | inr u ↦ h.apart k j p r (sym (is_old k (λ d. grind (arith, nat_tests, t, d))) ∙ e) (sym (is_old j (λ d. grind (arith, nat_tests, u, d))) ∙ g) same
-          ]
-        ];
-        below = λ k p e. elim (bool_cases (nat_eq l.number k)) [
-          | inl t ↦ (fresh_place p (slot_is k p (grind (arith, nat_tests, t)) e)).1
-          | inr t ↦
-              let b = h.below k p (sym (is_old k (λ d. grind (arith, nat_tests, t, d))) ∙ e) in
-              let c = a.counted in omega (arith, b, c)
-        ];
-      } where
-        some_slot : (x y : Slot) → Some x ≡ Some y → x ≡ y
-        some_slot x y e = cc
-
--- ---- going on
-
-module _ (known : Known) (limits : Limits) (lines done rest : List Numbered) (old new : Client) (l : Numbered) where
-  -- an `ingest` or a `delete`
-  pub going_plain : Going known limits lines done old → Follows done l → asking_line l.line ≡ None → (IsAsk (Some l.line) → ⊥)
-      → IsStep known old l None None new → SameQueries old new → Going known limits lines (done ++ l ∷ []) new
-  going_plain g f none unasked s q =
-      let t : IsStep known old l (asking_of lines (asking_line l.line)) (asked_of_line 0 (moments (journal_of old.session)) (asking_line l.line)) new =
-      subst (λ (n : Option ℕ). IsStep known old l (asking_of lines n) (asked_of_line 0 (moments (journal_of old.session)) n) new) (sym none) s in
-      record {
-        stands = s.stands;
-        limited = s.limits ∙ g.limited;
-        turns = turns_on known limits lines done old new l g.turns g.limited f t;
-        slots = slots_plain known limits lines done old new l g.slots f t q unasked;
-      }
-
-  -- an `ask`
-  pub going_ask : lines ≡ done ++ l ∷ rest → Going known limits lines done old → Follows done l → asking_line l.line ≡ None
-      → IsAskStep known old l new → Going known limits lines (done ++ l ∷ []) new
-  going_ask whole g f none a =
-      let t : IsStep known old l (asking_of lines (asking_line l.line)) (asked_of_line 0 (moments (journal_of old.session)) (asking_line l.line)) new =
-      subst (λ (n : Option ℕ). IsStep known old l (asking_of lines n) (asked_of_line 0 (moments (journal_of old.session)) n) new) (sym none) a.step in
-      record {
-        stands = a.step.stands;
-        limited = a.step.limits ∙ g.limited;
-        turns = turns_on known limits lines done old new l g.turns g.limited f t;
-        slots = slots_ask known limits lines done rest old new l whole g.turns g.slots f a none;
-      }
-
-  -- an `answer`
-  pub going_answer : (asked : ℕ) → Going known limits lines done old → Follows done l → asking_line l.line ≡ Some asked → (IsAsk (Some l.line) → ⊥)
-      → IsStep known old l (line_at asked lines) (moment_of 0 asked (moments (journal_of old.session))) new
-      → ((k : ℕ) → get nat_cmp new.slots k ≡ cond (nat_eq asked k) None (get nat_cmp old.slots k))
-      → LeavesOpen (get nat_cmp old.slots asked) (machine_of old.session).queries (machine_of new.session).queries
-      → (machine_of old.session).count ≤ (machine_of new.session).count
-      → Going known limits lines (done ++ l ∷ []) new
-  going_answer asked g f names unasked s left leaves counted =
-      let t : IsStep known old l (asking_of lines (asking_line l.line)) (asked_of_line 0 (moments (journal_of old.session)) (asking_line l.line)) new =
-      subst (λ (n : Option ℕ). IsStep known old l (asking_of lines n) (asked_of_line 0 (moments (journal_of old.session)) n) new) (sym names) s in
-      record {
-        stands = s.stands;
-        limited = s.limits ∙ g.limited;
-        turns = turns_on known limits lines done old new l g.turns g.limited f t;
-        slots = slots_answer known limits lines done old new l asked names g.slots f t left leaves counted unasked;
-      }
-
--- the ask that an answer names is kept
-pub slot_of_answer : (readings : Readings) (lines done : List Numbered) (c : Client) (l : Numbered) (asked : ℕ) → HaveSlots readings lines done c → Follows done l → asking_line l.line ≡ Some asked
-    → SlotRight readings c.session.limits.window (machine_of c.session) (line_at asked lines) (moment_of 0 asked (moments (journal_of c.session))) (get nat_cmp c.slots asked)
-slot_of_answer readings lines done c l asked h f names =
-    let n : NamesAsk done (Some asked) = subst (NamesAsk done) names f.names in
-    h.right asked n.0 n.1
-
--- and if it is an open query, the machine has it open
-pub query_of_answer : (readings : Readings) (w : ℕ) (m : Machine) (asking : Option Line) (moment : Option Moment) (s : Option Slot) → SlotRight readings w m asking moment s → (q : Query) → s ≡ Some (Open q) → IsQuery w m q
-query_of_answer readings w m asking moment s h q e = (subst (SlotRight readings w m asking moment) e h).1
+-- what was answered is no longer kept
+pub slot_shut : (known : Known) (above above' : List Ran) (own : List Moment) (m : Machine) (n j : ℕ) (entered : Option What) (s : Slot) → (n ≡ j → ⊥)
+    → ((q : ℕ) → answers q entered ≡ is_query q (Some s)) → SlotRight known above own j (Some s)
+    → SlotRight known above' (own_with own m n entered) j None
+slot_shut known above above' own m n j None (slot.Asked q) apart closes h =
+    let c = closes q in
+    let t : nat_eq q q ≡ true = grind (arith, nat_tests) in
+    let bad : false ≡ true = c ∙ t in
+    cc
+slot_shut known above above' own m n j (Some what) (slot.Asked q) apart closes h = λ a e.
+    let t : nat_eq q q ≡ true = grind (arith, nat_tests) in
+    let it : is_answer_of q what ≡ true = closes q ∙ t in
+    let there : moment_of j (own ++ moment_by m n what ∷ []) ≡ Some h.asked = moment_other j own m n (Some what) apart ∙ h.there in
+    let found : answer_of (Some h.asked) (own ++ moment_by m n what ∷ []) ≡ Some (moment_by m n what) =
+    last_with _ own (moment_by m n what) h.unanswered (subst (λ (i : ℕ). is_answer_of i what ≡ true) (sym h.place) it) in
+    let none : answer_of (Some h.asked) (own ++ moment_by m n what ∷ []) ≡ None = subst (λ (x : Option Moment). answer_of x (own ++ moment_by m n what ∷ []) ≡ None) there e in
+    let bad : Some (moment_by m n what) ≡ None = sym found ∙ none in
+    cc
+slot_shut known above above' own m n j entered (slot.BadGrid e) apart closes h = λ a f.
+    subst (λ (x : Option Moment). HasQuery (what_of x)) (moment_other j own m n entered apart ∙ h.none) a
+slot_shut known above above' own m n j entered (slot.BadQuery e) apart closes h = λ a f.
+    subst (λ (x : Option Moment). HasQuery (what_of x)) (moment_other j own m n entered apart ∙ h.none) a
+slot_shut known above above' own m n j entered slot.Full apart closes h = λ a f.
+    full_shut (what_of (moment_of j own)) h (subst (λ (x : Option Moment). HasQuery (what_of x)) (moment_other j own m n entered apart) a)
+slot_shut known above above' own m n j entered slot.TooManyTenants apart closes h = λ a f.
+    stranger_shut (what_of (moment_of j own)) h (subst (λ (x : Option Moment). HasQuery (what_of x)) (moment_other j own m n entered apart) a)

@@ -1,83 +1,174 @@
 -- What became of asks: this project's own.
-use Rattle.std.specs.Prelude.{◌≡◌, ◌≢◌, ℕ, ◌<◌, ◌≤◌, Option, Some, None, codes, cond, nat_eq, List, []}
+use Rattle.std.specs.Prelude.{◌≡◌, ℕ, ◌<◌, Bool, Option, Some, None, Result, cond, false, nat_eq, slice_get, List}
 use Rattle.std.specs.BTreeMap.{BTreeMap, get}
 use Rattle.std.specs.Ordering.{nat_cmp}
-use Rattle.pf_model.specs.ErrorTexts.{full_text, grid_text, tenants_text}
-use Rattle.pf_model.specs.Json.{error_text}
-use Rattle.pf_script.specs.Legal.{Moment}
-use Rattle.pf_script.specs.Machine.{What, full, no_tenant, Machine, Open as OpenQuery, open_at}
-use Rattle.pf_model.specs.Queries.{Readings}
-use Rattle.pf_script.specs.Report.{answered, asking_text}
-use Rattle.pf_script.specs.Scripts.{Line, Numbered}
-use Rattle.pf_script.specs.Weave.{Known, IsOfAsk, what_of}
+use Rattle.pf_base.specs.declared.plain.Limits.{Limits}
+use Rattle.pf_core.specs.Cores.{CoreData, Stands, machine_of}
+use Rattle.pf_journal.specs.Asking.{Asked, ranged, at_once}
+use Rattle.pf_journal.specs.Entered.{what_of}
+use Rattle.pf_journal.specs.Legal.{Moment}
+use Rattle.pf_journal.specs.Machine.{What, ask, full, no_tenant, IsCode, Open, open_at}
+use Rattle.pf_journal.specs.Bodies.{full_body, refused_body, tenants_body}
+use Rattle.pf_journal.specs.Replies.{body_of, refusal_of}
+use Rattle.pf_journal.specs.Rest.{Known, nothing, Told}
+use Rattle.pf_journal.specs.Scripts as script
+use Rattle.pf_journal.specs.Scripts.{Line, Numbered}
+use Rattle.pf_journal.specs.Unentered.{HasQuery}
+use Rattle.pf_journal.specs.Turns.{Ran, answer_of, is_answer_of, asker_of, moment_of, place_of, ran_at}
+use Rattle.pf_model.specs.ErrorTexts.{grid_text}
+use Rattle.pf_report.specs.Bodies.{code_in, text_of}
+use Rattle.pf_report.specs.declared.bodies.Body.{Body}
+use Rattle.pf_script.specs.Lines.{IsAsk, IsUnanswered, line_at}
 use Rattle.pf_types.specs.Errors.{words_of_error}
-use Rattle.pf_top.specs.Clients.{IsStep, moment_with}
-use Rattle.pf_top.specs.Sessions.{IsQuery, machine_of}
+use Rattle.pf_top.specs.Clients.{IsKnown, IsStep, Naming}
 use Rattle.pf_top.specs.declared.client.Client.{Client}
-use Rattle.pf_top.specs.declared.session.Query.{Query}
+use Rattle.pf_top.specs.declared.client.LineRun.{LineRun}
+use Rattle.pf_top.specs.declared.client.LineRun.TheVariants.{On, Full}
 use Rattle.pf_top.specs.declared.slots.Slot.{Slot}
-use Rattle.pf_top.specs.declared.slots.Slot.TheVariants.{Open, BadGrid, BadQuery, Full, TooManyTenants}
+use Rattle.pf_top.specs.declared.slots.Slot.TheVariants as slot
+
+-- ---- what is asked
+
+-- what a line asks for
+abbrev pub wanted_by : Known → Line → Option (Result Asked (List ℕ))
+wanted_by known (script.ask id tenant start end step query) = ranged known.readings start end step query
+wanted_by known (script.instant id tenant time query) = at_once known.readings time query
+wanted_by known _ = None
+
+-- a line asks under this ID for this tenant
+abbrev pub AsksAs : (id tenant : List ℕ) → Line → Type 0
+AsksAs id tenant (script.ask i t start end step query) = (i ≡ id) × (t ≡ tenant)
+AsksAs id tenant (script.instant i t time query) = (i ≡ id) × (t ≡ tenant)
+AsksAs id tenant _ = ⊥
+
+-- ---- what is kept of an ask
+
+-- the place of the query that an entry opened
+pub record IsAskAt (known : Known) (above : List Ran) (own : List Moment) (k query : ℕ) : Type 0 where
+  pub asked : Moment
+  pub there : moment_of k own ≡ Some asked
+  pub place : place_of asked ≡ query
+  pub tenant : ℕ
+  pub wanted : Asked
+  pub pin : ℕ
+  pub generation : ℕ
+  pub floor : Option ℕ
+  pub is : asked.entry.what ≡ ask tenant wanted pin generation floor
+  pub named : slice_get known.names tenant ≡ Some (asker_of (ran_at k above))
+  pub unanswered : answer_of (Some asked) own ≡ None
+
+-- the ask has no entry, and its refusal has this text
+pub record IsUnaskedAt (known : Known) (above : List Ran) (own : List Moment) (k : ℕ) (says : List ℕ) : Type 0 where
+  pub none : moment_of k own ≡ None
+  pub ran : Ran
+  pub there : ran_at k above ≡ Some ran
+  pub told : ran.told ≡ nothing
+  pub text : refusal_of (wanted_by known ran.line.line) ≡ says
+
+-- the tenant had as many open queries as it may
+abbrev pub IsFullWhat : Option What → Type 0
+IsFullWhat (Some (full u outstanding)) = Unit {0}
+IsFullWhat _ = ⊥
+
+-- as many tenants were known as may be
+abbrev pub IsNoTenantWhat : Option What → Type 0
+IsNoTenantWhat (Some (no_tenant name)) = Unit {0}
+IsNoTenantWhat _ = ⊥
+
+-- what is kept of the ask of a line is what became of it; nothing is kept once it was answered
+abbrev pub SlotRight : Known → List Ran → List Moment → ℕ → Option Slot → Type 0
+SlotRight known above own k None = HasQuery (what_of (moment_of k own)) → answer_of (moment_of k own) own ≡ None → ⊥
+SlotRight known above own k (Some (slot.Asked query)) = IsAskAt known above own k query
+SlotRight known above own k (Some (slot.BadGrid e)) = IsUnaskedAt known above own k (grid_text e)
+SlotRight known above own k (Some (slot.BadQuery e)) = IsUnaskedAt known above own k (words_of_error e)
+SlotRight known above own k (Some slot.Full) = IsFullWhat (what_of (moment_of k own))
+SlotRight known above own k (Some slot.TooManyTenants) = IsNoTenantWhat (what_of (moment_of k own))
+
+-- ---- the asks of the lines that ran
 
 -- what became of asks, by line
 abbrev pub Slots : Type 0
 Slots = BTreeMap ℕ Slot
 
--- an entry that says that the tenant has as many open queries as it may
-abbrev pub IsFullWhat : Option What → Type 0
-IsFullWhat (Some (full u outstanding)) = Unit {0}
-IsFullWhat _ = ⊥
+pub record HaveSlots (known : Known) (above : List Ran) (own : List Moment) (count : ℕ) (done : List Numbered) (slots : Slots) : Type 0 where
+  pub right : (k : ℕ) (id : List ℕ) → IsAsk id (line_at k done) → SlotRight known above own k (get nat_cmp slots k)
+  pub kept : (k : ℕ) (id : List ℕ) → IsAsk id (line_at k done) → IsUnanswered done k → get nat_cmp slots k ≡ None → ⊥
+  -- nothing is kept of other lines
+  pub only : (k : ℕ) (s : Slot) → get nat_cmp slots k ≡ Some s → (id : List ℕ) × IsAsk id (line_at k done)
+  pub apart : (k j q : ℕ) → get nat_cmp slots k ≡ Some (slot.Asked q) → get nat_cmp slots j ≡ Some (slot.Asked q) → k ≡ j
+  pub below : (k q : ℕ) → get nat_cmp slots k ≡ Some (slot.Asked q) → q < count
 
--- an entry that says that as many tenants are known as may be
-abbrev pub IsNoTenantWhat : Option What → Type 0
-IsNoTenantWhat (Some (no_tenant name)) = Unit {0}
-IsNoTenantWhat _ = ⊥
+-- ---- an ask that was run
 
--- the code of a refused ask
-abbrev pub slot_code : Slot → List ℕ
-slot_code (Open q) = []
-slot_code (BadGrid e) = codes "400"
-slot_code (BadQuery e) = codes "400"
-slot_code Full = codes "429"
-slot_code TooManyTenants = codes "503"
+-- a query that was opened
+pub record IsOpenedNow (old new : CoreData) (entered : Option What) (query : ℕ) : Type 0 where
+  pub place : query ≡ (machine_of old).count
+  pub stands : Stands new
+  pub by_ask : HasQuery entered
+  pub opened : Open
+  pub is_open : open_at query (machine_of new).queries ≡ Some opened
 
--- what is kept of an ask is what became of it
-abbrev pub SlotRight : Readings → ℕ → Machine → Option Line → Option Moment → Option Slot → Type 0
-SlotRight readings window m asking moment None = ⊥
-SlotRight readings window m asking moment (Some (Open q)) = IsOfAsk moment q.place × IsQuery window m q
-SlotRight readings window m asking moment (Some (BadGrid e)) = (what_of moment ≡ None) × (asking_text readings asking ≡ grid_text e)
-SlotRight readings window m asking moment (Some (BadQuery e)) =
-    (what_of moment ≡ None) × (asking_text readings asking ≡ words_of_error e)
-SlotRight readings window m asking moment (Some Full) = IsFullWhat (what_of moment)
-SlotRight readings window m asking moment (Some TooManyTenants) = IsNoTenantWhat (what_of moment)
+-- what became of an ask
+abbrev pub IsSlot : Known → Line → (old new : CoreData) → Told → Option What → Slot → Type 0
+IsSlot known l old new told entered (slot.Asked query) = IsOpenedNow old new entered query
+IsSlot known l old new told entered (slot.BadGrid e) =
+    (entered ≡ None) × ((told ≡ nothing) × (refusal_of (wanted_by known l) ≡ grid_text e))
+IsSlot known l old new told entered (slot.BadQuery e) =
+    (entered ≡ None) × ((told ≡ nothing) × (refusal_of (wanted_by known l) ≡ words_of_error e))
+IsSlot known l old new told entered slot.Full = IsFullWhat entered
+IsSlot known l old new told entered slot.TooManyTenants = IsNoTenantWhat entered
 
--- open queries that are open later
-abbrev pub StayOpen : List OpenQuery → List OpenQuery → Type 0
-StayOpen old new = (place : ℕ) (o : OpenQuery) → open_at place old ≡ Some o → open_at place new ≡ Some o
+-- what became of an ask is kept
+pub record IsKeptSlot (known : Known) (l : Numbered) (old new : Client) (told : Told) (entered : Option What) : Type 0 where
+  pub kept : Slot
+  pub is : IsSlot known l.line old.core new.core told entered kept
+  pub slots : (k : ℕ) → get nat_cmp new.slots k ≡ cond (nat_eq l.number k) (Some kept) (get nat_cmp old.slots k)
 
--- an ask was run, and what became of it is kept
-pub record IsAskStep (known : Known) (old : Client) (l : Numbered) (new : Client) : Type 0 where
-  pub step : IsStep known old l None None new
-  pub slot : Slot
-  pub kept : (k : ℕ) → get nat_cmp new.slots k ≡ cond (nat_eq l.number k) (Some slot) (get nat_cmp old.slots k)
-  pub right : SlotRight known.readings new.session.limits.window (machine_of new.session) (Some l.line)
-      (moment_with (machine_of old.session) l.number step.entered) (Some slot)
-  pub still : StayOpen (machine_of old.session).queries (machine_of new.session).queries
-  pub counted : (machine_of old.session).count ≤ (machine_of new.session).count
-  -- a new open query has a place of its own
-  pub fresh : (q : Query) → slot ≡ Open q → (q.place ≡ (machine_of old.session).count) × (q.place < (machine_of new.session).count)
+-- of a line that asks; one that met the full journal keeps nothing
+abbrev pub KeepsSlot : Known → Numbered → (old new : Client) → Told → Option What → LineRun → Type 0
+KeepsSlot known l old new told entered On = IsKeptSlot known l old new told entered
+KeepsSlot known l old new told entered Full = Unit {0}
 
--- the reply to the answer of a refused ask
-abbrev pub refused_answer : ℕ → List ℕ → Slot → List ℕ
-refused_answer n id (Open q) = []
-refused_answer n id (BadGrid e) = answered n id (codes "400") 0 0 (error_text (codes "bad_data") (grid_text e))
-refused_answer n id (BadQuery e) = answered n id (codes "400") 0 0 (error_text (codes "bad_data") (words_of_error e))
-refused_answer n id Full = answered n id (codes "429") 0 0 (error_text (codes "too_many_requests") full_text)
-refused_answer n id TooManyTenants = answered n id (codes "503") 0 0 (error_text (codes "unavailable") tenants_text)
+pub record IsAskStep (known : Known) (n : Naming) (old : Client) (l : Numbered) (run : LineRun) (new : Client) : Type 0 where
+  pub step : IsStep known n old l run new
+  pub keeps : KeepsSlot known l old new step.told step.entered run
 
--- a query that is closed leaves the others open
-abbrev pub StayOpenBut : ℕ → List OpenQuery → List OpenQuery → Type 0
-StayOpenBut closed old new = (place : ℕ) (o : OpenQuery) → place ≢ closed → open_at place old ≡ Some o → open_at place new ≡ Some o
+abbrev pub AskRuns : Known → Client → Numbered → LineRun → Client → Type 0
+AskRuns known old l run new = (n : Naming) → IsKnown known new.core → IsAskStep known n old l run new
 
-abbrev pub LeavesOpen : Option Slot → List OpenQuery → List OpenQuery → Type 0
-LeavesOpen (Some (Open q)) old new = StayOpenBut q.place old new
-LeavesOpen _ old new = StayOpen old new
+-- no open query is kept
+abbrev pub IsNoQuery : Option Slot → Type 0
+IsNoQuery (Some (slot.Asked query)) = ⊥
+IsNoQuery _ = Unit {0}
+
+-- ---- answers
+
+-- a body is the answer of an open query, by its code
+pub record IsBody (limits : Limits) (o : Open) (b : Body) : Type 0 where
+  pub coded : IsCode limits o o.cancelled (code_in b)
+  pub text : body_of limits nothing (code_in b) (Some o) ≡ text_of b
+  pub tried : nat_eq (code_in b) 500 ≡ false
+  pub fed : nat_eq (code_in b) 507 ≡ false
+
+-- a body is the answer of a refused ask
+abbrev pub IsRefusedBody : Slot → Body → Type 0
+IsRefusedBody (slot.Asked query) b = Unit {0}
+IsRefusedBody (slot.BadGrid e) b = (code_in b ≡ 400) × (text_of b ≡ refused_body (grid_text e))
+IsRefusedBody (slot.BadQuery e) b = (code_in b ≡ 400) × (text_of b ≡ refused_body (words_of_error e))
+IsRefusedBody slot.Full b = (code_in b ≡ 429) × (text_of b ≡ full_body)
+IsRefusedBody slot.TooManyTenants b = (code_in b ≡ 503) × (text_of b ≡ tenants_body)
+
+-- an entry answers a query
+abbrev pub answers : ℕ → Option What → Bool
+answers q None = false
+answers q (Some what) = is_answer_of q what
+
+-- an open query of this place is kept
+abbrev pub is_query : ℕ → Option Slot → Bool
+is_query q (Some (slot.Asked query)) = nat_eq query q
+is_query q _ = false
+
+-- the ask of which this is kept was answered
+pub record IsAnswerStep (known : Known) (n : Naming) (old : Client) (l : Numbered) (kept : Option Slot) (new : Client) : Type 0 where
+  pub step : IsStep known n old l On new
+  pub closes : (q : ℕ) → answers q step.entered ≡ is_query q kept

@@ -1,91 +1,136 @@
--- What a client has run so far: this project's own.
-use Rattle.std.specs.Prelude.{◌≡◌, ℕ, ◌≤◌, Option, Some, None, List, [], ◌∷◌, ◌++◌}
-use Rattle.std.specs.Prelude.{true}
+-- What a line does to a client that runs it: this project's own.
+use Rattle.std.specs.Prelude.{◌≡◌, ℕ, Option, Some, None, List, [], ◌∷◌, ◌++◌, true}
 use Rattle.pf_block.specs.Snaps.{are_timed}
-use Rattle.pf_model.specs.Exposition.{bad_line, late_line, too_many}
-use Rattle.pf_script.specs.Legal.{Moment}
-use Rattle.pf_script.specs.Machine.{What, Entry, Machine}
-use Rattle.pf_script.specs.Report.{reply_of}
-use Rattle.pf_script.specs.Scripts.{Line, Numbered}
-use Rattle.pf_script.specs.Weave.{Known, FoundRoom, Gives, IsMatched, IsRefusedAs, IsUncached, Refusal, Turn, WantsRoom, at_line, too_long}
-use Rattle.pf_top.specs.Sessions.{Stands, IsFull, journal_of, machine_of}
+use Rattle.pf_core.specs.Cores.{CoreData, IsFull, machine_of}
+use Rattle.pf_journal.specs.Entered.{room_of}
+use Rattle.pf_journal.specs.Files.{Gives, IsRefusedAs}
+use Rattle.pf_journal.specs.Legal.{Moment}
+use Rattle.pf_journal.specs.Machine.{Entry, Machine, What}
+use Rattle.pf_journal.specs.Replies.{reply_to}
+use Rattle.pf_journal.specs.Rest.{Known, Told, nothing, refused_file, journal_full, at_full}
+use Rattle.pf_journal.specs.Scripts.{Line, Numbered}
+use Rattle.pf_journal.specs.Turns.{Hand, Ran, Turn, answer_of, asked_by, asking_line, asking_ran, cancel_of}
+use Rattle.pf_journal.specs.Weave.{FoundRoom, IsMatched, is_500, stops_at}
+use Rattle.pf_report.specs.Replies.{fault_of}
+use Rattle.pf_top.specs.Correct.{IsFed, IsUncached}
 use Rattle.pf_top.specs.declared.client.Client.{Client}
-use Rattle.pf_top.specs.declared.client.FileFault.{FileFault}
-use Rattle.pf_top.specs.declared.client.FileFault.TheVariants.{BadLine, TimeTooLarge, TooMany, TooLong}
 use Rattle.pf_top.specs.declared.client.FileRead.{FileRead}
 use Rattle.pf_top.specs.declared.client.FileRead.TheVariants.{Batch, Refused}
-use Rattle.pf_top.specs.declared.client.Ran.{Ran}
-use Rattle.pf_top.specs.declared.client.Ran.TheVariants.{On, Full}
+use Rattle.pf_top.specs.declared.client.LineRun.{LineRun}
+use Rattle.pf_top.specs.declared.client.LineRun.TheVariants.{On, Full}
 
--- why a file is refused, as the definitions say it
-abbrev pub refusal_in : FileFault → Refusal
-refusal_in (BadLine n) = at_line bad_line n
-refusal_in (TimeTooLarge n) = at_line late_line n
-refusal_in (TooMany n) = at_line too_many n
-refusal_in TooLong = too_long
+-- ---- what a line is judged by
+
+-- the limits are a core's, and the names begin with its names
+pub record IsKnown (known : Known) (c : CoreData) : Type 0 where
+  pub limits : known.limits ≡ c.limits
+  pub more : List (List ℕ)
+  pub names : known.names ≡ c.names ++ more
+
+-- the jobs in hand, and of the query that a line names the line that asked it, and the moments of its ask, cancel and answer
+pub record Naming : Type 0 where
+  pub hands : List Hand
+  pub asking : Option Ran
+  pub asked : Option Moment
+  pub cancelled : Option Moment
+  pub answered : Option Moment
+
+-- what a line names, behind own entries and lines above
+abbrev pub naming : (own : List Moment) → (above : List Ran) → List Hand → Line → Naming
+naming own above hands line = record {
+  hands = hands;
+  asking = asking_ran (asking_line line) (asked_by (asking_line line) nothing own) above;
+  asked = asked_by (asking_line line) nothing own;
+  cancelled = cancel_of (asked_by (asking_line line) nothing own) own;
+  answered = answer_of (asked_by (asking_line line) nothing own) own;
+}
+
+-- its turn
+abbrev pub turn_by : Naming → Numbered → Told → Option Moment → Turn
+turn_by n l told mine = record {
+  ran = record { line = l; told = told };
+  mine = mine;
+  hands = n.hands;
+  asking = n.asking;
+  asked = n.asked;
+  cancelled = n.cancelled;
+  answered = n.answered;
+}
+
+-- ---- what a line enters
+
+-- the entry of a line of the only client
+abbrev pub entry_by : ℕ → What → Entry
+entry_by n what = record { client = 0; line = n; what = what }
 
 -- the entry that a line makes, if it makes one, and its moment
 abbrev pub entries_by : ℕ → Option What → List Entry
 entries_by n None = []
-entries_by n (Some what) = record { client = 0; line = n; what = what } ∷ []
+entries_by n (Some what) = entry_by n what ∷ []
+
+abbrev pub moment_by : Machine → ℕ → What → Moment
+moment_by m n what = record { before = m; entry = entry_by n what }
 
 abbrev pub moment_with : Machine → ℕ → Option What → Option Moment
 moment_with m n None = None
-moment_with m n (Some what) = Some (record { before = m; entry = record { client = 0; line = n; what = what } })
+moment_with m n (Some what) = Some (moment_by m n what)
 
--- a line's turn, by what it names, what it was refused for, and what it entered
-abbrev pub turn_with : Machine → Numbered → Option Refusal → Option Line → Option Moment → Option What → Turn
-turn_with m l refused asking asked what =
-    record { line = l; mine = moment_with m l.number what; refused = refused; asking = asking; asked = asked }
+-- of no answer a step came from a cache, and none was for want of memory or for a job that failed
+abbrev pub IsUnfailed : What → Type 0
+IsUnfailed what = IsUncached what × (IsFed what × (is_500 what ≡ 0))
 
--- an entry of which no step came from a cache, if there is one
-abbrev pub IsUncachedBy : Option What → Type 0
-IsUncachedBy None = Unit {0}
-IsUncachedBy (Some what) = IsUncached what
+abbrev pub IsUnfailedBy : Option What → Type 0
+IsUnfailedBy None = Unit {0}
+IsUnfailedBy (Some what) = IsUnfailed what
 
--- a line was run: it entered at most one entry, which fits it and found room, and its reply was told
-pub record IsStep (known : Known) (old : Client) (l : Numbered) (asking : Option Line) (asked : Option Moment) (new : Client) : Type 0 where
+-- what may be told beside entries
+abbrev pub IsPlain : Told → Type 0
+IsPlain nothing = Unit {0}
+IsPlain (refused_file refusal) = Unit {0}
+IsPlain journal_full = Unit {0}
+IsPlain _ = ⊥
+
+-- ---- a line that was run
+
+-- the client goes on, or the line met the full journal
+abbrev pub Ends : CoreData → Line → Told → Option What → LineRun → Type 0
+Ends old l told entered On = stops_at l told ≡ None
+Ends old l told entered Full = (stops_at l told ≡ Some at_full) × ((entered ≡ None) × IsFull old (room_of l))
+
+-- a line was run: it entered at most one entry, which fits it and found room, and its reply was said
+pub record IsStep (known : Known) (n : Naming) (old : Client) (l : Numbered) (run : LineRun) (new : Client) : Type 0 where
+  pub told : Told
   pub entered : Option What
-  pub refused : Option Refusal
-  pub stands : Stands new.session
-  pub limits : new.session.limits ≡ old.session.limits
-  pub journal : journal_of new.session ≡ journal_of old.session ++ entries_by l.number entered
+  pub plain : IsPlain told
+  pub ends : Ends old.core l.line told entered run
+  pub limits : new.core.limits ≡ old.core.limits
+  pub journal : new.core.journal ≡ old.core.journal ++ entries_by l.number entered
   pub more : List (List ℕ)
-  pub grown : new.session.names.items ≡ old.session.names.items ++ more
-  pub woven : IsMatched known new.session.names.items (turn_with (machine_of old.session) l refused asking asked entered)
-      (moment_with (machine_of old.session) l.number entered)
-  pub roomy : FoundRoom old.session.limits l.line (moment_with (machine_of old.session) l.number entered)
-  pub uncached : IsUncachedBy entered
-  pub told : new.out.items
-      ≡ old.out.items ++ reply_of old.session.limits known.readings (turn_with (machine_of old.session) l refused asking asked entered)
+  pub grown : new.core.names ≡ old.core.names ++ more
+  pub matched : IsMatched known (turn_by n l told (moment_with (machine_of old.core) l.number entered))
+      (moment_with (machine_of old.core) l.number entered)
+  pub roomy : FoundRoom known.limits l.line (moment_with (machine_of old.core) l.number entered)
+  pub unfailed : IsUnfailedBy entered
+  pub said : new.out.items
+      ≡ old.out.items ++ reply_to known (turn_by n l told (moment_with (machine_of old.core) l.number entered)) l.number l.line
 
--- a line met the full journal
-pub record IsStopped (known : Known) (old : Client) (l : Numbered) (new : Client) : Type 0 where
-  pub wanted : ℕ
-  pub wants : WantsRoom known l.line wanted
-  pub full : IsFull old.session wanted
-  pub same : new ≡ old
+-- the limits stay, and names are only added
+pub record Grows (old new : CoreData) : Type 0 where
+  pub limits : new.limits ≡ old.limits
+  pub more : List (List ℕ)
+  pub names : new.names ≡ old.names ++ more
 
-abbrev pub Runs : Known → Client → Numbered → Option Line → Option Moment → Ran → Client → Type 0
-Runs known old l asking asked On new = IsStep known old l asking asked new
-Runs known old l asking asked Full new = IsStopped known old l new
+-- the same of a line that names no query
+abbrev pub Runs : Known → Client → Numbered → LineRun → Client → Type 0
+Runs known old l run new = (n : Naming) → IsKnown known new.core → IsStep known n old l run new
 
--- neither open queries nor what became of asks changed
-pub record SameQueries (old new : Client) : Type 0 where
-  pub slots : new.slots ≡ old.slots
-  pub queries : (machine_of new.session).queries ≡ (machine_of old.session).queries
-  pub counted : (machine_of old.session).count ≤ (machine_of new.session).count
+-- ---- files
 
--- what a file was read as, where it is told
-abbrev pub IsFileRead : Option (List ℕ) → ℕ → FileRead → Type 0
-IsFileRead told time (Batch batch) = Gives told time batch
-IsFileRead told time (Refused fault) = IsRefusedAs told time (refusal_in fault)
+-- what a file was read as
+abbrev pub IsFileRead : List ℕ → ℕ → FileRead → Type 0
+IsFileRead bytes time (Batch batch) = Gives bytes time batch
+IsFileRead bytes time (Refused fault) = IsRefusedAs bytes time (fault_of fault)
 
 abbrev pub IsTimed : FileRead → Type 0
 IsTimed (Batch batch) = are_timed batch.rows ≡ true
 IsTimed (Refused fault) = Unit {0}
-
--- an ask was run, or met the full journal
-abbrev pub AskRuns : (Client → Type 0) → Known → Client → Numbered → Ran → Client → Type 0
-AskRuns IsAskRun known old l On new = IsAskRun new
-AskRuns IsAskRun known old l Full new = IsStopped known old l new

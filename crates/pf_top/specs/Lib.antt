@@ -2,12 +2,10 @@ pub mod Asks
 pub mod Clients
 pub mod Correct
 pub mod Drives
-pub mod Entries
 pub mod Evaluations
 pub mod Files
 pub mod Going
 pub mod Outputs
 pub mod Queries
 pub mod Refusals
-pub mod Sessions
 pub mod Words

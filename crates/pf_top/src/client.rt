@@ -1,73 +1,66 @@
 //! A client that runs the lines of its script.
 
 ghost use Rattle.std.specs.Arc.{arc_value};
-ghost use Rattle.pf_base.specs.Grids.{grid_of, maxt};
-ghost use Rattle.pf_model.specs.Queries.{IsSelector, asked_of};
-ghost use Rattle.std.specs.Prelude.{◌≡◌, ◌≤◌, ◌++◌, ◌∷◌, [], ℕ, Ok, codes, cond, decimal, nat_eq, nat_lt, ◌||◌, List, Option, length, IfOk, OnOk, Some, None, map, true};
-ghost use Rattle.pf_block.specs.Snaps.{are_timed};
-ghost use Rattle.pf_script.specs.Report.{answered, asked_refused, delete_reply, ingest_reply, reply_line, tenants_words, undeleted_words};
-ghost use Rattle.pf_io.specs.Outside.{Holds};
-ghost use Rattle.pf_script.specs.Lines.{numbered_of};
-ghost use Rattle.pf_top.specs.Going.{GoesOn, IsReady};
-ghost use Rattle.pf_script.specs.Scripts as script;
-ghost use Rattle.pf_script.specs.Scripts.{answer, ask, delete, ingest, most_bytes};
-ghost use Rattle.pf_script.specs.Weave.{Gives, Known};
-ghost use Rattle.pf_report.specs.Words.{word_text};
 ghost use Rattle.std.specs.BTreeMap.{get};
 ghost use Rattle.std.specs.Ordering.{nat_cmp};
-ghost use Rattle.pf_top.specs.Asks.{IsAskStep, LeavesOpen, SlotRight, StayOpenBut, refused_answer, slot_code};
-ghost use Rattle.pf_top.specs.Entries.{asked_in};
-ghost use Rattle.pf_top.specs.declared.session.Query.{Query};
-ghost use Rattle.pf_top.specs.declared.slots.Slot.TheVariants.{Open};
-ghost use Rattle.pf_top.specs.Clients.{AskRuns, IsFileRead, IsStep, IsTimed, Runs, SameQueries, refusal_in};
+ghost use Rattle.std.specs.Prelude.{◌≡◌, ◌≤◌, ◌++◌, ◌∷◌, [], ℕ, codes, decimal, slice_get, IfOk, List, None, Ok, OnOk, Some, cond, length, nat_eq, nat_lt, ◌||◌, true};
+ghost use Rattle.pf_block.specs.Snaps.{are_timed};
+ghost use Rattle.pf_journal.specs.Asking.{asked_with};
+ghost use Rattle.pf_journal.specs.Files.{Gives};
+ghost use Rattle.pf_journal.specs.Rest.{Known};
+ghost use Rattle.pf_journal.specs.Scripts as script;
+ghost use Rattle.pf_journal.specs.Scripts.{most_bytes};
+ghost use Rattle.pf_journal.specs.Turns.{Hand, Ran};
+ghost use Rattle.pf_journal.specs.Machine.{Open};
+ghost use Rattle.pf_base.specs.Grids.{maxt};
+ghost use Rattle.pf_base.specs.declared.plain.Limits.{Limits};
+ghost use Rattle.pf_model.specs.Queries.{IsSelector};
+ghost use Rattle.pf_script.specs.Lines.{numbered_of};
+ghost use Rattle.pf_store.specs.Standing.{IsPin};
+ghost use Rattle.pf_top.specs.Asks.{AskRuns, AsksAs, IsAnswerStep, IsAskAt, IsBody, IsRefusedBody, SlotRight, wanted_by};
+ghost use Rattle.pf_top.specs.declared.slots.Slot.TheVariants as slot;
+ghost use Rattle.pf_report.specs.Bodies.{code_in, text_of};
+ghost use Rattle.pf_journal.specs.Replies.{refused_words, reply_line, unanswered};
+ghost use Rattle.pf_model.specs.Lists.{Each};
+ghost use Rattle.pf_top.specs.Clients.{Grows, IsFileRead, IsKnown, IsStep, IsTimed, Runs, naming};
 ghost use Rattle.pf_top.specs.Files.{AreHeld, HoldsContent, IsKept, IsShort};
+ghost use Rattle.pf_top.specs.Going.{GoesOn, IsReady, own_of};
 ghost use Rattle.pf_top.specs.Queries.{AreReadAs, IsTextKept, readings_in};
-ghost use Rattle.pf_types.specs.Errors.{words_of_error};
-ghost use Rattle.pf_model.specs.ErrorTexts.{grid_text};
-ghost use Rattle.pf_model.specs.Json.{error_text};
-ghost use Rattle.pf_script.specs.Legal.{Moment};
-ghost use Rattle.pf_top.specs.Sessions.{IsQuery, Stands, machine_of};
+ghost use Rattle.pf_types.specs.Asking.{IsWhen, grid_in, is_instant};
+ghost use Rattle.pf_top.specs.declared.client.LineRun.TheVariants.{On};
 
-use crate::entry::Asked;
 use crate::evaluate::evaluate;
 use crate::loaded::{Content, Contents, Loaded, content_of};
-use crate::queries::{Queries, QueryRead, SelectorRead, query_of};
-use crate::session::{AskError, ChangeError, Query, Session};
-use crate::slots::{Slot, Slots, code_of, keep, take};
+use crate::queries::{Queries, QueryRead, SelectorRead, query_of as read_of};
+use crate::slots::{Slot, Slots, keep, query_of, take};
 use pf_base::{Batch, By, Grid, GridError, MAXT, OutOfMemory, Tenant, Text};
+use pf_core::{AskError, CancelAnswer, Core, CoreError, Opened};
 use pf_expo::{ExpoError, read_exposition};
 use pf_model::Matchers;
-use pf_report::{Word, push_error_answer, push_ingested, push_query_answer, push_reply};
+use pf_query::Asked;
+use pf_report::{
+    AskReply, Body, CancelReply, DeleteReply, FileFault, IngestReply, push_answered,
+    push_ask_reply, push_cancel_reply, push_delete_reply, push_ingest_reply,
+};
 use pf_script::{Line, NumberedLine};
-use pf_store::Deleted;
-use pf_types::{QueryError, error_text, grid_text};
+use pf_types::{QueryError, When, error_text, grid_text};
 use std::alloc::Global;
 use std::sync::Arc;
 
-/// A client: the session that it works on, what became of its asks by line, and its part of the report so far.
+/// A client: the core that it works on, what became of its asks by line, and its part of the report so far.
 #[derive(Drop)]
 pub struct Client {
     pub alloc: Global,
-    pub session: Session,
+    pub core: Core,
     pub slots: Slots,
     pub out: Vec<u8>,
 }
 
-/// Whether a line was run, or met the full journal.
+/// Whether the client goes on behind a line, or the line met the full journal.
 #[derive(Clone, Copy)]
-pub enum Ran {
+pub enum LineRun {
     On,
     Full,
-}
-
-/// Why a file is refused. Lines count from 1.
-#[derive(Clone, Copy)]
-pub enum FileFault {
-    BadLine(u32),
-    TimeTooLarge(u32),
-    /// The line of the first row that is too many.
-    TooMany(u32),
-    TooLong,
 }
 
 /// What a file is read as.
@@ -77,12 +70,12 @@ pub enum FileRead {
     Refused(FileFault),
 }
 
-#[tactic(auto, using(crate::proofs::FileReads::gives_timed, crate::proofs::FileReads::gives_told, crate::proofs::FileReads::stops_told))]
 /// Reads what a file holds. Samples without a time have this one.
+#[tactic(auto, using(crate::proofs::FileReads::gives_timed, crate::proofs::FileReads::gives_held, crate::proofs::FileReads::stops_held))]
 fn read_batch(alloc: Global, bytes: &[u8], time: u64) -> Result<FileRead, OutOfMemory>
     requires within { time ≤ 4398046511103 }
     requires short { length bytes.now ≤ most_bytes }
-    ensures read { IfOk result (λ r. (told : Option (List ℕ)) → Holds told bytes.now → IsFileRead told time r) }
+    ensures read { IfOk result (IsFileRead bytes.now time) }
     ensures timed { IfOk result IsTimed }
 {
     match read_exposition(alloc, bytes, time) {
@@ -97,11 +90,10 @@ fn read_batch(alloc: Global, bytes: &[u8], time: u64) -> Result<FileRead, OutOfM
 }
 
 /// Reads what is kept of a file.
-#[tactic(auto, using(crate::proofs::FileReads::long_told))]
 pub fn read_content(alloc: Global, content: &Content, time: u64) -> Result<FileRead, OutOfMemory>
     requires within { time ≤ 4398046511103 }
     requires short { IsShort content.now }
-    ensures read { IfOk result (λ r. (told : Option (List ℕ)) → HoldsContent told content.now → IsFileRead told time r) }
+    ensures read { IfOk result (λ r. (held : List ℕ) → HoldsContent held content.now → IsFileRead held time r) }
     ensures timed { IfOk result IsTimed }
 {
     match content {
@@ -110,182 +102,12 @@ pub fn read_content(alloc: Global, content: &Content, time: u64) -> Result<FileR
     }
 }
 
-/// Appends the reply to an `ingest` whose file is refused.
-pub fn push_refusal(
-    out: &mut Vec<u8>,
-    number: u32,
-    tenant: &str,
-    fault: FileFault,
-) -> Result<(), OutOfMemory>
-    ensures { OnOk result (out.new.items ≡ out.old.items ++ ingest_reply number tenant.now (Some (refusal_in fault)) None) }
-{
-    match fault {
-        FileFault::BadLine(line) => push_reply(
-            out,
-            number,
-            "ingest",
-            tenant,
-            &[
-                Word::Text("bad"),
-                Word::Text("line"),
-                Word::Number(line as u64),
-            ],
-        ),
-        FileFault::TimeTooLarge(line) => push_reply(
-            out,
-            number,
-            "ingest",
-            tenant,
-            &[
-                Word::Text("time"),
-                Word::Text("too"),
-                Word::Text("large"),
-                Word::Text("line"),
-                Word::Number(line as u64),
-            ],
-        ),
-        FileFault::TooMany(_) => push_reply(
-            out,
-            number,
-            "ingest",
-            tenant,
-            &[Word::Text("too"), Word::Text("many"), Word::Text("samples")],
-        ),
-        FileFault::TooLong => push_reply(
-            out,
-            number,
-            "ingest",
-            tenant,
-            &[Word::Text("file"), Word::Text("too"), Word::Text("long")],
-        ),
-    }
-}
-
-/// The entry of the only client's line.
+/// The only client's line.
 fn by(line: u32) -> By
     ensures client { result.client ≡ 0 }
     ensures line { result.line ≡ line }
 {
     By { client: 0, line }
-}
-
-/// Appends the reply to a `delete` that was entered.
-fn push_deleted(
-    out: &mut Vec<u8>,
-    number: u32,
-    tenant: &str,
-    deleted: Deleted,
-) -> Result<(), OutOfMemory>
-    ensures { OnOk result (out.new.items ≡ out.old.items ++ reply_line number (codes "delete") tenant.now (codes "generation" ∷ decimal deleted.generation ∷ codes "entry" ∷ decimal deleted.entry ∷ [])) }
-{
-    push_reply(
-        out,
-        number,
-        "delete",
-        tenant,
-        &[
-            Word::Text("generation"),
-            Word::Number(deleted.generation),
-            Word::Text("entry"),
-            Word::Number(deleted.entry),
-        ],
-    )
-}
-
-/// Appends the reply to an ask that was refused with this code.
-fn push_ask_refused(out: &mut Vec<u8>, number: u32, id: &str, code: &str) -> Result<(), OutOfMemory>
-    ensures { OnOk result (out.new.items ≡ out.old.items ++ asked_refused number id.now code.now) }
-{
-    push_reply(
-        out,
-        number,
-        "ask",
-        id,
-        &[Word::Text("refused"), Word::Text(code)],
-    )
-}
-
-/// Appends the reply to an ask whose query is open.
-fn push_asked(out: &mut Vec<u8>, number: u32, id: &str, query: &Query) -> Result<(), OutOfMemory>
-    ensures { OnOk result (out.new.items ≡ out.old.items ++ reply_line number (codes "ask") id.now (codes "pin" ∷ decimal query.now.pin.number ∷ codes "place" ∷ decimal query.now.place ∷ [])) }
-{
-    push_reply(
-        out,
-        number,
-        "ask",
-        id,
-        &[
-            Word::Text("pin"),
-            Word::Number(query.pin.number),
-            Word::Text("place"),
-            Word::Number(query.place),
-        ],
-    )
-}
-
-/// Appends the reply to the answer of an ask whose grid was refused.
-fn push_bad_grid(
-    alloc: Global,
-    out: &mut Vec<u8>,
-    number: u32,
-    id: &str,
-    error: GridError,
-) -> Result<(), OutOfMemory>
-    ensures { OnOk result (out.new.items ≡ out.old.items ++ answered number id.now (codes "400") 0 0 (error_text (codes "bad_data") (grid_text error))) }
-{
-    let message = grid_text(alloc, error)?;
-    push_error_answer(alloc, out, number, id, "400", "bad_data", message.as_str())?;
-    Ok(())
-}
-
-/// Appends the reply to the answer of an ask whose query was refused.
-fn push_bad_query(
-    alloc: Global,
-    out: &mut Vec<u8>,
-    number: u32,
-    id: &str,
-    error: &QueryError,
-) -> Result<(), OutOfMemory>
-    ensures { OnOk result (out.new.items ≡ out.old.items ++ answered number id.now (codes "400") 0 0 (error_text (codes "bad_data") (words_of_error error.now))) }
-{
-    let message = error_text(alloc, error)?;
-    push_error_answer(alloc, out, number, id, "400", "bad_data", message.as_str())?;
-    Ok(())
-}
-
-/// Appends the reply to the answer of an ask that was refused, and nothing for an open query.
-fn push_refused_answer(
-    alloc: Global,
-    out: &mut Vec<u8>,
-    number: u32,
-    id: &str,
-    slot: &Slot,
-) -> Result<(), OutOfMemory>
-    ensures { OnOk result (out.new.items ≡ out.old.items ++ refused_answer number id.now slot.now) }
-{
-    match slot {
-        Slot::Open(_) => Ok(()),
-        Slot::BadGrid(error) => push_bad_grid(alloc, out, number, id, *error),
-        Slot::BadQuery(error) => push_bad_query(alloc, out, number, id, error),
-        Slot::Full => push_error_answer(
-            alloc,
-            out,
-            number,
-            id,
-            "429",
-            "too_many_requests",
-            "too many outstanding requests",
-        ),
-        Slot::TooManyTenants => push_error_answer(
-            alloc,
-            out,
-            number,
-            id,
-            "503",
-            "unavailable",
-            "too many tenants",
-        ),
-    }
 }
 
 /// Whether no sample has a time from one to the other.
@@ -295,21 +117,27 @@ fn is_no_range(from: u64, to: u64) -> bool
     to < from || MAXT < to
 }
 
-/// What is refused of a deletion: its range, or else its selector.
-fn refused_part(from: u64, to: u64) -> &'static str
-    ensures { undeleted_words from to ≡ codes "bad" ∷ result.now ∷ [] }
+/// The body of an open query's answer: that of its evaluation, unless it was cancelled.
+fn body_of(alloc: Global, opened: Opened<'_>) -> Result<Body, OutOfMemory>
+    ensures { IfOk result (λ b. (limits : Limits) (o : Open) → o.asked ≡ arc_value opened.entry.asked.now → o.cancelled ≡ opened.entry.cancelled → IsPin opened.entry.pin.now limits.window o.log → IsBody limits o b) }
 {
-    if is_no_range(from, to) {
-        "range"
-    } else {
-        "selector"
+    if opened.cancelled.is_some() {
+        return Ok(Body::Cancelled);
     }
+    let pin = opened.pin;
+    evaluate(alloc, opened.asked, &pin.snap)
 }
 
-fn too_many_tenants() -> [Word<'static>; 3]
-    ensures { map word_text result ≡ tenants_words }
+/// The body of the answer of an ask that was refused, and `full` for a query that was opened.
+fn refused_body(alloc: Global, slot: Slot) -> Result<Body, OutOfMemory>
+    ensures { IfOk result (IsRefusedBody slot) }
 {
-    [Word::Text("too"), Word::Text("many"), Word::Text("tenants")]
+    match slot {
+        Slot::Asked { .. } | Slot::Full => Ok(Body::Full),
+        Slot::BadGrid(error) => Ok(Body::Refused(grid_text(alloc, error)?)),
+        Slot::BadQuery(error) => Ok(Body::Refused(error_text(alloc, &error)?)),
+        Slot::TooManyTenants => Ok(Body::TooManyTenants),
+    }
 }
 
 impl Client {
@@ -321,33 +149,32 @@ impl Client {
         file: &Text,
         time: u64,
         batch: Batch,
-    ) -> Result<Ran, OutOfMemory>
-        requires stands { Stands self.old.session }
+    ) -> Result<LineRun, OutOfMemory>
         requires timed { are_timed batch.rows ≡ true }
-        ensures runs { IfOk result (λ r. (known : Known) → Gives (known.files file.now) time batch → Runs known self.old (record { number = number; line = ingest tenant.now file.now time }) None None r self.new) }
-        ensures same { OnOk result (SameQueries self.old self.new) }
+        ensures runs { IfOk result (λ r. (known : Known) → Gives (known.files file.now) time batch → Runs known self.old (record { number = number; line = script.ingest tenant.now file.now time }) r self.new) }
+        ensures slots { OnOk result (self.new.slots ≡ self.old.slots) }
     {
         let skipped = batch.skipped;
-        match self
-            .session
-            .append(by(number), tenant, Arc::new(self.alloc, batch)?)
-        {
+        let batch = Arc::new(self.alloc, batch)?;
+        let name = tenant.as_str();
+        match self.core.append(by(number), tenant, batch) {
             Ok(verdicts) => {
-                push_ingested(&mut self.out, number, tenant.as_str(), skipped, &verdicts)?;
-                Ok(Ran::On)
+                let reply = IngestReply::Taken {
+                    skipped,
+                    verdicts: &verdicts,
+                };
+                push_ingest_reply(&mut self.out, number, name, &reply)?;
+                Ok(LineRun::On)
             }
-            Err(ChangeError::TooManyTenants) => {
-                push_reply(
-                    &mut self.out,
-                    number,
-                    "ingest",
-                    tenant.as_str(),
-                    &too_many_tenants(),
-                )?;
-                Ok(Ran::On)
+            Err(CoreError::TooManyTenants) => {
+                push_ingest_reply(&mut self.out, number, name, &IngestReply::TooManyTenants)?;
+                Ok(LineRun::On)
             }
-            Err(ChangeError::JournalFull) => Ok(Ran::Full),
-            Err(ChangeError::OutOfMemory) => Err(OutOfMemory),
+            Err(CoreError::JournalFull { .. }) => {
+                push_ingest_reply(&mut self.out, number, name, &IngestReply::JournalFull)?;
+                Ok(LineRun::Full)
+            }
+            Err(CoreError::OutOfMemory) => Err(OutOfMemory),
         }
     }
 
@@ -359,21 +186,21 @@ impl Client {
         tenant: &Tenant,
         file: &Text,
         time: u64,
-    ) -> Result<Ran, OutOfMemory>
-        requires stands { Stands self.old.session }
+    ) -> Result<LineRun, OutOfMemory>
         requires kept { IsKept files.now file.now }
         requires within { time ≤ 4398046511103 }
-        ensures runs { IfOk result (λ r. (told : Known) → AreHeld told.files files.now → Runs told self.old (record { number = number; line = ingest tenant.now file.now time }) None None r self.new) }
-        ensures same { OnOk result (SameQueries self.old self.new) }
+        ensures runs { IfOk result (λ r. (known : Known) → AreHeld known.files files.now → Runs known self.old (record { number = number; line = script.ingest tenant.now file.now time }) r self.new) }
+        ensures slots { OnOk result (self.new.slots ≡ self.old.slots) }
     {
         let Some(content) = content_of(files, file.as_str()) else {
-            return Ok(Ran::On);
+            return Ok(LineRun::On);
         };
         match read_content(self.alloc, content, time)? {
             FileRead::Batch(batch) => self.take_in(number, tenant, file, time, batch),
             FileRead::Refused(fault) => {
-                push_refusal(&mut self.out, number, tenant.as_str(), fault)?;
-                Ok(Ran::On)
+                let reply = IngestReply::Refused(fault);
+                push_ingest_reply(&mut self.out, number, tenant.as_str(), &reply)?;
+                Ok(LineRun::On)
             }
         }
     }
@@ -386,42 +213,32 @@ impl Client {
         from: u64,
         to: u64,
         matchers: Arc<Matchers>,
-    ) -> Result<Ran, OutOfMemory>
-        requires stands { Stands self.old.session }
+    ) -> Result<LineRun, OutOfMemory>
         requires range { from ≤ to }
         requires within { to ≤ 4398046511103 }
-        ensures runs { IfOk result (λ r. (told : Known) (selector : List ℕ) → IsSelector selector (arc_value matchers) → Runs told self.old (record { number = number; line = delete tenant.now from to selector }) None None r self.new) }
-        ensures same { OnOk result (SameQueries self.old self.new) }
+        ensures runs { IfOk result (λ r. (known : Known) (selector : List ℕ) → IsSelector selector (arc_value matchers) → Runs known self.old (record { number = number; line = script.delete tenant.now from to selector }) r self.new) }
+        ensures slots { OnOk result (self.new.slots ≡ self.old.slots) }
     {
         let name = tenant.as_str();
-        match self.session.delete(by(number), tenant, matchers, from, to) {
+        match self.core.delete(by(number), tenant, matchers, from, to) {
             Ok(deleted) => {
-                push_deleted(&mut self.out, number, name, deleted)?;
-                Ok(Ran::On)
+                let reply = DeleteReply::Deleted {
+                    generation: deleted.generation,
+                    entry: deleted.entry,
+                };
+                push_delete_reply(&mut self.out, number, name, &reply)?;
+                Ok(LineRun::On)
             }
-            Err(ChangeError::TooManyTenants) => {
-                push_reply(&mut self.out, number, "delete", name, &too_many_tenants())?;
-                Ok(Ran::On)
+            Err(CoreError::TooManyTenants) => {
+                push_delete_reply(&mut self.out, number, name, &DeleteReply::TooManyTenants)?;
+                Ok(LineRun::On)
             }
-            Err(ChangeError::JournalFull) => Ok(Ran::Full),
-            Err(ChangeError::OutOfMemory) => Err(OutOfMemory),
+            Err(CoreError::JournalFull { .. }) => {
+                push_delete_reply(&mut self.out, number, name, &DeleteReply::JournalFull)?;
+                Ok(LineRun::Full)
+            }
+            Err(CoreError::OutOfMemory) => Err(OutOfMemory),
         }
-    }
-
-    /// Replies to a `delete` whose range or selector is refused.
-    fn refuse_delete(
-        &mut self,
-        number: u32,
-        tenant: &Tenant,
-        from: u64,
-        to: u64,
-    ) -> Result<(), OutOfMemory>
-        ensures told { OnOk result (self.new.out.items ≡ self.old.out.items ++ delete_reply number tenant.now from to None) }
-        ensures session { self.new.session ≡ self.old.session }
-        ensures slots { self.new.slots ≡ self.old.slots }
-    {
-        let words = [Word::Text("bad"), Word::Text(refused_part(from, to))];
-        push_reply(&mut self.out, number, "delete", tenant.as_str(), &words)
     }
 
     /// Runs a `delete`.
@@ -433,81 +250,103 @@ impl Client {
         from: u64,
         to: u64,
         selector: &Text,
-    ) -> Result<Ran, OutOfMemory>
-        requires stands { Stands self.old.session }
+    ) -> Result<LineRun, OutOfMemory>
         requires right { AreReadAs queries.now }
         requires kept { IsTextKept queries.now selector.now }
-        ensures runs { IfOk result (λ r. (told : Known) → Runs told self.old (record { number = number; line = delete tenant.now from to selector.now }) None None r self.new) }
-        ensures same { OnOk result (SameQueries self.old self.new) }
+        ensures runs { IfOk result (λ r. (known : Known) → Runs known self.old (record { number = number; line = script.delete tenant.now from to selector.now }) r self.new) }
+        ensures slots { OnOk result (self.new.slots ≡ self.old.slots) }
     {
         if is_no_range(from, to) {
-            self.refuse_delete(number, tenant, from, to)?;
-            return Ok(Ran::On);
+            push_delete_reply(
+                &mut self.out,
+                number,
+                tenant.as_str(),
+                &DeleteReply::BadRange,
+            )?;
+            return Ok(LineRun::On);
         }
-        let Some(read) = query_of(queries, selector.as_str()) else {
-            return Ok(Ran::On);
+        let Some(read) = read_of(queries, selector.as_str()) else {
+            return Ok(LineRun::On);
         };
         match &read.selector {
             SelectorRead::Built(matchers) => {
                 self.delete_selected(number, tenant, from, to, Arc::try_clone(matchers)?)
             }
             SelectorRead::Refused => {
-                self.refuse_delete(number, tenant, from, to)?;
-                Ok(Ran::On)
+                push_delete_reply(
+                    &mut self.out,
+                    number,
+                    tenant.as_str(),
+                    &DeleteReply::BadSelector,
+                )?;
+                Ok(LineRun::On)
             }
         }
     }
 
-    /// Replies to an ask that was refused, and keeps why.
-    fn refuse_ask(&mut self, number: u32, id: &str, slot: Slot) -> Result<(), OutOfMemory>
-        ensures told { OnOk result (self.new.out.items ≡ self.old.out.items ++ asked_refused number id.now (slot_code slot)) }
+    /// Replies to an ask that was refused with this code, and keeps why.
+    fn refuse_ask(
+        &mut self,
+        number: u32,
+        id: &str,
+        code: u16,
+        slot: Slot,
+    ) -> Result<(), OutOfMemory>
+        ensures said { OnOk result (self.new.out.items ≡ self.old.out.items ++ reply_line number (codes "ask") id.now (refused_words (decimal code))) }
         ensures kept { OnOk result ((k : ℕ) → get nat_cmp self.new.slots k ≡ cond (nat_eq number k) (Some slot) (get nat_cmp self.old.slots k)) }
-        ensures same { OnOk result (self.new.session ≡ self.old.session) }
+        ensures core { self.new.core ≡ self.old.core }
     {
-        push_ask_refused(&mut self.out, number, id, code_of(&slot))?;
+        push_ask_reply(&mut self.out, number, id, &AskReply::Refused { code })?;
         keep(&mut self.slots, number, slot)
     }
 
-    /// Replies to an ask whose query is open, and keeps it.
-    fn open_query(&mut self, number: u32, id: &str, query: Query) -> Result<(), OutOfMemory>
-        ensures told { OnOk result (self.new.out.items ≡ self.old.out.items ++ reply_line number (codes "ask") id.now (codes "pin" ∷ decimal query.pin.number ∷ codes "place" ∷ decimal query.place ∷ [])) }
-        ensures kept { OnOk result ((k : ℕ) → get nat_cmp self.new.slots k ≡ cond (nat_eq number k) (Some (Open query)) (get nat_cmp self.old.slots k)) }
-        ensures same { OnOk result (self.new.session ≡ self.old.session) }
+    /// Replies to an ask whose query was opened, and keeps its place.
+    fn open_query(&mut self, number: u32, id: &str, pin: u64, place: u64) -> Result<(), OutOfMemory>
+        ensures said { OnOk result (self.new.out.items ≡ self.old.out.items ++ reply_line number (codes "ask") id.now (codes "pin" ∷ decimal pin ∷ codes "place" ∷ decimal place ∷ [])) }
+        ensures kept { OnOk result ((k : ℕ) → get nat_cmp self.new.slots k ≡ cond (nat_eq number k) (Some (slot.Asked place)) (get nat_cmp self.old.slots k)) }
+        ensures core { self.new.core ≡ self.old.core }
     {
-        push_asked(&mut self.out, number, id, &query)?;
-        keep(&mut self.slots, number, Slot::Open(query))
+        push_ask_reply(&mut self.out, number, id, &AskReply::Asked { pin, place })?;
+        keep(&mut self.slots, number, Slot::Asked { query: place })
     }
 
-    /// Asks a query over a grid.
+    /// Asks a query over its grid.
     fn ask_over(
         &mut self,
         number: u32,
         id: &Text,
         tenant: &Tenant,
         asked: Arc<Asked>,
-    ) -> Result<Ran, OutOfMemory>
-        requires stands { Stands self.old.session }
-        ensures runs { IfOk result (λ r. (told : Known) (start end step : ℕ) (query : List ℕ) → asked_of told.readings start end step query ≡ Some (Ok (asked_in (arc_value asked))) → AskRuns (IsAskStep told self.old (record { number = number; line = ask id.now tenant.now start end step query })) told self.old (record { number = number; line = ask id.now tenant.now start end step query }) r self.new) }
+    ) -> Result<LineRun, OutOfMemory>
+        ensures runs { IfOk result (λ r. (known : Known) (line : script.Line) → AsksAs id.now tenant.now line → wanted_by known line ≡ Some (Ok (arc_value asked)) → AskRuns known self.old (record { number = number; line = line }) r self.new) }
     {
-        match self.session.ask(by(number), tenant, asked) {
-            Ok(query) => {
-                self.open_query(number, id.as_str(), query)?;
-                Ok(Ran::On)
+        let name = id.as_str();
+        match self.core.ask(by(number), tenant, asked) {
+            Ok(admitted) => {
+                self.open_query(number, name, admitted.pin.number, admitted.query)?;
+                Ok(LineRun::On)
             }
             Err(AskError::TooManyTenants) => {
-                self.refuse_ask(number, id.as_str(), Slot::TooManyTenants)?;
-                Ok(Ran::On)
+                self.refuse_ask(number, name, 503, Slot::TooManyTenants)?;
+                Ok(LineRun::On)
             }
-            Err(AskError::Full) => {
-                self.refuse_ask(number, id.as_str(), Slot::Full)?;
-                Ok(Ran::On)
+            Err(
+                AskError::Full {
+                    outstanding: _outstanding,
+                },
+            ) => {
+                self.refuse_ask(number, name, 429, Slot::Full)?;
+                Ok(LineRun::On)
             }
-            Err(AskError::JournalFull) => Ok(Ran::Full),
+            Err(AskError::JournalFull { .. }) => {
+                push_ask_reply(&mut self.out, number, name, &AskReply::JournalFull)?;
+                Ok(LineRun::Full)
+            }
             Err(AskError::OutOfMemory) => Err(OutOfMemory),
         }
     }
 
-    /// Asks what was read of a query over a grid.
+    /// Asks what was read of a query, over a grid or at one time.
     fn ask_read(
         &mut self,
         queries: &Queries,
@@ -515,30 +354,30 @@ impl Client {
         id: &Text,
         tenant: &Tenant,
         query: &Text,
-        grid: Grid,
-    ) -> Result<Ran, OutOfMemory>
-        requires stands { Stands self.old.session }
+        when: When,
+    ) -> Result<LineRun, OutOfMemory>
         requires right { AreReadAs queries.now }
         requires kept { IsTextKept queries.now query.now }
-        ensures runs { IfOk result (λ r. (told : Known) (start end step : ℕ) → told.readings ≡ readings_in queries.now → grid_of start end step ≡ Ok grid → AskRuns (IsAskStep told self.old (record { number = number; line = ask id.now tenant.now start end step query.now })) told self.old (record { number = number; line = ask id.now tenant.now start end step query.now }) r self.new) }
+        requires lawful { IsWhen when }
+        ensures runs { IfOk result (λ r. (known : Known) (line : script.Line) → AsksAs id.now tenant.now line → known.readings ≡ readings_in queries.now → wanted_by known line ≡ asked_with (is_instant when) (Ok (grid_in when)) (known.readings query.now) → AskRuns known self.old (record { number = number; line = line }) r self.new) }
     {
-        let Some(read) = query_of(queries, query.as_str()) else {
-            return Ok(Ran::On);
+        let Some(read) = read_of(queries, query.as_str()) else {
+            return Ok(LineRun::On);
         };
         match &read.query {
             QueryRead::Lawful(query) => {
-                let query = Arc::try_clone(query)?;
-                let asked = Arc::new(self.alloc, Asked { query, grid })?;
+                let asked = Arc::new(self.alloc, query.asked(self.alloc, when)?)?;
                 self.ask_over(number, id, tenant, asked)
             }
             QueryRead::Refused(error) => {
-                self.refuse_ask(number, id.as_str(), Slot::BadQuery(*error))?;
-                Ok(Ran::On)
+                self.refuse_ask(number, id.as_str(), 400, Slot::BadQuery(*error))?;
+                Ok(LineRun::On)
             }
         }
     }
 
     /// Runs an `ask`.
+    #[tactic(auto, using(crate::proofs::FileReads::has_step))]
     pub fn ask(
         &mut self,
         queries: &Queries,
@@ -549,93 +388,178 @@ impl Client {
         end: u64,
         step: u64,
         query: &Text,
-    ) -> Result<Ran, OutOfMemory>
-        requires stands { Stands self.old.session }
+    ) -> Result<LineRun, OutOfMemory>
         requires right { AreReadAs queries.now }
         requires kept { IsTextKept queries.now query.now }
-        ensures runs { IfOk result (λ r. (told : Known) → told.readings ≡ readings_in queries.now → AskRuns (IsAskStep told self.old (record { number = number; line = ask id.now tenant.now start end step query.now })) told self.old (record { number = number; line = ask id.now tenant.now start end step query.now }) r self.new) }
+        ensures runs { IfOk result (λ r. (known : Known) → known.readings ≡ readings_in queries.now → AskRuns known self.old (record { number = number; line = script.ask id.now tenant.now start end step query.now }) r self.new) }
     {
         match Grid::aligned(start, end, step) {
-            Ok(grid) => self.ask_read(queries, number, id, tenant, query, grid),
+            Ok(grid) => self.ask_read(queries, number, id, tenant, query, When::Range(grid)),
             Err(error) => {
-                self.refuse_ask(number, id.as_str(), Slot::BadGrid(error))?;
-                Ok(Ran::On)
+                self.refuse_ask(number, id.as_str(), 400, Slot::BadGrid(error))?;
+                Ok(LineRun::On)
             }
         }
     }
 
-    /// Evaluates an open query and answers it.
-    fn answer_query(&mut self, number: u32, id: &Text, query: &Query) -> Result<(), OutOfMemory>
-        requires stands { Stands self.old.session }
-        requires kept { IsQuery self.old.session.limits.window (machine_of self.old.session) query.now }
-        ensures step { OnOk result ((told : Known) (line : ℕ) (asking : Option script.Line) (moment : Option Moment) → SlotRight told.readings self.old.session.limits.window (machine_of self.old.session) asking moment (Some (Open query.now)) → IsStep told self.old (record { number = number; line = answer id.now line }) asking moment self.new) }
-        ensures slots { OnOk result (self.new.slots ≡ self.old.slots) }
-        ensures still { OnOk result (StayOpenBut query.now.place (machine_of self.old.session).queries (machine_of self.new.session).queries) }
-        ensures counted { OnOk result ((machine_of self.old.session).count ≤ (machine_of self.new.session).count) }
+    /// Runs an `instant`.
+    pub fn instant(
+        &mut self,
+        queries: &Queries,
+        number: u32,
+        id: &Text,
+        tenant: &Tenant,
+        time: u64,
+        query: &Text,
+    ) -> Result<LineRun, OutOfMemory>
+        requires right { AreReadAs queries.now }
+        requires kept { IsTextKept queries.now query.now }
+        ensures runs { IfOk result (λ r. (known : Known) → known.readings ≡ readings_in queries.now → AskRuns known self.old (record { number = number; line = script.instant id.now tenant.now time query.now }) r self.new) }
     {
-        let answer = evaluate(self.alloc, &query.asked, &query.pin.snap)?;
-        let evaluated = query.asked.grid.len();
-        self.session
-            .answer(by(number), query, answer.code(), 0, evaluated)?;
-        push_query_answer(
+        match Grid::single(time) {
+            Ok(grid) => self.ask_read(queries, number, id, tenant, query, When::Instant(grid)),
+            Err(error) => {
+                self.refuse_ask(number, id.as_str(), 400, Slot::BadGrid(error))?;
+                Ok(LineRun::On)
+            }
+        }
+    }
+
+    /// Replies to the cancel of a query that another tenant asked.
+    fn tell_owner(&mut self, number: u32, id: &Text, owner: u32) -> Result<(), OutOfMemory>
+        ensures said { OnOk result ((name : List ℕ) → slice_get self.old.core.names owner ≡ Some name → self.new.out.items ≡ self.old.out.items ++ reply_line number (codes "cancel") id.now (codes "other" ∷ codes "tenant" ∷ name ∷ [])) }
+        ensures core { self.new.core ≡ self.old.core }
+        ensures slots { self.new.slots ≡ self.old.slots }
+    {
+        let Some(name) = self.core.tenant_name(owner) else {
+            return Ok(());
+        };
+        let name = name.as_str();
+        let reply = CancelReply::OtherTenant { owner: name };
+        push_cancel_reply(&mut self.out, number, id.as_str(), &reply)
+    }
+
+    /// Cancels the query that was asked at a place.
+    fn cancel_query(
+        &mut self,
+        number: u32,
+        id: &Text,
+        query: u64,
+        tenant: &Tenant,
+    ) -> Result<(), OutOfMemory>
+        ensures grows { OnOk result (Grows self.old.core self.new.core) }
+        ensures step { OnOk result ((known : Known) (above : List Ran) (hands : List Hand) (line : ℕ) → IsKnown known self.new.core → Each (λ e. e.client ≡ 0) self.old.core.journal → IsAskAt known above (own_of self.old.core) line query → IsStep known (naming (own_of self.old.core) above hands (script.cancel id.now line tenant.now)) self.old (record { number = number; line = script.cancel id.now line tenant.now }) On self.new) }
+        ensures slots { OnOk result (self.new.slots ≡ self.old.slots) }
+    {
+        let name = id.as_str();
+        match self.core.cancel(by(number), query, tenant) {
+            CancelAnswer::Done => {
+                push_cancel_reply(&mut self.out, number, name, &CancelReply::Done)?;
+                Ok(())
+            }
+            CancelAnswer::OtherTenant { owner } => {
+                self.tell_owner(number, id, owner)?;
+                Ok(())
+            }
+            CancelAnswer::Already { place } => {
+                push_cancel_reply(&mut self.out, number, name, &CancelReply::Already { place })?;
+                Ok(())
+            }
+            CancelAnswer::NotOutstanding => Ok(()),
+        }
+    }
+
+    /// Runs the `cancel` of the ask of a line.
+    pub fn cancel(
+        &mut self,
+        number: u32,
+        id: &Text,
+        asked: u32,
+        tenant: &Tenant,
+    ) -> Result<(), OutOfMemory>
+        ensures grows { OnOk result (Grows self.old.core self.new.core) }
+        ensures step { OnOk result ((known : Known) (above : List Ran) (hands : List Hand) → IsKnown known self.new.core → Each (λ e. e.client ≡ 0) self.old.core.journal → SlotRight known above (own_of self.old.core) asked (get nat_cmp self.old.slots asked) → IsStep known (naming (own_of self.old.core) above hands (script.cancel id.now asked tenant.now)) self.old (record { number = number; line = script.cancel id.now asked tenant.now }) On self.new) }
+        ensures slots { OnOk result (self.new.slots ≡ self.old.slots) }
+    {
+        match query_of(&self.slots, asked) {
+            Some(query) => {
+                self.cancel_query(number, id, query, tenant)?;
+                Ok(())
+            }
+            None => {
+                let reply = CancelReply::NotOutstanding;
+                push_cancel_reply(&mut self.out, number, id.as_str(), &reply)?;
+                Ok(())
+            }
+        }
+    }
+
+    /// Answers an open query.
+    fn answer_query(&mut self, number: u32, id: &Text, query: u64) -> Result<(), OutOfMemory>
+        ensures grows { OnOk result (Grows self.old.core self.new.core) }
+        ensures step { OnOk result ((known : Known) (above : List Ran) (hands : List Hand) (line : ℕ) → IsKnown known self.new.core → Each (λ e. e.client ≡ 0) self.old.core.journal → IsAskAt known above (own_of self.old.core) line query → IsAnswerStep known (naming (own_of self.old.core) above hands (script.answer id.now line)) self.old (record { number = number; line = script.answer id.now line }) (Some (slot.Asked query)) self.new) }
+        ensures slots { OnOk result (self.new.slots ≡ self.old.slots) }
+    {
+        let Some(opened) = self.core.look(query) else {
+            return Ok(());
+        };
+        let asked: &Asked = opened.asked;
+        let evaluated = asked.grid.len();
+        let body = body_of(self.alloc, opened)?;
+        let code = body.code();
+        self.core.answer(by(number), query, code, 0, evaluated);
+        push_answered(
             self.alloc,
             &mut self.out,
             number,
             id.as_str(),
+            code,
             0,
             evaluated,
-            &answer,
+            &body,
         )?;
         Ok(())
     }
 
     /// Replies to the answer of an ask that was refused.
-    fn answer_refused(&mut self, number: u32, id: &Text, slot: &Slot) -> Result<(), OutOfMemory>
-        ensures told { OnOk result (self.new.out.items ≡ self.old.out.items ++ refused_answer number id.now slot.now) }
-        ensures session { self.new.session ≡ self.old.session }
+    fn answer_refused(&mut self, number: u32, id: &Text, body: &Body) -> Result<(), OutOfMemory>
+        ensures said { OnOk result (self.new.out.items ≡ self.old.out.items ++ unanswered number id.now (decimal (code_in body.now)) (text_of body.now)) }
+        ensures core { self.new.core ≡ self.old.core }
         ensures slots { self.new.slots ≡ self.old.slots }
     {
-        push_refused_answer(self.alloc, &mut self.out, number, id.as_str(), slot)?;
-        Ok(())
+        push_answered(
+            self.alloc,
+            &mut self.out,
+            number,
+            id.as_str(),
+            body.code(),
+            0,
+            0,
+            body,
+        )
     }
 
     /// Runs the `answer` of the ask of a line.
     pub fn answer(&mut self, number: u32, id: &Text, asked: u32) -> Result<(), OutOfMemory>
-        requires stands { Stands self.old.session }
-        requires kept { (q : Query) → get nat_cmp self.old.slots asked ≡ Some (Open q) → IsQuery self.old.session.limits.window (machine_of self.old.session) q }
-        ensures step { OnOk result ((told : Known) (asking : Option script.Line) (moment : Option Moment) → SlotRight told.readings self.old.session.limits.window (machine_of self.old.session) asking moment (get nat_cmp self.old.slots asked) → IsStep told self.old (record { number = number; line = answer id.now asked }) asking moment self.new) }
+        ensures grows { OnOk result (Grows self.old.core self.new.core) }
+        ensures step { OnOk result ((known : Known) (above : List Ran) (hands : List Hand) → IsKnown known self.new.core → Each (λ e. e.client ≡ 0) self.old.core.journal → SlotRight known above (own_of self.old.core) asked (get nat_cmp self.old.slots asked) → (get nat_cmp self.old.slots asked ≡ None → ⊥) → IsAnswerStep known (naming (own_of self.old.core) above hands (script.answer id.now asked)) self.old (record { number = number; line = script.answer id.now asked }) (get nat_cmp self.old.slots asked) self.new) }
         ensures left { OnOk result ((k : ℕ) → get nat_cmp self.new.slots k ≡ cond (nat_eq asked k) None (get nat_cmp self.old.slots k)) }
-        ensures still { OnOk result (LeavesOpen (get nat_cmp self.old.slots asked) (machine_of self.old.session).queries (machine_of self.new.session).queries) }
-        ensures counted { OnOk result ((machine_of self.old.session).count ≤ (machine_of self.new.session).count) }
     {
-        match take(&mut self.slots, asked) {
-            None => Ok(()),
-            Some(Slot::Open(query)) => {
-                self.answer_query(number, id, &query)?;
-                Ok(())
-            }
-            Some(Slot::BadGrid(error)) => {
-                self.answer_refused(number, id, &Slot::BadGrid(error))?;
-                Ok(())
-            }
-            Some(Slot::BadQuery(error)) => {
-                self.answer_refused(number, id, &Slot::BadQuery(error))?;
-                Ok(())
-            }
-            Some(Slot::Full) => {
-                self.answer_refused(number, id, &Slot::Full)?;
-                Ok(())
-            }
-            Some(Slot::TooManyTenants) => {
-                self.answer_refused(number, id, &Slot::TooManyTenants)?;
-                Ok(())
-            }
+        let Some(slot) = take(&mut self.slots, asked) else {
+            return Ok(());
+        };
+        if let Slot::Asked { query } = slot {
+            self.answer_query(number, id, query)?;
+            return Ok(());
         }
+        let body = refused_body(self.alloc, slot)?;
+        self.answer_refused(number, id, &body)?;
+        Ok(())
     }
 
     /// Runs a line.
-    pub fn run_line(&mut self, loaded: &Loaded, line: &NumberedLine) -> Result<Ran, OutOfMemory>
-        requires { IsReady loaded.now self.old line.now }
+    pub fn run_line(&mut self, loaded: &Loaded, line: &NumberedLine) -> Result<LineRun, OutOfMemory>
+        requires { IsReady loaded.now line.now }
         ensures { IfOk result (λ r. GoesOn loaded.now self.old (numbered_of line.now) r self.new) }
     {
         let number = line.number;
@@ -660,9 +584,22 @@ impl Client {
                 let queries = &loaded.queries;
                 self.ask(queries, number, id, tenant, *start, *end, *step, query)
             }
+            Line::Instant {
+                id,
+                tenant,
+                time,
+                query,
+            } => self.instant(&loaded.queries, number, id, tenant, *time, query),
+            Line::Cancel { id, asked, tenant } => {
+                self.cancel(number, id, *asked, tenant)?;
+                Ok(LineRun::On)
+            }
             Line::Answer { id, asked } => {
                 self.answer(number, id, *asked)?;
-                Ok(Ran::On)
+                Ok(LineRun::On)
+            }
+            Line::Plan { .. } | Line::Keep { .. } | Line::Take { .. } | Line::Done { .. } => {
+                unreachable!()
             }
         }
     }

@@ -1,22 +1,22 @@
 //! The run of a script.
 
-ghost use Rattle.std.specs.Prelude.{◌≡◌, ◌≤◌, ◌++◌, [], IfOk, List, is_some, slice_get};
-ghost use Rattle.pf_script.specs.Report.{journal_text, stop_reply};
-ghost use Rattle.pf_top.specs.Files.{AreHeld};
-ghost use Rattle.pf_top.specs.Sessions.{journal_of};
-ghost use Rattle.pf_script.specs.Scripts.{Numbered};
-ghost use Rattle.pf_script.specs.Weave.{Files, Known};
+ghost use Rattle.std.specs.Prelude.{◌≡◌, ◌≤◌, ◌++◌, ℕ, IfOk, List};
+ghost use Rattle.pf_base.specs.declared.plain.Limits.{Limits as LimitsData};
+ghost use Rattle.pf_core.specs.Cores.{Stands};
+ghost use Rattle.pf_journal.specs.Report.{journal_text};
+ghost use Rattle.pf_journal.specs.Scripts.{Numbered};
 ghost use Rattle.pf_script.specs.Lines.{lines_of};
-ghost use Rattle.pf_top.specs.Drives.{CanRun, IsGoing, IsReport, RanTo};
-ghost use Rattle.pf_top.specs.Going.{Going};
+ghost use Rattle.pf_top.specs.Drives.{CanRun, IsReport, why_of};
+ghost use Rattle.pf_top.specs.Files.{AreHeld};
+ghost use Rattle.pf_top.specs.Going.{HasStopped, IsGoing};
+ghost use Rattle.pf_top.specs.declared.loaded.Loaded.{Loaded as LoadedData};
 
-use crate::client::{Client, Ran};
+use crate::client::{Client, LineRun};
 use crate::journal::push_journal;
 use crate::loaded::Loaded;
-use crate::session::Session;
-use crate::stop::push_stop;
 use pf_base::{Limits, OutOfMemory};
-use pf_report::{Word, push_line};
+use pf_core::Core;
+use pf_report::push_client;
 use pf_script::Script;
 use std::alloc::Global;
 use std::collections::BTreeMap;
@@ -25,32 +25,31 @@ use std::collections::BTreeMap;
 fn client_of(alloc: Global, limits: Limits) -> Result<Client, OutOfMemory>
     requires journal { limits.journal ≤ 4000000 }
     requires some { 1 ≤ limits.outstanding }
-    ensures { IfOk result (λ c. (known : Known) (lines : List Numbered) → Going known limits lines [] c) }
+    ensures { IfOk result (λ c. (loaded : LoadedData) (lines : List Numbered) → IsGoing loaded limits lines 0 c) }
 {
     let mut out = Vec::new(alloc);
-    push_line(&mut out, &[Word::Text("client"), Word::Number(0)])?;
+    push_client(&mut out, 0)?;
+    let core = Core::open(alloc, limits)?;
     Ok(Client {
         alloc,
-        session: Session::new(alloc, limits),
+        core,
         slots: BTreeMap::new(alloc),
         out,
     })
 }
 
-/// Runs the lines of a script, up to the one that meets the full journal: how many were run.
-fn run_lines(client: &mut Client, script: &Script, loaded: &Loaded) -> Result<usize, OutOfMemory>
+/// Runs the lines of a script, up to the one that meets the full journal: whether one did.
+fn run_lines(client: &mut Client, script: &Script, loaded: &Loaded) -> Result<bool, OutOfMemory>
     requires can_run { CanRun script.now loaded.now }
-    requires begins { IsGoing client.old.session.limits loaded.now (lines_of script.now) [] client.old }
-    ensures { IfOk result (λ n. RanTo client.old.session.limits loaded.now (lines_of script.now) n client.new) }
+    ensures { IfOk result (λ full. (limits : LimitsData) → IsGoing loaded.now limits (lines_of script.now) 0 client.old → HasStopped loaded.now limits (lines_of script.now) (why_of full) client.new) }
 {
-    let mut ran = 0;
     for line in &script.lines {
         match client.run_line(loaded, line)? {
-            Ran::On => ran += 1,
-            Ran::Full => return Ok(ran),
+            LineRun::On => {}
+            LineRun::Full => return Ok(true),
         }
     }
-    Ok(ran)
+    Ok(false)
 }
 
 /// What a run prints, and whether the client met the full journal.
@@ -60,34 +59,15 @@ pub struct Report {
     pub full: bool,
 }
 
-/// Appends the reply to the line that met the full journal, if a client that ran so many lines did not run to the end.
-#[tactic(auto, using(crate::proofs::Reports::end_of, crate::proofs::Reports::no_end))]
-fn push_end(out: &mut Vec<u8>, script: &Script, ran: usize) -> Result<bool, OutOfMemory>
-    ensures full { IfOk result (λ full. full ≡ is_some (slice_get (lines_of script.now) ran)) }
-    ensures text { IfOk result (λ full. out.new.items ≡ out.old.items ++ stop_reply full (slice_get (lines_of script.now) ran)) }
+/// The report of a client that stopped.
+fn report_of(client: Client) -> Result<Vec<u8>, OutOfMemory>
+    ensures text { IfOk result (λ t. t.items ≡ client.out.items ++ journal_text client.core.names client.core.journal) }
+    ensures stands { IfOk result (λ _. Stands client.core) }
 {
-    match script.lines.get(ran) {
-        Some(line) => {
-            push_stop(out, line)?;
-            Ok(true)
-        }
-        None => Ok(false),
-    }
-}
-
-/// The report, once a client ran so many lines of its script.
-fn report_of(client: Client, script: &Script, ran: usize) -> Result<Report, OutOfMemory>
-    ensures text { IfOk result (λ r. r.text.items ≡ client.out.items ++ (stop_reply r.full (slice_get (lines_of script.now) ran) ++ journal_text client.session.names.items (journal_of client.session))) }
-    ensures full { IfOk result (λ r. r.full ≡ is_some (slice_get (lines_of script.now) ran)) }
-{
-    let Client {
-        session,
-        mut out,
-        ..
-    } = client;
-    let full = push_end(&mut out, script, ran)?;
-    push_journal(&mut out, &session)?;
-    Ok(Report { text: out, full })
+    let Client { core, mut out, .. } = client;
+    push_journal(&mut out, &core)?;
+    let _entries = core.journal();
+    Ok(out)
 }
 
 /// Runs a script over what the files that it names hold: the report.
@@ -100,9 +80,10 @@ pub fn run_script(
     requires journal { limits.journal ≤ 4000000 }
     requires some { 1 ≤ limits.outstanding }
     requires can_run { CanRun script.now loaded.now }
-    ensures { IfOk result (λ r. (told : Files) → AreHeld told loaded.now.files → IsReport limits told (lines_of script.now) r.full r.text.items) }
+    ensures { IfOk result (λ r. (held : List ℕ → List ℕ) → AreHeld held loaded.now.files → IsReport limits held (lines_of script.now) r.full r.text.items) }
 {
     let mut client = client_of(alloc, limits)?;
-    let ran = run_lines(&mut client, script, loaded)?;
-    Ok(report_of(client, script, ran)?)
+    let full = run_lines(&mut client, script, loaded)?;
+    let text = report_of(client)?;
+    Ok(Report { text, full })
 }

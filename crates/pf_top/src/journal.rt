@@ -1,17 +1,13 @@
 //! The journal's part of the report.
 
-ghost use Rattle.std.specs.Prelude.{◌≡◌, ◌++◌, ◌∷◌, [], OnOk, codes, decimal, map};
-ghost use Rattle.pf_script.specs.Machine.{full};
-ghost use Rattle.pf_script.specs.Report.{entries_from, entry_text, floor_text, journal_text, line_text, name_of};
-ghost use Rattle.pf_report.specs.Words.{word_text};
-ghost use Rattle.pf_top.specs.Entries.{entry_of};
-ghost use Rattle.pf_top.specs.Sessions.{journal_of};
+ghost use Rattle.std.specs.Prelude.{◌≡◌, ◌++◌, OnOk, map};
+ghost use Rattle.pf_journal.specs.Report.{entries_from, entry_text, journal_text, name_of, what_words};
+ghost use Rattle.pf_core.specs.Entries.{entry_of, what_of};
+ghost use Rattle.pf_report.specs.Entries.{entry_words};
 
-use crate::entry::{Entry, What};
-use crate::session::Session;
-use pf_base::{By, OutOfMemory, Tenant};
-use pf_report::{Word, push_entry, push_line};
-use pf_store::Deleted;
+use pf_base::{OutOfMemory, Tenant};
+use pf_core::{Core, Entry, What};
+use pf_report::{EntryWords, push_entry, push_journal_head};
 
 /// The name of a tenant's number.
 fn name_of(names: &[Tenant], tenant: u32) -> &str
@@ -23,57 +19,56 @@ fn name_of(names: &[Tenant], tenant: u32) -> &str
     }
 }
 
-fn floor_word(floor: Option<u64>) -> Word<'static>
-    ensures { word_text result ≡ floor_text floor }
+/// What the line of an entry says.
+fn words_of<'a>(names: &'a [Tenant], what: &'a What) -> EntryWords<'a>
+    ensures { entry_words result ≡ what_words names.now (what_of what.now) }
 {
-    match floor {
-        Some(floor) => Word::Number(floor),
-        None => Word::Text("none"),
+    match what {
+        What::Append {
+            tenant,
+            verdicts,
+            ..
+        } => EntryWords::Append {
+            tenant: name_of(names, *tenant),
+            entry: verdicts.entry,
+        },
+        What::Delete {
+            tenant,
+            deleted,
+            ..
+        } => EntryWords::Delete {
+            tenant: name_of(names, *tenant),
+            generation: deleted.generation,
+            entry: deleted.entry,
+        },
+        What::Ask {
+            tenant,
+            pin,
+            generation,
+            floor,
+            ..
+        } => EntryWords::Ask {
+            tenant: name_of(names, *tenant),
+            pin: *pin,
+            generation: *generation,
+            floor: *floor,
+        },
+        What::Full {
+            tenant,
+            outstanding,
+        } => EntryWords::Full {
+            tenant: name_of(names, *tenant),
+            outstanding: *outstanding,
+        },
+        What::NoTenant { name } => EntryWords::NoTenant {
+            name: name.as_str(),
+        },
+        What::Cancel { query } => EntryWords::Cancel { query: *query },
+        What::Answer { query, code, .. } => EntryWords::Answer {
+            query: *query,
+            code: *code,
+        },
     }
-}
-
-/// Appends the line of a deletion.
-fn push_deleted(
-    out: &mut Vec<u8>,
-    names: &[Tenant],
-    place: u64,
-    by: By,
-    tenant: u32,
-    deleted: Deleted,
-) -> Result<(), OutOfMemory>
-    ensures { OnOk result (out.new.items ≡ out.old.items ++ line_text (decimal place ∷ codes "client" ∷ decimal by.client ∷ codes "line" ∷ decimal by.line ∷ codes "delete" ∷ name_of names.now tenant ∷ codes "entry" ∷ decimal deleted.entry ∷ codes "generation" ∷ decimal deleted.generation ∷ [])) }
-{
-    let words = [
-        Word::Text("delete"),
-        Word::Text(name_of(names, tenant)),
-        Word::Text("entry"),
-        Word::Number(deleted.entry),
-        Word::Text("generation"),
-        Word::Number(deleted.generation),
-    ];
-    push_entry(out, place, by.client, by.line, &words)?;
-    Ok(())
-}
-
-/// Appends the line of an ask that found its tenant with as many open queries as it may have.
-fn push_full(
-    out: &mut Vec<u8>,
-    names: &[Tenant],
-    place: u64,
-    by: By,
-    tenant: u32,
-    outstanding: u32,
-) -> Result<(), OutOfMemory>
-    ensures { OnOk result (out.new.items ≡ out.old.items ++ entry_text names.now place (record { client = by.client; line = by.line; what = full tenant outstanding })) }
-{
-    let words = [
-        Word::Text("full"),
-        Word::Text(name_of(names, tenant)),
-        Word::Text("outstanding"),
-        Word::Number(outstanding as u64),
-    ];
-    push_entry(out, place, by.client, by.line, &words)?;
-    Ok(())
 }
 
 /// Appends the line of an entry.
@@ -85,82 +80,8 @@ fn push_one(
 ) -> Result<(), OutOfMemory>
     ensures { OnOk result (out.new.items ≡ out.old.items ++ entry_text names.now place (entry_of entry.now)) }
 {
-    let client = entry.by.client;
-    let line = entry.by.line;
-    match &entry.what {
-        What::Append {
-            tenant,
-            verdicts,
-            ..
-        } => push_entry(
-            out,
-            place,
-            client,
-            line,
-            &[
-                Word::Text("append"),
-                Word::Text(name_of(names, *tenant)),
-                Word::Text("entry"),
-                Word::Number(verdicts.entry),
-            ],
-        ),
-        What::Delete {
-            tenant,
-            deleted,
-            ..
-        } => {
-            push_deleted(out, names, place, entry.by, *tenant, *deleted)?;
-            Ok(())
-        }
-        What::Ask {
-            tenant,
-            pin,
-            generation,
-            floor,
-            ..
-        } => push_entry(
-            out,
-            place,
-            client,
-            line,
-            &[
-                Word::Text("ask"),
-                Word::Text(name_of(names, *tenant)),
-                Word::Text("pin"),
-                Word::Number(*pin),
-                Word::Text("generation"),
-                Word::Number(*generation),
-                Word::Text("floor"),
-                floor_word(*floor),
-            ],
-        ),
-        What::Full {
-            tenant,
-            outstanding,
-        } => push_full(out, names, place, entry.by, *tenant, *outstanding),
-        What::NoTenant { name } => push_entry(
-            out,
-            place,
-            client,
-            line,
-            &[
-                Word::Text("tenants"),
-                Word::Text("full"),
-                Word::Text(name.as_str()),
-            ],
-        ),
-        What::Answer { query, code, .. } => push_entry(
-            out,
-            place,
-            client,
-            line,
-            &[
-                Word::Text("answer"),
-                Word::Number(*query),
-                Word::Number(*code as u64),
-            ],
-        ),
-    }
+    let words = words_of(names, &entry.what);
+    push_entry(out, place, entry.by, &words)
 }
 
 /// Appends the lines of entries, the first of which stands at place 0.
@@ -176,13 +97,11 @@ fn push_entries(out: &mut Vec<u8>, names: &[Tenant], entries: &[Entry]) -> Resul
 }
 
 /// Appends the journal's part of the report.
-pub fn push_journal(out: &mut Vec<u8>, session: &Session) -> Result<(), OutOfMemory>
-    ensures { OnOk result (out.new.items ≡ out.old.items ++ journal_text session.now.names.items (journal_of session.now)) }
+pub fn push_journal(out: &mut Vec<u8>, core: &Core) -> Result<(), OutOfMemory>
+    ensures { OnOk result (out.new.items ≡ out.old.items ++ journal_text core.now.names core.now.journal) }
 {
-    let words = [
-        Word::Text("journal"),
-        Word::Number(session.journal.len() as u64),
-    ];
-    push_line(out, &words)?;
-    push_entries(out, &session.names, &session.journal)
+    let entries = core.journal();
+    push_journal_head(out, entries.len() as u64)?;
+    push_entries(out, core.names(), entries)?;
+    Ok(())
 }

@@ -9,16 +9,12 @@
 mod client;
 mod drive;
 mod driver;
-mod entry;
 mod evaluate;
 mod evaluation;
 mod journal;
 mod loaded;
 mod queries;
-mod session;
 mod slots;
-mod stop;
-mod tenants;
 mod words;
 
 pub use driver::{DEFAULT_LIMITS, run, run_within};

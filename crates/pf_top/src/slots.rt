@@ -1,19 +1,20 @@
 //! What became of asks, by line.
 
-ghost use Rattle.std.specs.Prelude.{◌≡◌, ℕ, None, OnOk, Some, cond, nat_eq};
+ghost use Rattle.std.specs.Prelude.{◌≡◌, ℕ, MatchOption, None, OnOk, Some, cond, nat_eq};
 ghost use Rattle.std.specs.BTreeMap.{get};
-ghost use Rattle.pf_top.specs.Asks.{slot_code};
 ghost use Rattle.std.specs.Ordering.{nat_cmp};
+ghost use Rattle.pf_top.specs.Asks.{IsNoQuery};
+ghost use Rattle.pf_top.specs.declared.slots.Slot.TheVariants.{Asked};
 
-use crate::session::Query;
 use pf_base::{GridError, OutOfMemory};
 use pf_types::QueryError;
 use std::collections::BTreeMap;
 
 /// What became of an ask.
-#[derive(Drop)]
+#[derive(Clone, Copy)]
 pub enum Slot {
-    Open(Query),
+    /// A query was opened: the place of its ask in the journal.
+    Asked { query: u64 },
     /// The grid was refused.
     BadGrid(GridError),
     /// The query was refused.
@@ -41,14 +42,12 @@ pub fn take(slots: &mut Slots, line: u32) -> Option<Slot>
     slots.remove(&line)
 }
 
-/// The code of a refused ask.
-pub fn code_of(slot: &Slot) -> &'static str
-    ensures { result.now ≡ slot_code slot.now }
+/// The query that the ask of a line opened, unless it was answered.
+pub fn query_of(slots: &Slots, line: u32) -> Option<u64>
+    ensures { MatchOption result (IsNoQuery (get nat_cmp slots.now line)) (λ q. get nat_cmp slots.now line ≡ Some (Asked q)) }
 {
-    match slot {
-        Slot::Open(_) => "",
-        Slot::BadGrid(_) | Slot::BadQuery(_) => "400",
-        Slot::Full => "429",
-        Slot::TooManyTenants => "503",
+    match slots.get(&line) {
+        Some(Slot::Asked { query }) => Some(*query),
+        _ => None,
     }
 }

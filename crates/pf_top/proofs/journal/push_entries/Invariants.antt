@@ -1,6 +1,6 @@
 use Rattle.std.proofs.Common.{◌≡◌, ◌++◌, drop, map}
-use Rattle.pf_script.specs.Report.{entries_from}
-use Rattle.pf_top.specs.Entries.{entry_of}
+use Rattle.pf_core.specs.Entries.{entry_of}
+use Rattle.pf_journal.specs.Report.{entries_from}
 use Rattle.pf_top.proofs.journal.push_entries.Given as goal
 
 abbrev pub invariant-loop-entry : goal.invariant-loop-entry

@@ -1,17 +1,17 @@
-use Rattle.std.proofs.Common.{rules, ◌≡◌, Err, ap, Result}
-use Rattle.pf_base.specs.GridLists.{GridData}
-use Rattle.pf_base.specs.declared.grid.GridError.{GridError}
-use Rattle.pf_base.specs.Grids.{grid_of}
-use Rattle.pf_model.specs.Queries.{asked_with}
-use Rattle.pf_top.proofs.Steps.{step_bad_grid}
+use Rattle.std.proofs.Common.{rules, refl, false}
+use Rattle.pf_top.proofs.Asking.{step_refused}
+use Rattle.pf_top.proofs.FileReads.{bad_grid, refused_slot}
+use Rattle.pf_model.specs.ErrorTexts.{grid_text}
+use Rattle.pf_journal.specs.Scripts as script
+use Rattle.pf_top.specs.declared.slots.Slot.TheVariants as slot
 use Rattle.pf_top.proofs.client.Client.ask.Goals as goal
 
 pub returns-in_ok-refuse_ask-in-Err : goal.returns-in_ok-refuse_ask-in-Err
 returns-in_ok-refuse_ask-in-Err c = record {
-  runs = λ told readings.
-      let refused : grid_of c.args.start c.args.end c.args.step ≡ Err c.in-Err.error = search rules in
-      step_bad_grid told c.args.self.now c.refuse_ask.new.self c.args.number c.args.id.now c.args.tenant.now c.args.start c.args.end c.args.step c.args.query.now c.in-Err.error
-      c.requires.stands (search rules)
-      (ap (λ (g : Result GridData GridError). asked_with g (told.readings c.args.query.now)) refused)
-      (search rules) (search rules);
+  runs = λ known readings n k.
+      let refused = bad_grid false (known.readings c.args.query.now) _ c.in-Err.error (search rules) in
+      step_refused known n c.args.self.now _ c.args.self.now.core (search rules) c.args.number c.args.id.now c.args.tenant.now
+      (script.ask c.args.id.now c.args.tenant.now c.args.start c.args.end c.args.step c.args.query.now) (refl, refl)
+      (grid_text c.in-Err.error) (slot.BadGrid c.in-Err.error) refl refused
+      (refused_slot known (script.ask c.args.id.now c.args.tenant.now c.args.start c.args.end c.args.step c.args.query.now) (grid_text c.in-Err.error) refused) (search rules) (search rules);
 }
