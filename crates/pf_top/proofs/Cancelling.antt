@@ -1,5 +1,5 @@
 -- Lines that cancel and answer.
-use Rattle.std.proofs.Common.{◌≡◌, ℕ, ◌⊎◌, inl, inr, Bool, true, false, Option, Some, None, List, [], ◌∷◌, ◌++◌, refl, sym, ap, ◌∙◌, subst, append_assoc, slice_get, codes, decimal, arith}
+use Rattle.std.proofs.Common.{◌≡◌, ℕ, inl, inr, Option, Some, None, List, [], ◌∷◌, ◌++◌, refl, sym, ap, ◌∙◌, subst, append_assoc, slice_get, codes, decimal, arith}
 use Rattle.std.proofs.lemmas.Slice.Eq.{bytes_eq-Decides}
 use Rattle.std.specs.Str.{bytes_eq}
 use Rattle.pf_base.specs.declared.plain.By.{By}
@@ -19,7 +19,7 @@ use Rattle.pf_model.specs.Lists.{Each}
 use Rattle.pf_top.proofs.Cases.{bool_cases}
 use Rattle.pf_top.proofs.SlotLaws.{IsOpenIn, each_front, full_shut, open_in, stranger_shut}
 use Rattle.pf_top.proofs.Steps.{name_known, step_entered, step_stayed}
-use Rattle.pf_top.specs.Asks.{IsAskAt, IsFullWhat, IsNoQuery, IsNoTenantWhat, SlotRight}
+use Rattle.pf_top.specs.Asks.{IsAskAt, IsNoQuery, SlotRight}
 use Rattle.pf_top.specs.Clients.{IsKnown, IsStep, naming}
 use Rattle.pf_top.specs.Going.{own_of}
 use Rattle.pf_top.specs.declared.client.Client.{Client}

@@ -1,5 +1,5 @@
 -- Lines that were run, by what they entered.
-use Rattle.std.proofs.Common.{◌≡◌, ℕ, zero, suc, ◌+◌, ◌≤◌, Some, None, Result, Ok, Err, IfOk, List, [], ◌∷◌, ◌++◌, refl, sym, ap, ◌∙◌, subst, append-nil, codes, decimal, slice_get}
+use Rattle.std.proofs.Common.{◌≡◌, ℕ, zero, suc, ◌+◌, ◌≤◌, Some, None, List, [], ◌∷◌, ◌++◌, refl, sym, ap, ◌∙◌, subst, append-nil, codes, decimal, slice_get}
 use Rattle.pf_base.specs.Batches.{BatchData}
 use Rattle.pf_base.specs.declared.plain.By.{By}
 use Rattle.pf_base.specs.declared.plain.Limits.{Limits}

@@ -33,7 +33,7 @@ use crate::evaluate::evaluate;
 use crate::loaded::{Content, Contents, Loaded, content_of};
 use crate::queries::{Queries, QueryRead, SelectorRead, query_of as read_of};
 use crate::slots::{Slot, Slots, keep, query_of, take};
-use pf_base::{Batch, By, Grid, GridError, MAXT, OutOfMemory, Tenant, Text};
+use pf_base::{Batch, By, Grid, MAXT, OutOfMemory, Tenant, Text};
 use pf_core::{AskError, CancelAnswer, Core, CoreError, Opened};
 use pf_expo::{ExpoError, read_exposition};
 use pf_model::Matchers;
@@ -43,7 +43,7 @@ use pf_report::{
     push_ask_reply, push_cancel_reply, push_delete_reply, push_ingest_reply,
 };
 use pf_script::{Line, NumberedLine};
-use pf_types::{QueryError, When, error_text, grid_text};
+use pf_types::{When, error_text, grid_text};
 use std::alloc::Global;
 use std::sync::Arc;
 
