@@ -166,8 +166,9 @@ fn look(out: &mut Output, core: &Core, query: u64) {
         Some(open) => {
             out.text("tenant ");
             out.show(open.tenant);
+            let pin = open.pin;
             out.text(" pin ");
-            out.show(open.pin.number);
+            out.show(pin.number);
             let cancelled = open.cancelled;
             out.show(format_args!(" cancelled {cancelled:?}"));
         }
