@@ -9,7 +9,7 @@ use Rattle.std.specs.Cmp.{first_so, second_so}
 use Rattle.std.specs.Prelude.{max, nat_eq, nat_le, nat_lt, unwrap_or}
 use Rattle.pf_base.specs.declared.plain.Row.{Row}
 use Rattle.pf_journal.specs.Frozen.{FrozenSteps, KeptCells}
-use Rattle.pf_journal.proofs.BelowFloor.{frozen_same, is_before}
+use Rattle.pf_model.proofs.TimesRead.{frozen_same, is_before}
 use Rattle.pf_model.specs.Evaluation.{eval}
 use Rattle.pf_model.specs.Log.{Change, Store, append, changed, compared, delete, empty_store, floor_below, floor_of, held_value, is_taken, newest_with, store_after, store_of, taken_rows, too_old, verdict_on, verdicts_on}
 use Rattle.pf_model.specs.Reach.{is_below, is_frozen, reach}

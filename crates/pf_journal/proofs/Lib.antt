@@ -1,4 +1,3 @@
-mod BelowFloor
 mod Examples
 pub mod FrozenSteps
 pub mod Going

@@ -17,7 +17,7 @@ pub mod SelectorLabels
 mod ShardSteps
 mod ShardedCells
 mod ShardedSelectors
-mod TimesRead
+pub mod TimesRead
 mod Worked
 mod WorkedLogs
 mod WorkedNames

@@ -1,6 +1,7 @@
 pub mod Kept
 pub mod Levels
 pub mod Multiples
+pub mod Readings
 pub mod Resolved
 pub mod Selectors
 pub mod Settling

@@ -1,4 +1,5 @@
 pub mod Bounds
 pub mod Forms
+pub mod Reading
 pub mod Settled
 pub mod TimesRead

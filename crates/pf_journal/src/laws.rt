@@ -1,0 +1,15 @@
+//! Laws of frozen steps.
+
+ghost use Rattle.pf_journal.specs.Frozen.{FrozenSteps, KeptCells};
+
+/// Does nothing. Its contract is a law: a step that is frozen at a log's floor keeps its value whatever is appended later.
+#[tactic(auto, using(crate::proofs::FrozenSteps::frozen_steps))]
+pub fn frozen_steps()
+    ensures { FrozenSteps }
+{}
+
+/// Does nothing. Its contract is a law: a cell that was kept frozen is, for whoever may use it, the value over the asker's samples.
+#[tactic(auto, using(crate::proofs::FrozenSteps::kept_cells))]
+pub fn kept_cells()
+    ensures { KeptCells }
+{}
