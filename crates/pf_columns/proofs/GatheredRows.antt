@@ -1,20 +1,16 @@
 -- What is gathered of the cells of columns is the rows of the columns that have a point.
-use Rattle.std.proofs.Common.{◌≡◌, ℕ, zero, suc, ◌+◌, ℤ, Bool, true, false, cond, ◌&&◌, ◌||◌, Option, Some, None, List, [], ◌∷◌, ◌++◌, map, length, refl, sym, ap, ◌∙◌, subst, append-nil}
-use Rattle.std.proofs.Math.Bool.{and-false, and-true}
-use Rattle.std.specs.Ordering.{is_eq}
+use Rattle.std.proofs.Common.{◌≡◌, ℕ, zero, suc, ◌+◌, ℤ, Bool, true, false, cond, ◌||◌, Option, Some, None, List, [], ◌∷◌, ◌++◌, map, length, refl, sym, ap, ◌∙◌, subst, append-nil}
 use Rattle.pf_base.specs.declared.plain.Sample.{Sample}
 use Rattle.pf_base.specs.LabelSets.{Pairs}
-use Rattle.std.specs.declared.cmp.Ordering.TheVariants.{Less}
-use Rattle.pf_base.specs.LabelOrder.{labels_cmp}
 use Rattle.pf_model.specs.declared.cell.Element.{Element}
 use Rattle.pf_model.specs.Cells.{element}
-use Rattle.pf_model.specs.Direct.{Step, MatrixRow, gather, occurring, points_of}
-use Rattle.pf_model.specs.Lists.{Each}
+use Rattle.pf_model.specs.Direct.{Step, MatrixRow, gather, points_of}
 use Rattle.pf_model.specs.Selection.{same_labels}
-use Rattle.pf_model.proofs.KeySets.{alike, below_all, same_is, same_self, same_turned, stands_in}
-use Rattle.pf_model.proofs.SelectorLabels.{AllAbove, Ascends}
+use Rattle.pf_model.proofs.KeySets.{below_all, same_is, same_turned, stands_in}
 use Rattle.pf_columns.specs.Columns.{AreRising, ColumnData, cell_at, cells_from, columns_labels, point_at, points_in, row_with, rows_in, timed, value_in}
-use Rattle.pf_columns.proofs.Occurring.{is_full, occurring_ascend, occurring_in, point_of, with_labels}
+use Rattle.pf_columns.specs.Runs.{full_rows, points_for, rows_labels}
+use Rattle.pf_columns.proofs.FullRows.{gather_by}
+use Rattle.pf_columns.proofs.Occurring.{point_of, with_labels}
 
 -- the values of a label set, none where it has no column
 abbrev values_for : Pairs → List ColumnData → List (Option ℤ)
@@ -75,88 +71,39 @@ module _ (cs : List ColumnData) (rises : AreRising (columns_labels cs)) where
   points_are l [] k = refl
   points_are l (t ∷ ts) k = λ i. now_is l t k cs rises i ++ points_are l ts (k + 1) i
 
--- ---- the label sets that have a point
-
-abbrev row_labels : List MatrixRow → List Pairs
-row_labels rows = map (λ r. r.labels) rows
-
-row_in : (l m : Pairs) (ps : List Sample) (rows : List MatrixRow) → stands_in l (row_labels (row_with m ps ++ rows)) ≡ ((same_labels l m && is_full ps) || stands_in l (row_labels rows))
-row_in l m [] rows = sym (ap (λ b. b || stands_in l (row_labels rows)) (and-false (same_labels l m)))
-row_in l m (q ∷ ps) rows = sym (ap (λ b. b || stands_in l (row_labels rows)) (and-true (same_labels l m)))
-
-above_row : (n l : Pairs) (ps : List Sample) (rows : List MatrixRow) → labels_cmp n l ≡ Less → AllAbove n (row_labels rows) → AllAbove n (row_labels (row_with l ps ++ rows))
-above_row n l [] rows p h = h
-above_row n l (q ∷ ps) rows p h = (p, h)
-
-above_rows : (n : Pairs) (ts : List ℕ) (k : ℕ) (cs : List ColumnData) → AllAbove n (columns_labels cs) → AllAbove n (row_labels (rows_in ts k cs))
-above_rows n ts k [] h = tt
-above_rows n ts k (c ∷ cs) h = above_row n c.labels (points_in ts k c.values) (rows_in ts k cs) h.0 (above_rows n ts k cs h.1)
-
-row_ascends : (l : Pairs) (ps : List Sample) (rows : List MatrixRow) → AllAbove l (row_labels rows) → Ascends (row_labels rows) → Ascends (row_labels (row_with l ps ++ rows))
-row_ascends l [] rows b h = h
-row_ascends l (q ∷ ps) rows b h = (b, h)
-
-rows_ascend : (ts : List ℕ) (k : ℕ) (cs : List ColumnData) → AreRising (columns_labels cs) → Ascends (row_labels (rows_in ts k cs))
-rows_ascend ts k [] h = tt
-rows_ascend ts k (c ∷ cs) h = row_ascends c.labels (points_in ts k c.values) (rows_in ts k cs) (above_rows c.labels ts k cs h.0) (rows_ascend ts k cs h.1)
+-- ---- the rows of columns
 
 no_points : (ts : List ℕ) (k : ℕ) → points_in ts k [] ≡ []
 no_points [] k = refl
 no_points (t ∷ ts) k = ap (λ o. point_at t o ++ points_in ts (k + 1) []) (none_in k) ∙ no_points ts (k + 1)
 
-or_none : (b : Bool) → (b || false) ≡ b
-or_none true = refl
-or_none false = refl
+abbrev rows_at : List ℕ → ℕ → List ColumnData → List MatrixRow
+rows_at ts k cs = map (λ c. record { labels = c.labels; points = points_in ts k c.values }) cs
 
-rows_by : (l : Pairs) (ts : List ℕ) (k : ℕ) (c : ColumnData) (cs : List ColumnData) (b : Bool) → same_labels c.labels l ≡ b → AreRising (columns_labels (c ∷ cs))
-    → stands_in l (row_labels (rows_in ts k cs)) ≡ is_full (points_in ts k (values_for l cs))
-    → ((same_labels l c.labels && is_full (points_in ts k c.values)) || stands_in l (row_labels (rows_in ts k cs))) ≡ is_full (points_in ts k (cond b c.values (values_for l cs)))
-rows_by l ts k c cs true s h e =
-    let none : stands_in l (row_labels (rows_in ts k cs)) ≡ false =
-    ap (λ m. stands_in m (row_labels (rows_in ts k cs))) (sym (same_is c.labels l s))
-    ∙ below_all c.labels (row_labels (rows_in ts k cs)) (above_rows c.labels ts k cs h.0) in
-    (λ i. ((same_turned l c.labels ∙ s) i && is_full (points_in ts k c.values)) || none i)
-    ∙ or_none (is_full (points_in ts k c.values))
-rows_by l ts k c cs false s h e = ap (λ b. (b && is_full (points_in ts k c.values)) || stands_in l (row_labels (rows_in ts k cs))) (same_turned l c.labels ∙ s) ∙ e
+chosen : (b : Bool) (ts : List ℕ) (k : ℕ) (vs ws : List (Option ℤ)) → cond b (points_in ts k vs) (points_in ts k ws) ≡ points_in ts k (cond b vs ws)
+chosen true ts k vs ws = refl
+chosen false ts k vs ws = refl
 
-rows_have : (l : Pairs) (ts : List ℕ) (k : ℕ) (cs : List ColumnData) → AreRising (columns_labels cs) → stands_in l (row_labels (rows_in ts k cs)) ≡ is_full (points_in ts k (values_for l cs))
-rows_have l ts k [] h = sym (ap is_full (no_points ts k))
-rows_have l ts k (c ∷ cs) h =
-    row_in l c.labels (points_in ts k c.values) (rows_in ts k cs)
-    ∙ rows_by l ts k c cs (same_labels c.labels l) refl h (rows_have l ts k cs h.1)
+points_at : (l : Pairs) (ts : List ℕ) (k : ℕ) (cs : List ColumnData) → points_for l (rows_at ts k cs) ≡ points_in ts k (values_for l cs)
+points_at l ts k [] = sym (no_points ts k)
+points_at l ts k (c ∷ cs) =
+    ap (cond (same_labels c.labels l) (points_in ts k c.values)) (points_at l ts k cs) ∙ chosen (same_labels c.labels l) ts k c.values (values_for l cs)
 
--- ---- each column's values are those of its label set
+labels_at : (ts : List ℕ) (k : ℕ) (cs : List ColumnData) → rows_labels (rows_at ts k cs) ≡ columns_labels cs
+labels_at ts k [] = refl
+labels_at ts k (c ∷ cs) = ap (λ ls. c.labels ∷ ls) (labels_at ts k cs)
 
-found_below : (c : ColumnData) (cs ds : List ColumnData) → AllAbove c.labels (columns_labels ds) → Each (λ d. values_for d.labels cs ≡ d.values) ds → Each (λ d. values_for d.labels (c ∷ cs) ≡ d.values) ds
-found_below c cs [] b h = tt
-found_below c cs (d ∷ ds) b h = (ap (λ o. cond (is_eq o) c.values (values_for d.labels cs)) b.0 ∙ h.0, found_below c cs ds b.1 h.1)
+full_at : (ts : List ℕ) (k : ℕ) (cs : List ColumnData) → full_rows (rows_at ts k cs) ≡ rows_in ts k cs
+full_at ts k [] = refl
+full_at ts k (c ∷ cs) = ap (λ rows. row_with c.labels (points_in ts k c.values) ++ rows) (full_at ts k cs)
 
-found : (cs : List ColumnData) → AreRising (columns_labels cs) → Each (λ c. values_for c.labels cs ≡ c.values) cs
-found [] h = tt
-found (c ∷ cs) h = (ap (λ x. cond x c.values (values_for c.labels cs)) (same_self c.labels), found_below c cs cs h.0 (found cs h.1))
+module _ (cs : List ColumnData) (r : AreRising (columns_labels cs)) where
+  pub rise_at : (ts : List ℕ) (k : ℕ) → AreRising (rows_labels (rows_at ts k cs))
+  rise_at ts k = subst AreRising (sym (labels_at ts k cs)) r
 
-row_made : (f : Pairs → List Sample) (l : Pairs) (ps : List Sample) (rows : List MatrixRow) → f l ≡ ps → rows ≡ map (λ m. record { labels = m; points = f m }) (row_labels rows)
-    → row_with l ps ++ rows ≡ map (λ m. record { labels = m; points = f m }) (row_labels (row_with l ps ++ rows))
-row_made f l [] rows e h = h
-row_made f l (q ∷ ps) rows e h = λ i. record { labels = l; points = sym e i } ∷ h i
+  pub steps_at : (l : Pairs) (ts : List ℕ) (k n : ℕ) → length ts ≡ n → points_for l (rows_at ts k cs) ≡ points_of l (timed ts (cells_from cs k n))
+  steps_at l ts k n e = points_at l ts k cs ∙ sym (points_are cs r l ts k) ∙ ap (λ m. points_of l (timed ts (cells_from cs k m))) e
 
-rows_made : (f : Pairs → List Sample) (ts : List ℕ) (k : ℕ) (cs : List ColumnData) → Each (λ c. f c.labels ≡ points_in ts k c.values) cs → rows_in ts k cs ≡ map (λ m. record { labels = m; points = f m }) (row_labels (rows_in ts k cs))
-rows_made f ts k [] h = refl
-rows_made f ts k (c ∷ cs) h = row_made f c.labels (points_in ts k c.values) (rows_in ts k cs) h.0 (rows_made f ts k cs h.1)
-
-each_points : (cs : List ColumnData) (r : AreRising (columns_labels cs)) (ts : List ℕ) (k : ℕ) (ds : List ColumnData) → Each (λ c. values_for c.labels cs ≡ c.values) ds
-    → Each (λ c. points_of c.labels (steps cs r ts k) ≡ points_in ts k c.values) ds
-each_points cs r ts k [] h = tt
-each_points cs r ts k (d ∷ ds) h = (points_are cs r d.labels ts k ∙ ap (points_in ts k) h.0, each_points cs r ts k ds h.1)
-
-gather_all : (cs : List ColumnData) → AreRising (columns_labels cs) → (ts : List ℕ) (k : ℕ) → gather (timed ts (cells_from cs k (length ts))) ≡ rows_in ts k cs
-gather_all cs r ts k =
-    let ss = timed ts (cells_from cs k (length ts)) in
-    let same : (l : Pairs) → stands_in l (occurring ss) ≡ stands_in l (row_labels (rows_in ts k cs)) =
-    λ l. occurring_in l ss ∙ ap is_full (points_are cs r l ts k) ∙ sym (rows_have l ts k cs r) in
-    ap (map (λ l. record { labels = l; points = points_of l ss })) (alike (occurring ss) (row_labels (rows_in ts k cs)) (occurring_ascend ss) (rows_ascend ts k cs r) same)
-    ∙ sym (rows_made (λ l. points_of l ss) ts k cs (each_points cs r ts k cs (found cs r)))
-
--- the same of so many cells as there are times
-pub gather_is : (cs : List ColumnData) → AreRising (columns_labels cs) → (ts : List ℕ) (k n : ℕ) → length ts ≡ n → gather (timed ts (cells_from cs k n)) ≡ rows_in ts k cs
-gather_is cs r ts k n e = subst (λ m. gather (timed ts (cells_from cs k m)) ≡ rows_in ts k cs) e (gather_all cs r ts k)
+  -- so many cells as there are times
+  pub gather_is : (ts : List ℕ) (k n : ℕ) → length ts ≡ n → gather (timed ts (cells_from cs k n)) ≡ rows_in ts k cs
+  gather_is ts k n e = gather_by (timed ts (cells_from cs k n)) (rows_at ts k cs) (rise_at ts k) (λ l. steps_at l ts k n e) ∙ full_at ts k cs

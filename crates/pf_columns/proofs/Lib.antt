@@ -1,3 +1,4 @@
+pub mod Crossing
 pub mod LabelRank
 pub mod Rising
 pub mod Parts
@@ -23,3 +24,6 @@ pub mod WithParameter
 pub mod PlaceBuckets
 pub mod EntryOrder
 pub mod Selected
+pub mod FullRows
+pub mod JoinedRows
+pub mod JoinedRuns

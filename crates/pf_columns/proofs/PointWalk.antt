@@ -9,9 +9,9 @@ drop_at [] i x h = cc
 drop_at (y ∷ xs) zero x h = let same : y ≡ x = cc in ap (λ z. z ∷ xs) same
 drop_at (y ∷ xs) (suc i) x h = drop_at xs i x h
 
-module _ (vs : List (Option ℤ)) (ts : List ℕ) (from : ℕ) where
+module _ (start : List Sample) (vs : List (Option ℤ)) (ts : List ℕ) (from : ℕ) where
   abbrev pub AreSoFar : List Sample → ℕ → Type 0
-  AreSoFar points i = points ++ points_in (drop i ts) (from + i) vs ≡ points_in ts from vs
+  AreSoFar points i = points ++ points_in (drop i ts) (from + i) vs ≡ start ++ points_in ts from vs
 
   one_more :
       (i t : ℕ) (points more : List Sample) → slice_get ts i ≡ Some t → point_at t (value_in vs (from + i)) ≡ more

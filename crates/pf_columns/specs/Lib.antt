@@ -1,4 +1,5 @@
 pub mod Columns
 pub mod Groups
 pub mod Ranks
+pub mod Runs
 pub mod Steps

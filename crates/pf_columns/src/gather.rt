@@ -1,6 +1,6 @@
 //! Rows of a matrix from columns.
 
-ghost use Rattle.std.specs.Prelude.{◌≡◌, ◌+◌, ◌≤◌, IfOk};
+ghost use Rattle.std.specs.Prelude.{◌≡◌, ◌+◌, ◌++◌, ◌≤◌, IfOk, OnOk};
 ghost use Rattle.pf_base.specs.Grids.{points};
 ghost use Rattle.pf_columns.specs.Columns.{points_in, rows_in};
 
@@ -9,7 +9,29 @@ use pf_base::{Grid, OutOfMemory, Sample, Value};
 use pf_matrix::MatrixRow;
 use std::alloc::Global;
 
-/// The points of a column at the times of a grid, the first of which is that of the step `from`.
+/// Pushes the points of a column at the times of a grid, the first of which is that of the step `from`.
+pub(crate) fn push_points(
+    found: &mut Vec<Sample>,
+    values: &[Option<Value>],
+    from: u32,
+    grid: &Grid,
+) -> Result<(), OutOfMemory>
+    requires { from + grid.now.len ≤ 4294967295 }
+    ensures { OnOk result (found.new.items ≡ found.old.items ++ points_in (points grid.now) from values.now) }
+{
+    for i in 0..grid.len() {
+        let time = grid.at(i);
+        if let Some(value) = value_of(values, from + i) {
+            found.push(Sample {
+                time: time as i64,
+                value,
+            })?;
+        }
+    }
+    Ok(())
+}
+
+/// The points of a column.
 fn points_of(
     alloc: Global,
     values: &[Option<Value>],
@@ -20,15 +42,7 @@ fn points_of(
     ensures { IfOk result (λ v. v.items ≡ points_in (points grid.now) from values.now) }
 {
     let mut points = Vec::new(alloc);
-    for i in 0..grid.len() {
-        let time = grid.at(i);
-        if let Some(value) = value_of(values, from + i) {
-            points.push(Sample {
-                time: time as i64,
-                value,
-            })?;
-        }
-    }
+    push_points(&mut points, values, from, grid)?;
     Ok(points)
 }
 

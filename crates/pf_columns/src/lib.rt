@@ -8,6 +8,7 @@
 //!   vector in label order, or `DoubleLabels`.
 //! - `Cells` are the cells of consecutive steps without errors. A copy and a `part` share all elements, and so does a `cut`
 //!   but where it keeps few of them. `gather` makes the matrix over a grid.
+//! - `gather_steps` makes the matrix of several runs, one after another.
 //! - `GroupIds` are the groups of columns, found once for all steps, `aggregated` the aggregations that have one value for
 //!   each group and no parameter, and `aggregated_by` those with one.
 //!
@@ -32,6 +33,7 @@ mod column;
 mod gather;
 mod groups;
 mod ranked;
+mod runs;
 mod steps;
 mod values;
 
@@ -39,5 +41,6 @@ pub use aggregate::{GroupOp, aggregated, aggregated_by, group_value};
 pub use cells::Cells;
 pub use column::Column;
 pub use groups::GroupIds;
+pub use runs::gather_steps;
 pub use steps::{BadStep, StepCells, normalised};
 pub use values::quantile;

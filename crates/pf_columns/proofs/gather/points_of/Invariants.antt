@@ -1,6 +1,0 @@
-use Rattle.pf_base.specs.Grids.{points}
-use Rattle.pf_columns.proofs.PointWalk.{AreSoFar}
-use Rattle.pf_columns.proofs.gather.points_of.Given as goal
-
-abbrev pub invariant-loop-i : goal.invariant-loop-i
-invariant-loop-i l = AreSoFar l.values (points l.grid) l.from l.points.items l.i

@@ -1,0 +1,6 @@
+use Rattle.pf_base.specs.Grids.{points}
+use Rattle.pf_columns.proofs.PointWalk.{AreSoFar}
+use Rattle.pf_columns.proofs.gather.push_points.Given as goal
+
+abbrev pub invariant-loop-i : goal.invariant-loop-i
+invariant-loop-i l = AreSoFar l.initial.found.items l.values (points l.grid) l.from l.found.items l.i
