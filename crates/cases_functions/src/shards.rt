@@ -201,10 +201,12 @@ fn push_nodes(out: &mut Output, nodes: &[u32]) {
 }
 
 fn resolved_of(out: &mut Output, expr: Expr) -> Option<Arc<Resolved>> {
+    let expr = out.or_lose(Arc::new(out.alloc(), expr))?;
+    let patterns = out.or_lose(Arc::new(out.alloc(), Vec::new(out.alloc())))?;
     let resolved = Resolved {
         expr,
         series: Vec::new(out.alloc()),
-        patterns: Vec::new(out.alloc()),
+        patterns,
     };
     out.or_lose(Arc::new(out.alloc(), resolved))
 }

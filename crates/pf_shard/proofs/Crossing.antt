@@ -15,10 +15,10 @@ Expr-sync : IsSync Expr.the_field.row
 Expr-sync = search (crosses, knot.crosses, sendable) depth 60 fits 20000
 
 pub Resolved-send : IsSend Resolved.the_row
-Resolved-send = search (Expr-send, patterns_cross, crosses, sendable) depth 60 fits 20000
+Resolved-send = search (Expr-send, Expr-sync, patterns_cross, crosses, sendable) depth 60 fits 20000
 
 pub Resolved-sync : IsSync Resolved.the_row
-Resolved-sync = search (Expr-sync, patterns_cross, crosses, sendable) depth 60 fits 20000
+Resolved-sync = search (Expr-send, Expr-sync, patterns_cross, crosses, sendable) depth 60 fits 20000
 
 pub Legs-send : IsSend Legs.the_row
 Legs-send = search (Resolved-send, Resolved-sync, crosses, sendable) depth 60 fits 20000

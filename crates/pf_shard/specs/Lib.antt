@@ -1,3 +1,4 @@
 pub mod Lawful
+pub mod LegParts
 pub mod Numbers
 pub mod Parts

@@ -17,9 +17,9 @@ use std::sync::Arc;
 /// `label_replace`, each in preorder.
 #[derive(Drop)]
 pub struct Resolved {
-    pub expr: Expr,
+    pub expr: Arc<Expr>,
     pub series: Vec<Vec<u32>>,
-    pub patterns: Vec<Arc<Pattern>>,
+    pub patterns: Arc<Vec<Pattern>>,
 }
 
 impl Model for Resolved {
@@ -32,7 +32,7 @@ impl Model for Resolved {
 
     ghost coded = { resolved_code };
 
-    ghost view = { λ r. record { query = tree_of r.expr; series = map (λ v. v.items) r.series.items; patterns = map arc_value r.patterns.items } };
+    ghost view = { λ r. record { query = tree_of (arc_value r.expr); series = map (λ v. v.items) r.series.items; patterns = (arc_value r.patterns).items } };
 }
 
 /// The legs of a query: one for each of its nodes that are evaluated shard by shard and each shard, the shards of a node one

@@ -1,0 +1,10 @@
+//! What legs are over runs.
+
+use pf_columns::StepCells;
+
+/// What a leg is over a run of steps.
+#[derive(Debug, Drop)]
+pub enum Part {
+    /// At each step the value of the whole query, or its error.
+    Whole(StepCells),
+}
