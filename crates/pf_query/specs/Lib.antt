@@ -1,2 +1,10 @@
 pub mod Codes
+pub mod Entries
+pub mod Gathering
+pub mod JobCode
+pub mod Jobs
 pub mod Lawful
+pub mod Queueing
+pub mod Tables
+pub mod WorkCode
+pub mod Works

@@ -1,9 +1,43 @@
-//! What is asked: a query over a grid, lawful by its type.
+//! What is asked, a query over a grid that is lawful by its type, and the table of the outstanding queries with their jobs.
 //!
-//! What the layers above use: `Asked`, which threads may share.
+//! What the layers above use:
+//!
+//! - `Asked`, which threads may share.
+//! - `Queues`, the jobs of each tenant: those that wait, first in first out, and those in the hands of actors. `take` serves the
+//!   tenants with a job that waits in turn; `put_back` lets a job wait again, tried once more.
+//! - `Table`, the outstanding queries over such queues, each with a slot for each of its jobs. Of a query that isn't stopped a job
+//!   waits or is in hand exactly where its slot is empty, and failed less than five times:
+//!
+//! ```text
+//!                plan             take              finish               collect
+//!     (no job) --------> waiting --------> in hand --------> its slot --------> handed out
+//!                           ^                 |               is filled
+//!                           +------ fail -----+
+//! ```
+//!
+//!   Where it fails for the fifth time, its query is stopped. `stop`, `lack_job` and that let none of the query's jobs wait any
+//!   more; one in hand goes by `finish`, `fail` or `lack_job`, and `close` takes out all.
 #![tactic(auto)]
 
+mod answers;
 mod asked;
+mod entry;
+mod gathered;
+mod job;
+mod plan;
+mod queue;
+mod queues;
 mod shared;
+mod slot;
+mod state;
+mod stop;
+mod table;
+mod work;
 
+pub use answers::{Collected, FailedTry, Finished, PlanError, Planned, Progress};
 pub use asked::Asked;
+pub use gathered::Gathered;
+pub use job::{Hand, Held, Job};
+pub use queues::Queues;
+pub use stop::Stop;
+pub use table::Table;

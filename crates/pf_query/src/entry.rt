@@ -1,0 +1,147 @@
+//! What is kept of each query.
+
+ghost use Rattle.std.specs.HashMap.{get};
+ghost use Rattle.std.specs.Option.{option_map};
+ghost use Rattle.std.specs.Prelude.{◌≡◌, ℕ, ◌<◌, false, IfSome, OnErr, OnOk, Some, cond, length, nat_eq};
+ghost use Rattle.pf_model.specs.Lists.{Each};
+ghost use Rattle.pf_query.specs.Entries.{GathersAt, back_entry, given_entry, opened_entry, planned_entry, state_of, stop_after, stopped_entry, stored_entry, taken_entry, with_change};
+ghost use Rattle.pf_query.specs.Works.{IsFilled};
+
+use crate::gathered::Gathered;
+use crate::state::EntryState;
+use crate::stop::Stop;
+use crate::work::Work;
+use pf_base::OutOfMemory;
+use pf_shard::Part;
+use std::collections::HashMap;
+
+/// A query's tenant, why it was stopped, if it was, what is kept of it once it is planned, and how many of its jobs wait and are
+/// in hand, which is kept until it is stopped.
+#[derive(Drop)]
+pub struct Entry {
+    pub tenant: u32,
+    pub stop: Option<Stop>,
+    pub work: Option<Work>,
+    pub queued: u32,
+    pub in_hand: u32,
+}
+
+/// Entries by their queries.
+pub type Entries = HashMap<u64, Entry>;
+
+/// What is told of a query.
+pub fn state(entries: &Entries, query: u64) -> Option<EntryState>
+    ensures { result ≡ option_map state_of (get nat_eq entries.now query) }
+{
+    let entry = entries.get(&query)?;
+    let (planned, given) = match &entry.work {
+        Some(work) => (true, work.is_given()),
+        None => (false, false),
+    };
+    Some(EntryState {
+        tenant: entry.tenant,
+        stop: entry.stop,
+        planned,
+        given,
+        queued: entry.queued,
+        in_hand: entry.in_hand,
+    })
+}
+
+/// Opens a query of a tenant.
+pub fn add(entries: &mut Entries, query: u64, tenant: u32) -> Result<(), OutOfMemory>
+    ensures ok { OnOk result ((q : ℕ) → get nat_eq entries.new q ≡ cond (nat_eq query q) (Some (opened_entry tenant)) (get nat_eq entries.old q)) }
+    ensures err { OnErr result ((q : ℕ) → get nat_eq entries.new q ≡ get nat_eq entries.old q) }
+{
+    entries.insert(
+        query,
+        Entry {
+            tenant,
+            stop: None,
+            work: None,
+            queued: 0,
+            in_hand: 0,
+        },
+    )?;
+    Ok(())
+}
+
+/// Notes that a query is planned, and so many of its jobs wait.
+pub fn plan(entries: &mut Entries, query: u64, work: Work, jobs: u32)
+    ensures { (q : ℕ) → get nat_eq entries.new q ≡ with_change query (planned_entry work jobs) (get nat_eq entries.old) q }
+{
+    if let Some(entry) = entries.get_mut(&query) {
+        entry.work = Some(work);
+        entry.queued = jobs;
+    }
+}
+
+/// Notes that a job of a query that waited is in hand.
+pub fn take(entries: &mut Entries, query: u64)
+    requires { IfSome (get nat_eq entries.old query) (λ e. (0 < e.queued) × (e.in_hand < 4294967295)) }
+    ensures { (q : ℕ) → get nat_eq entries.new q ≡ with_change query taken_entry (get nat_eq entries.old) q }
+{
+    if let Some(entry) = entries.get_mut(&query) {
+        entry.queued -= 1;
+        entry.in_hand += 1;
+    }
+}
+
+/// Notes that a job of a query that was in hand waits.
+pub fn put_back(entries: &mut Entries, query: u64)
+    requires { IfSome (get nat_eq entries.old query) (λ e. (0 < e.in_hand) × (e.queued < 4294967295)) }
+    ensures { (q : ℕ) → get nat_eq entries.new q ≡ with_change query back_entry (get nat_eq entries.old) q }
+{
+    if let Some(entry) = entries.get_mut(&query) {
+        entry.in_hand -= 1;
+        entry.queued += 1;
+    }
+}
+
+/// Puts in the part of a job of a query that was in hand.
+pub fn store(entries: &mut Entries, query: u64, job: u32, part: Part)
+    requires { IfSome (get nat_eq entries.old query) (λ e. (0 < e.in_hand) × IfSome e.work (λ w. job < length w.slots)) }
+    ensures { (q : ℕ) → get nat_eq entries.new q ≡ with_change query (stored_entry job part) (get nat_eq entries.old) q }
+{
+    if let Some(entry) = entries.get_mut(&query) {
+        entry.in_hand -= 1;
+        if let Some(work) = &mut entry.work {
+            work.fill(job, part);
+        }
+    }
+}
+
+/// Why a query is stopped, where it may be already.
+fn stop_with(stop: Option<Stop>, why: Stop) -> Stop
+    ensures { result ≡ stop_after stop why }
+{
+    match (stop, why) {
+        (_, Stop::Cancelled { place }) => Stop::Cancelled { place },
+        (Some(first), _) => first,
+        (None, why) => why,
+    }
+}
+
+/// Stops a query.
+pub fn stop(entries: &mut Entries, query: u64, why: Stop)
+    ensures { (q : ℕ) → get nat_eq entries.new q ≡ with_change query (stopped_entry why) (get nat_eq entries.old) q }
+{
+    if let Some(entry) = entries.get_mut(&query) {
+        entry.stop = Some(stop_with(entry.stop, why));
+    }
+}
+
+/// Hands out the parts of a query, all of which are there.
+pub fn hand_out(entries: &mut Entries, query: u64) -> Option<Gathered>
+    requires { IfSome (get nat_eq entries.old query) (λ e. IfSome e.work (λ w. (w.given ≡ false) × Each IsFilled w.slots)) }
+    ensures gathered { GathersAt result (get nat_eq entries.old query) }
+    ensures after { (q : ℕ) → get nat_eq entries.new q ≡ with_change query given_entry (get nat_eq entries.old) q }
+{
+    match entries.get_mut(&query) {
+        Some(entry) => match &mut entry.work {
+            Some(work) => Some(work.hand_out()),
+            None => None,
+        },
+        None => None,
+    }
+}
