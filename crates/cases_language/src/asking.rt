@@ -11,6 +11,7 @@ use cases_rows::output::{Output, cut};
 use pf_base::Grid;
 use pf_model::Expr;
 use pf_query::Asked;
+use pf_resolve::{lowest, reach};
 use pf_types::{BoundQuery, QueryError, When, bind, grid_text, read_asked, read_query};
 
 /// Over a grid, as an instant where it has no step.
@@ -77,7 +78,32 @@ fn bound(out: &mut Output, when: When, query: &str)
     }
 }
 
-/// Answers `read GRID | QUERY` by what the text asks over a grid, and `bound GRID | QUERY` by what its bound query asks.
+fn push_time(out: &mut Output, time: Option<i64>) {
+    match time {
+        Some(time) => out.show(time),
+        None => out.text("-"),
+    }
+}
+
+/// The earliest and the latest time that a query may read at the first time of its grid.
+fn push_times_read(out: &mut Output, asked: Asked) {
+    let time = asked.grid.at(0) as i64;
+    push_time(out, lowest(&asked.expr, time));
+    out.text(" ");
+    push_time(out, reach(&asked.expr, time));
+}
+
+fn times_read(out: &mut Output, when: When, query: &str)
+    requires { IsWhen when }
+{
+    match read_asked(out.alloc(), query, when) {
+        Ok(asked) => push_times_read(out, asked),
+        Err(error) => push_refusal(out, &error),
+    }
+}
+
+/// Answers `read GRID | QUERY` by what the text asks over a grid, `bound GRID | QUERY` by what its bound query asks, and
+/// `reach GRID | QUERY` by the earliest and the latest time that it may read at the first time, or dashes where it reads nothing.
 pub fn asking(out: &mut Output, given: &str) {
     let (verb, words) = cut(given);
     let Some((times, query)) = words.split_once(" | ") else {
@@ -86,6 +112,7 @@ pub fn asking(out: &mut Output, given: &str) {
     match grid_of(out, times) {
         Ok(grid) if verb == "read" => read(out, when_over(grid), query),
         Ok(grid) if verb == "bound" => bound(out, when_over(grid), query),
+        Ok(grid) if verb == "reach" => times_read(out, when_over(grid), query),
         Ok(_) => out.refuse(),
         Err(error) => out.made(&grid_text(out.alloc(), error)),
     }
