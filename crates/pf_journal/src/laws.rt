@@ -2,7 +2,8 @@
 
 ghost use Rattle.pf_journal.specs.Frozen.{FrozenSteps, KeptCells};
 
-/// Does nothing. Its contract is a law: a step that is frozen at a log's floor keeps its value whatever is appended later.
+/// Does nothing. Its contract is a law: a step that is frozen at a log's floor has the same value over each longer log of the
+/// same generation.
 #[tactic(auto, using(crate::proofs::FrozenSteps::frozen_steps))]
 pub fn frozen_steps()
     ensures { FrozenSteps }
