@@ -1,5 +1,5 @@
 -- The answer of a query from its steps.
-use Rattle.std.proofs.Common.{◌≡◌, ◌<◌, ◌*◌, ℕ, zero, suc, ◌+◌, pos, Some, None, List, [], ◌∷◌, length, get_or, refl, sym, ap, ◌∙◌, subst, arith}
+use Rattle.std.proofs.Common.{◌≡◌, ◌<◌, ◌*◌, ℕ, zero, suc, ◌+◌, pos, Option, Some, None, List, [], ◌∷◌, length, get_or, refl, sym, ap, ◌∙◌, subst, arith}
 use Rattle.std.proofs.Math.Nat.{suc-mul}
 use Rattle.std.specs.List.{slice_get}
 use Rattle.std.proofs.lemmas.Option.{get_or_from_slice_get}
@@ -10,7 +10,7 @@ use Rattle.pf_base.proofs.GridTimes.{length-times_from}
 use Rattle.pf_model.specs.declared.cell.ErrorKind.{ErrorKind}
 use Rattle.pf_model.specs.declared.cell.StepCell.{StepCell}
 use Rattle.pf_model.specs.declared.cell.StepCell.TheVariants.{Good, Bad}
-use Rattle.pf_model.specs.Direct.{Answer, answer_unless, answered, elements_of, evaluated, failed, failure_at, first_failure, gather, gathered, steps_of}
+use Rattle.pf_model.specs.Direct.{Answer, Failure, answer_unless, answered, elements_of, evaluated, failed, failure_at, first_failure, gather, gathered, steps_of}
 use Rattle.pf_model.specs.Evaluation.{eval}
 use Rattle.pf_model.specs.Trees.{Tree}
 use Rattle.pf_columns.specs.Columns.{cell_at, cells_from, timed}
@@ -23,7 +23,7 @@ module _ (samples : List Row) (query : Tree) (s : StepsData) where
   abbrev value : ℕ → StepCell
   value t = eval samples query (pos t)
 
-  abbrev AreSteps : List ℕ → ℕ → Type 0
+  abbrev pub AreSteps : List ℕ → ℕ → Type 0
   AreSteps [] k = Unit {0}
   AreSteps (t ∷ ts) k = (step_at s k ≡ value t) × AreSteps ts (k + 1)
 
@@ -51,7 +51,7 @@ module _ (samples : List Row) (query : Tree) (s : StepsData) where
   head_none : (k n : ℕ) → ((i : ℕ) → i < suc n → bad_in s.bads (k + i) ≡ None) → bad_in s.bads k ≡ None
   head_none k n h = let here : k ≡ k + 0 = omega arith in ap (bad_in s.bads) here ∙ h 0 (omega arith)
 
-  no_failure : (ts : List ℕ) (k : ℕ) → AreSteps ts k → ((i : ℕ) → i < length ts → bad_in s.bads (k + i) ≡ None) → first_failure (evaluated samples query ts) ≡ None
+  pub no_failure : (ts : List ℕ) (k : ℕ) → AreSteps ts k → ((i : ℕ) → i < length ts → bad_in s.bads (k + i) ≡ None) → first_failure (evaluated samples query ts) ≡ None
   no_failure [] k a b = refl
   no_failure (t ∷ ts) k a b =
       ap (λ c. failure_at t c (first_failure (evaluated samples query ts))) (good_step t k a.0 (head_none k (length ts) b))
@@ -62,7 +62,21 @@ module _ (samples : List Row) (query : Tree) (s : StepsData) where
   steps_are (t ∷ ts) k a b = λ i.
       record { time = t; elements = elements_of (good_step t k a.0 (head_none k (length ts) b) i) } ∷ steps_are ts (k + 1) a.1 (tail_none k (length ts) b) i
 
-  failure_is : (ts : List ℕ) (k j : ℕ) (kind : ErrorKind) → j < length ts → AreSteps ts k → ((i : ℕ) → i < j → bad_in s.bads (k + i) ≡ None) → bad_in s.bads (k + j) ≡ Some kind
+  -- where no step has failed, each is what the columns are
+  pub good_steps : (ts : List ℕ) (k : ℕ) → AreSteps ts k → first_failure (evaluated samples query ts) ≡ None → steps_of (evaluated samples query ts) ≡ timed ts (cells_from s.columns k (length ts))
+  good_steps [] k a h = refl
+  good_steps (t ∷ ts) k a h = by (bad_in s.bads k) refl (good_steps ts (k + 1) a.1) where
+    by : (o : Option ErrorKind) → bad_in s.bads k ≡ o → (first_failure (evaluated samples query ts) ≡ None → steps_of (evaluated samples query ts) ≡ timed ts (cells_from s.columns (k + 1) (length ts))) → steps_of (evaluated samples query (t ∷ ts)) ≡ timed (t ∷ ts) (cells_from s.columns k (length (t ∷ ts)))
+    by None e behind =
+        let good = good_step t k a.0 e in
+        let later = ap (λ c. failure_at t c (first_failure (evaluated samples query ts))) (sym good) ∙ h in
+        λ i. record { time = t; elements = elements_of (good i) } ∷ behind later i
+    by (Some kind) e behind =
+        let failure : Failure = record { time = t; kind = kind } in
+        let failed_now : Some failure ≡ None = ap (λ c. failure_at t c (first_failure (evaluated samples query ts))) (sym (bad_step t k kind a.0 e)) ∙ h in
+        cc
+
+  pub failure_is : (ts : List ℕ) (k j : ℕ) (kind : ErrorKind) → j < length ts → AreSteps ts k → ((i : ℕ) → i < j → bad_in s.bads (k + i) ≡ None) → bad_in s.bads (k + j) ≡ Some kind
       → first_failure (evaluated samples query ts) ≡ Some (record { time = get_or ts j 0; kind = kind })
   failure_is [] k j kind l a b e = absurd (omega (arith, l))
   failure_is (t ∷ ts) k zero kind l a b e =
@@ -89,7 +103,7 @@ module _ (samples : List Row) (query : Tree) (s : StepsData) where
   abbrev AreGridSteps : GridData → Type 0
   AreGridSteps g = (k : ℕ) → k < g.len → step_at s k ≡ value (g.start + k * g.step)
 
-  grid_steps : (g : GridData) → AreGridSteps g → AreSteps (points g) 0
+  pub grid_steps : (g : GridData) → AreGridSteps g → AreSteps (points g) 0
   grid_steps g h = steps_by g.start g.step g.len 0 (λ i l. let same : 0 + i ≡ i = omega arith in ap (step_at s) same ∙ h i l)
 
   pub grid_gathered : (g : GridData) → AreGridSteps g → NoneBad s.bads g.len

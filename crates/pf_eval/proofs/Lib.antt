@@ -2,6 +2,7 @@ pub mod Aggregates
 pub mod Answered
 pub mod Bads
 pub mod BoundLists
+pub mod BoundLegs
 pub mod BoundNodes
 pub mod CalledParts
 pub mod Changes
@@ -13,4 +14,5 @@ pub mod Moments
 pub mod NodeTexts
 pub mod OneArgument
 pub mod ReadTimes
+pub mod RunAnswers
 pub mod SplitArguments

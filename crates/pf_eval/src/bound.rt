@@ -411,7 +411,7 @@ fn times_of<'a>(grid: &Grid) -> Times<'a>
 }
 
 /// The steps of a query over its grid.
-fn steps_over(
+pub(crate) fn steps_over(
     alloc: Global,
     expr: &Expr,
     series: &[Vec<u32>],

@@ -24,10 +24,10 @@ Expr-sync : IsSync Expr.the_field.row
 Expr-sync = search (crosses, knot.crosses, sendable) depth 60 fits 20000
 
 pub Asked-send : IsSend Asked.the_row
-Asked-send = search (Expr-send, matchers_cross, patterns_cross, crosses, sendable) depth 60 fits 20000
+Asked-send = search (Expr-send, Expr-sync, matchers_cross, patterns_cross, crosses, sendable) depth 60 fits 20000
 
 pub Asked-sync : IsSync Asked.the_row
-Asked-sync = search (Expr-sync, matchers_cross, patterns_cross, crosses, sendable) depth 60 fits 20000
+Asked-sync = search (Expr-send, Expr-sync, matchers_cross, patterns_cross, crosses, sendable) depth 60 fits 20000
 
 -- for a search over a type that holds what is asked
 pub ruleset asked_cross = (Asked-send, Asked-sync)

@@ -12,7 +12,7 @@ use std::sync::Arc;
 /// HTTP API: Instant queries, Range queries.
 #[derive(Drop)]
 pub struct Asked {
-    pub expr: Expr,
+    pub expr: Arc<Expr>,
     pub text: Text,
     pub matchers: Arc<Vec<Matchers>>,
     pub patterns: Arc<Vec<Pattern>>,
@@ -32,7 +32,7 @@ impl Model for Asked {
 
     ghost coded = { asked_code };
 
-    ghost view = { λ a. record { query = record { tree = tree_of a.expr; grid = a.grid }; kind = a.kind; instant = a.instant; text = a.text } };
+    ghost view = { λ a. record { query = record { tree = tree_of (arc_value a.expr); grid = a.grid }; kind = a.kind; instant = a.instant; text = a.text } };
 
-    ghost invariant = { λ a. IsAsked (record { query = record { tree = tree_of a.expr; grid = a.grid }; kind = a.kind; instant = a.instant; text = a.text }) (arc_value a.matchers).items (arc_value a.patterns).items };
+    ghost invariant = { λ a. IsAsked (record { query = record { tree = tree_of (arc_value a.expr); grid = a.grid }; kind = a.kind; instant = a.instant; text = a.text }) (arc_value a.matchers).items (arc_value a.patterns).items };
 }

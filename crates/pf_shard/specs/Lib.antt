@@ -1,3 +1,4 @@
+pub mod Bound
 pub mod Lawful
 pub mod LegParts
 pub mod Numbers

@@ -190,7 +190,7 @@ steps (when.Range grid) h = sym (no_step grid.step h) where
   no_step n p = grind (arith, nat_tests)
 steps (when.Instant grid) h = ap (λ n. nat_eq n 0) (sym h)
 
-pub is_asked : (t : Tree) (matchers : List (List Matcher)) (patterns : List (List ℕ)) (kind : Kind) (w : When) (grid : GridData)
+is_asked : (t : Tree) (matchers : List (List Matcher)) (patterns : List (List ℕ)) (kind : Kind) (w : When) (grid : GridData)
     (instant : Bool) (text : List ℕ) → IsPutIn t matchers patterns kind → IsWhen w → grid ≡ grid_in w → instant ≡ is_instant w → text ≡ canonical t
     → IsAsked (record { query = record { tree = t; grid = grid }; kind = kind; instant = instant; text = text }) matchers patterns
 is_asked t matchers patterns kind w grid instant text p h g i c = record {
@@ -205,3 +205,11 @@ is_asked t matchers patterns kind w grid instant text p h g i c = record {
   replacements = p.replacements;
   instant = i ∙ steps w h ∙ ap (λ d. nat_eq d.step 0) (sym g);
 }
+
+-- the same of the tree that is shared
+pub is_shared_asked : (u t : Tree) (matchers : List (List Matcher)) (patterns : List (List ℕ)) (kind : Kind) (w : When) (grid : GridData)
+    (instant : Bool) (text : List ℕ) → u ≡ t → IsPutIn t matchers patterns kind → IsWhen w → grid ≡ grid_in w → instant ≡ is_instant w → text ≡ canonical t
+    → IsAsked (record { query = record { tree = u; grid = grid }; kind = kind; instant = instant; text = text }) matchers patterns
+is_shared_asked u t matchers patterns kind w grid instant text e p h g i c =
+    subst (λ x. IsAsked (record { query = record { tree = x; grid = grid }; kind = kind; instant = instant; text = text }) matchers patterns) (sym e)
+    (is_asked t matchers patterns kind w grid instant text p h g i c)

@@ -70,6 +70,7 @@ fn asked_with(
     let text = print(alloc, &expr)?;
     let grid = grid_in(when);
     let instant = is_instant(when);
+    let expr = Arc::new(alloc, expr)?;
     Ok(Asked {
         expr,
         text,

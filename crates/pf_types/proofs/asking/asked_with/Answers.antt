@@ -1,6 +1,8 @@
-use Rattle.pf_types.proofs.OverGrids.{is_asked}
+use Rattle.std.proofs.Common.{ap}
+use Rattle.pf_model.specs.Trees.{tree_of}
+use Rattle.pf_types.proofs.OverGrids.{is_shared_asked}
 use Rattle.pf_types.proofs.asking.asked_with.Goals as goal
 
 pub invariant_of-result : goal.invariant_of-result
 invariant_of-result c =
-    is_asked _ _ _ _ _ _ _ _ c.requires.lawful c.requires.when c.grid_in-grid.ensures c.is_instant-instant.ensures c.in_ok-text.ensures.canonical
+    is_shared_asked _ _ _ _ _ _ _ _ _ (ap tree_of c.in_ok-expr.ensures.ok) c.requires.lawful c.requires.when c.grid_in-grid.ensures c.is_instant-instant.ensures c.in_ok-text.ensures.canonical
