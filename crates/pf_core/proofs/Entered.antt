@@ -11,7 +11,7 @@ use Rattle.pf_store.specs.Verdicts.{VerdictsData}
 use Rattle.pf_store.specs.declared.tenant_log.Deleted.{Deleted}
 use Rattle.pf_core.specs.Cores.{Enters, EntersFor, IsAppended, IsDeleted}
 use Rattle.pf_core.specs.Seats.{IsFree, IsSeat, IsStranger, TenantsData, count_at, settled}
-use Rattle.pf_core.specs.States.{CutsOut, IsEntered, IsState, IsTold, Keeps, Steps, TakesIn, core_of, kept_in, machine_in}
+use Rattle.pf_core.specs.States.{CutsOut, IsEntered, HasHistory, IsTold, Keeps, Steps, TakesIn, core_of, kept_in, machine_in}
 use Rattle.pf_core.specs.declared.state.State.{State}
 use Rattle.pf_core.specs.declared.tenants.Seat.{Seat}
 use Rattle.pf_core.proofs.Keeping.{are_open_log, are_open_same, machine_with}
@@ -20,13 +20,13 @@ use Rattle.pf_core.proofs.Stepped.{room_for, stepped}
 
 -- an entry of a tenant whose log is changed
 pub changed : (old new : State) (by : By) (name : List ℕ) (seat after : Seat) (what : ℕ → What) (log : List Change)
-    → IsState old → IsSeat old.tenants old.limits.window name seat
+    → HasHistory old → IsSeat old.tenants old.limits.window name seat
     → after.number ≡ seat.number → after.newcomer ≡ seat.newcomer → after.log.window ≡ seat.log.window → IsLog after.log log
     → next (machine_in old) (what seat.number) ≡ machine_with (with_log (machine_in old).logs seat.number log) (machine_in old).queries ((machine_in old).count + 1)
     → ((names : List (List ℕ)) → Allowed old.limits names (machine_in old) (what seat.number))
     → IsEntered old by after (what seat.number) new
     → nat_le (length old.journal.items + old.reserved + 1) old.limits.journal ≡ true
-    → IsState new × EntersFor (core_of old) by name what (core_of new)
+    → HasHistory new × EntersFor (core_of old) by name what (core_of new)
 changed old new by name seat after what log h p number newcomer window is stepping allowed e room =
     let m = machine_in old in
     let here = placed old name seat h p in
@@ -64,9 +64,9 @@ changed old new by name seat after what log h p number newcomer window is steppi
 
 -- a batch is taken in
 pub appended : (old new : State) (by : By) (name : List ℕ) (seat after : Seat) (batch : BatchData) (v : VerdictsData) (what : What)
-    → IsState old → IsSeat old.tenants old.limits.window name seat → TakesIn seat batch v what after → IsEntered old by after what new
+    → HasHistory old → IsSeat old.tenants old.limits.window name seat → TakesIn seat batch v what after → IsEntered old by after what new
     → nat_le (length old.journal.items + old.reserved + 1) old.limits.journal ≡ true
-    → IsState new × IsAppended (core_of old) by name batch v (core_of new)
+    → HasHistory new × IsAppended (core_of old) by name batch v (core_of new)
 appended old new by name seat after batch v what h p t e room =
     let here = placed old name seat h p in
     let before = log_of (machine_in old).logs seat.number in
@@ -86,9 +86,9 @@ appended old new by name seat after batch v what h p t e room =
 
 -- samples are cut out
 pub deleted : (old new : State) (by : By) (name : List ℕ) (seat after : Seat) (ms : List Matcher) (from to : ℕ) (d : Deleted) (what : What)
-    → IsState old → IsSeat old.tenants old.limits.window name seat → CutsOut seat ms from to d what after → IsEntered old by after what new
+    → HasHistory old → IsSeat old.tenants old.limits.window name seat → CutsOut seat ms from to d what after → IsEntered old by after what new
     → nat_le (length old.journal.items + old.reserved + 1) old.limits.journal ≡ true
-    → IsState new × IsDeleted (core_of old) by name ms from to d (core_of new)
+    → HasHistory new × IsDeleted (core_of old) by name ms from to d (core_of new)
 deleted old new by name seat after ms from to d what h p t e room =
     let here = placed old name seat h p in
     let before = log_of (machine_in old).logs seat.number in
@@ -101,11 +101,11 @@ deleted old new by name seat after ms from to d what h p t e room =
 
 -- an entry that changes nothing of the machine but the number of entries
 pub told : (old new : State) (by : By) (what : What)
-    → IsState old → IsTold old by what new
+    → HasHistory old → IsTold old by what new
     → next (machine_in old) what ≡ machine_with (machine_in old).logs (machine_in old).queries ((machine_in old).count + 1)
     → Allowed old.limits (old.tenants.names ++ []) (machine_in old) what
     → length old.journal.items + old.reserved + 1 ≤ old.limits.journal
-    → IsState new × Enters (core_of old) by what (core_of new)
+    → HasHistory new × Enters (core_of old) by what (core_of new)
 told old new by what h s stepping allowed room =
     let m = machine_in old in
     stepped old new by what old.tenants (kept_in old) old.reserved [] h s (sym (append-nil old.tenants.names))
@@ -125,17 +125,17 @@ pub one_fits : (n reserved entries most : ℕ) → 1 ≤ entries → nat_le (n +
 one_fits n reserved entries most some t = let f : n + reserved + entries ≤ most = grind (arith, nat_tests, t) in omega (arith, f, some)
 
 -- a stranger's entry
-pub refused : (old new : State) (by : By) (name : List ℕ) → IsState old → IsStranger old.tenants name → IsTold old by (no_tenant name) new
-    → length old.journal.items + old.reserved + 1 ≤ old.limits.journal → IsState new × Enters (core_of old) by (no_tenant name) (core_of new)
+pub refused : (old new : State) (by : By) (name : List ℕ) → HasHistory old → IsStranger old.tenants name → IsTold old by (no_tenant name) new
+    → length old.journal.items + old.reserved + 1 ≤ old.limits.journal → HasHistory new × Enters (core_of old) by (no_tenant name) (core_of new)
 refused old new by name h s e room = told old new by (no_tenant name) h e refl (stranger old name h s) room
 
 -- the entry of a tenant that has as many open queries as it may
 fills : (old new : State) (by : By) (name : List ℕ) (seat : Seat) (n : ℕ) (newcomer : Option (List ℕ))
-    → IsState old → IsSeat old.tenants old.limits.window name seat → seat.newcomer ≡ newcomer → IsFree old.tenants seat.number newcomer
+    → HasHistory old → IsSeat old.tenants old.limits.window name seat → seat.newcomer ≡ newcomer → IsFree old.tenants seat.number newcomer
     → n ≡ count_at old.tenants.counts seat.number → old.limits.outstanding ≤ n
     → IsTold old by (full seat.number n) new
     → length old.journal.items + old.reserved + 1 ≤ old.limits.journal
-    → IsState new × ((n ≡ old.limits.outstanding) × EntersFor (core_of old) by name (λ u. full u n) (core_of new))
+    → HasHistory new × ((n ≡ old.limits.outstanding) × EntersFor (core_of old) by name (λ u. full u n) (core_of new))
 fills old new by name seat n None h p e free counted reached t room =
     let many = h.stands.names.many in
     let many_counts = p.tenants.many_counts in
@@ -166,9 +166,9 @@ fills old new by name seat n (Some new_name) h p e free counted reached t room =
     absurd (omega (arith, counted, none, reached, some))
 
 pub filled : (old new : State) (by : By) (name : List ℕ) (seat : Seat) (n : ℕ)
-    → IsState old → IsSeat old.tenants old.limits.window name seat
+    → HasHistory old → IsSeat old.tenants old.limits.window name seat
     → n ≡ count_at old.tenants.counts seat.number → old.limits.outstanding ≤ n
     → IsTold old by (full seat.number n) new
     → length old.journal.items + old.reserved + 1 ≤ old.limits.journal
-    → IsState new × ((n ≡ old.limits.outstanding) × EntersFor (core_of old) by name (λ u. full u n) (core_of new))
+    → HasHistory new × ((n ≡ old.limits.outstanding) × EntersFor (core_of old) by name (λ u. full u n) (core_of new))
 filled old new by name seat n h p counted reached t room = fills old new by name seat n seat.newcomer h p refl p.free counted reached t room

@@ -1,10 +1,26 @@
+mod Answering
+pub mod Asked
+mod Begun
+mod Calling
+mod Closing
+mod Collecting
+mod Covered
 mod Entered
+mod Failures
 mod Kept
 mod Keeping
 mod Lists
+mod Looked
 mod Machines
 mod Numbers
 mod OpenQueries
+mod Outstanding
+mod Planning
+mod Progressing
+mod Runs
 mod Seated
+mod Standing
 mod Stepped
 pub mod Stopped
+mod Tenanted
+mod Tries

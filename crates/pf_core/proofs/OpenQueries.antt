@@ -12,7 +12,7 @@ use Rattle.pf_store.specs.Standing.{IsPin, LogData, PinData}
 use Rattle.pf_core.specs.Cores.{AsksAt, Enters, IsOpened, IsOthers, IsOwned}
 use Rattle.pf_core.specs.Entries.{what_of}
 use Rattle.pf_core.specs.Seats.{AreTenants, IsFree, IsSeat, TenantsData, count_at, counted_as, is_named, is_same, settled}
-use Rattle.pf_core.specs.States.{AreWithin, IsCancelledAt, IsOpenedFor, IsOpening, IsState, Keeps, KeepsQueries, Steps, core_of, kept_in, machine_in, with_cancel, with_query, without_query}
+use Rattle.pf_core.specs.States.{AreWithin, IsCancelledAt, IsOpenedFor, IsOpening, HasHistory, Keeps, KeepsQueries, Steps, core_of, kept_in, machine_in, with_cancel, with_query, without_query}
 use Rattle.pf_core.specs.declared.answers.Opened.{Opened}
 use Rattle.pf_core.specs.declared.state.Opening.{Opening}
 use Rattle.pf_core.specs.declared.state.State.{State}
@@ -36,7 +36,7 @@ within_set limit u n kept h inside few v k g = elim (bool_cases (nat_eq v u)) [
 ]
 
 -- an open query's tenant has a count
-pub known_tenant : (s : State) (query : ℕ) (o : Open) → IsState s → AreTenants s.tenants → open_at query (machine_in s).queries ≡ Some o
+pub known_tenant : (s : State) (query : ℕ) (o : Open) → HasHistory s → AreTenants s.tenants → open_at query (machine_in s).queries ≡ Some o
     → o.tenant < length s.tenants.counts
 known_tenant s query o h t found =
     let known : o.tenant < length (machine_in s).logs =
@@ -51,7 +51,7 @@ counted_in s u n e inside =
     at_u.there ∙ ap (λ (k : ℕ). Some k) (sym (e ∙ count_there s.tenants.counts u at_u.element at_u.there))
 
 -- and it is not zero
-pub some_open : (s : State) (query n : ℕ) (o : Open) → IsState s → AreTenants s.tenants → open_at query (machine_in s).queries ≡ Some o
+pub some_open : (s : State) (query n : ℕ) (o : Open) → HasHistory s → AreTenants s.tenants → open_at query (machine_in s).queries ≡ Some o
     → n ≡ count_at s.tenants.counts o.tenant → 0 < n
 some_open s query n o h t found e =
     let count = h.keeps.keeps_counts o.tenant n (counted_in s o.tenant n e (known_tenant s query o h t found)) in
@@ -66,12 +66,13 @@ some_room (Some p) = omega arith
 
 -- an ask of a tenant that may have one query more
 pub asked : (old new : State) (by : By) (name : List ℕ) (seat : Seat) (n place : ℕ) (wanted : Asked) (o : Opening) (pin : PinData)
-    → IsState old → IsSeat old.tenants old.limits.window name seat
+    → HasHistory old → IsSeat old.tenants old.limits.window name seat
     → n ≡ count_at old.tenants.counts seat.number → n < old.limits.outstanding
     → IsOpening seat wanted o → IsOpenedFor old by seat n o.query (what_of o.what) new
     → place ≡ length old.journal.items → pin ≡ o.pin
     → nat_le (length old.journal.items + old.reserved + 3) old.limits.journal ≡ true
-    → IsState new × AsksAt (core_of old) by name wanted place pin (core_of new)
+    → HasHistory new
+    × (Enters (core_of old) by (ask seat.number wanted o.pin.number o.pin.generation o.pin.floor) (core_of new) × AsksAt (core_of old) by name wanted place pin (core_of new))
 asked old new by name seat n place wanted o pin h p counted_so below opening e at_end same_pin room =
     let m = machine_in old in
     let u = seat.number in
@@ -118,29 +119,32 @@ asked old new by name seat n place wanted o pin h p counted_so below opening e a
     keeps (omega (arith, fits)) in
     let after : machine_in new ≡ next m what = behind old new by what s.journal in (
       both.0,
-      subst (λ (x : PinData). AsksAt (core_of old) by name wanted place x (core_of new)) (sym same_pin) (record {
-        room = room_for old 3 h room;
-        entered = record {
-          number = u;
-          named = subst (λ (x : TenantsData). slice_get x.names u ≡ Some name) (sym s.tenants) (here.named seat.log);
-          entered = both.1;
-        };
-        here = omega (arith, at_end, c);
-        opened = opened;
-        is_open = subst (λ (x : Machine). open_at place x.queries ≡ Some opened) (sym after)
-            (subst (λ k. open_at k (m.queries ++ opened ∷ []) ≡ Some opened) (c ∙ sym at_end)
-            (open_at_pushed m.queries m.count opened h.keeps.are_open.below refl));
-        owner = refl;
-        asked = refl;
-        pinned = subst (λ (l : Limits). IsPin o.pin l.window log) (sym s.limits) told_pin;
-        uncancelled = refl;
-      }),
+      (
+        both.1,
+        subst (λ (x : PinData). AsksAt (core_of old) by name wanted place x (core_of new)) (sym same_pin) (record {
+          room = room_for old 3 h room;
+          entered = record {
+            number = u;
+            named = subst (λ (x : TenantsData). slice_get x.names u ≡ Some name) (sym s.tenants) (here.named seat.log);
+            entered = both.1;
+          };
+          here = omega (arith, at_end, c);
+          opened = opened;
+          is_open = subst (λ (x : Machine). open_at place x.queries ≡ Some opened) (sym after)
+              (subst (λ k. open_at k (m.queries ++ opened ∷ []) ≡ Some opened) (c ∙ sym at_end)
+              (open_at_pushed m.queries m.count opened h.keeps.are_open.below refl));
+          owner = refl;
+          asked = refl;
+          pinned = subst (λ (l : Limits). IsPin o.pin l.window log) (sym s.limits) told_pin;
+          uncancelled = refl;
+        }),
+      ),
     )
 
 -- a cancel of an open query, which was not cancelled
 pub cancelled : (old new : State) (by : By) (query : ℕ) (o : Open)
-    → IsState old → open_at query (machine_in old).queries ≡ Some o → o.cancelled ≡ None
-    → IsCancelledAt old by query new → IsState new × Enters (core_of old) by (cancel query) (core_of new)
+    → HasHistory old → open_at query (machine_in old).queries ≡ Some o → o.cancelled ≡ None
+    → IsCancelledAt old by query new → HasHistory new × Enters (core_of old) by (cancel query) (core_of new)
 cancelled old new by query o h found whole s =
     let m = machine_in old in
     let c = counted old in
@@ -164,12 +168,12 @@ cancelled old new by query o h found whole s =
 
 -- an answer to an open query, whose tenant has so many
 pub answered : (old new : State) (by : By) (query code cached evaluated n : ℕ) (o : Open)
-    → IsState old → AreTenants old.tenants → open_at query (machine_in old).queries ≡ Some o
+    → HasHistory old → AreTenants old.tenants → open_at query (machine_in old).queries ≡ Some o
     → n ≡ count_at old.tenants.counts o.tenant
     → AnswersOpen old.limits (open_at query (machine_in old).queries) code cached evaluated
     → Steps old by (answer query code cached evaluated) (counted_as old.tenants o.tenant (n - 1)) (without_query (kept_in old) query)
     (old.reserved - room_kept o.cancelled) new
-    → IsState new × Enters (core_of old) by (answer query code cached evaluated) (core_of new)
+    → HasHistory new × Enters (core_of old) by (answer query code cached evaluated) (core_of new)
 answered old new by query code cached evaluated n o h t found counted_so right s =
     let m = machine_in old in
     let kept_room = h.keeps.keeps_room in
@@ -192,17 +196,17 @@ answered old new by query code cached evaluated n o h t found counted_so right s
     (omega (arith, fits, kept_room, less, some))
 
 -- an open query that may be cancelled
-record Cancellable (found : Option Open) : Type 0 where
-  opened : Open
-  there : found ≡ Some opened
-  whole : opened.cancelled ≡ None
+pub record Cancellable (found : Option Open) : Type 0 where
+  pub opened : Open
+  pub there : found ≡ Some opened
+  pub whole : opened.cancelled ≡ None
 
-cancellable : (found : Option Open) → CancelsOpen found → Cancellable found
+pub cancellable : (found : Option Open) → CancelsOpen found → Cancellable found
 cancellable None h = absurd h
 cancellable (Some o) h = record { opened = o; there = refl; whole = h }
 
 -- it keeps room for two entries
-pub cancel_room : (s : State) (query : ℕ) → IsState s → CancelsOpen (open_at query (machine_in s).queries) → 2 ≤ s.reserved
+pub cancel_room : (s : State) (query : ℕ) → HasHistory s → CancelsOpen (open_at query (machine_in s).queries) → 2 ≤ s.reserved
 cancel_room s query h may =
     let found = cancellable (open_at query (machine_in s).queries) may in
     let some = reserved_some query (machine_in s).queries found.opened found.there in
@@ -211,13 +215,13 @@ cancel_room s query h may =
     omega (arith, some, two, room)
 
 pub cancel_state : (old new : State) (by : By) (query : ℕ)
-    → IsState old → CancelsOpen (open_at query (machine_in old).queries) → IsCancelledAt old by query new → IsState new
+    → HasHistory old → CancelsOpen (open_at query (machine_in old).queries) → IsCancelledAt old by query new → HasHistory new
 cancel_state old new by query h may s =
     let found = cancellable (open_at query (machine_in old).queries) may in
     (cancelled old new by query found.opened h found.there found.whole s).0
 
 pub cancel_enters : (old new : State) (by : By) (query : ℕ)
-    → IsState old → CancelsOpen (open_at query (machine_in old).queries) → IsCancelledAt old by query new
+    → HasHistory old → CancelsOpen (open_at query (machine_in old).queries) → IsCancelledAt old by query new
     → Enters (core_of old) by (cancel query) (core_of new)
 cancel_enters old new by query h may s =
     let found = cancellable (open_at query (machine_in old).queries) may in
@@ -225,24 +229,20 @@ cancel_enters old new by query h may s =
 
 -- ---- what is told of an open query
 
-pub never_closed : (l : Limits) (found : Option Open) (code cached evaluated : ℕ) → AnswersOpen l found code cached evaluated → found ≡ None → ⊥
-never_closed l None code cached evaluated h e = h
-never_closed l (Some o) code cached evaluated h e = cc
-
-pub answer_inside : (s : State) (query : ℕ) (o : Opened) → IsState s → AreTenants s.tenants → IsOpened (core_of s) query o
+pub answer_inside : (s : State) (query : ℕ) (o : Opened) → HasHistory s → AreTenants s.tenants → IsOpened (core_of s) query o
     → o.tenant < length s.tenants.counts
 answer_inside s query o h t is =
     let inside = known_tenant s query is.opened h t is.is_open in
     let same = is.tenant in
     omega (arith, inside, same)
 
-pub answer_some : (s : State) (query n : ℕ) (o : Opened) → IsState s → AreTenants s.tenants → IsOpened (core_of s) query o
+pub answer_some : (s : State) (query n : ℕ) (o : Opened) → HasHistory s → AreTenants s.tenants → IsOpened (core_of s) query o
     → n ≡ count_at s.tenants.counts o.tenant → 1 ≤ n
 answer_some s query n o h t is e =
     let some = some_open s query n is.opened h t is.is_open (e ∙ ap (count_at s.tenants.counts) (sym is.tenant)) in
     omega (arith, some)
 
-pub answer_room : (s : State) (query n : ℕ) (o : Opened) → IsState s → IsOpened (core_of s) query o
+pub answer_room : (s : State) (query n : ℕ) (o : Opened) → HasHistory s → IsOpened (core_of s) query o
     → n ≡ room_kept o.cancelled → (1 ≤ n) × (n ≤ s.reserved)
 answer_room s query n o h is e =
     let kept = reserved_some query (machine_in s).queries is.opened is.is_open in
@@ -252,11 +252,11 @@ answer_room s query n o h is e =
     (omega (arith, some, same), omega (arith, kept, same, room))
 
 pub answer_entered : (old new : State) (by : By) (query code cached evaluated n kept : ℕ) (o : Opened)
-    → IsState old → AreTenants old.tenants → IsOpened (core_of old) query o
+    → HasHistory old → AreTenants old.tenants → IsOpened (core_of old) query o
     → n ≡ count_at old.tenants.counts o.tenant → kept ≡ room_kept o.cancelled
     → AnswersOpen old.limits (open_at query (machine_in old).queries) code cached evaluated
     → Steps old by (answer query code cached evaluated) (counted_as old.tenants o.tenant (n - 1)) (without_query (kept_in old) query) (old.reserved - kept) new
-    → IsState new × Enters (core_of old) by (answer query code cached evaluated) (core_of new)
+    → HasHistory new × Enters (core_of old) by (answer query code cached evaluated) (core_of new)
 answer_entered old new by query code cached evaluated n kept o h t is e k right s =
     answered old new by query code cached evaluated n is.opened h t is.is_open (e ∙ ap (count_at old.tenants.counts) (sym is.tenant)) right
     (subst (λ u. Steps old by (answer query code cached evaluated) (counted_as old.tenants u (n - 1)) (without_query (kept_in old) query)
@@ -290,7 +290,7 @@ owned s query o name cancelled is t e = record {
 }
 
 pub others : (s : State) (query : ℕ) (o : Opened) (name : List ℕ)
-    → IsState s → IsOpened (core_of s) query o → is_named s.tenants.names o.tenant name ≡ false → IsOthers (core_of s) query name o.tenant
+    → HasHistory s → IsOpened (core_of s) query o → is_named s.tenants.names o.tenant name ≡ false → IsOthers (core_of s) query name o.tenant
 others s query o name h is t =
     let known : is.opened.tenant < length (machine_in s).logs =
     open_each (λ x. x.tenant < length (machine_in s).logs) query (machine_in s).queries is.opened h.keeps.are_open.known is.is_open in

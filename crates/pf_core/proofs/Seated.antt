@@ -7,7 +7,7 @@ use Rattle.pf_model.specs.Lists.{Each}
 use Rattle.pf_model.specs.Log.{Change}
 use Rattle.pf_store.specs.Standing.{IsLog, LogData}
 use Rattle.pf_core.specs.Seats.{AreTenants, IsFree, IsSeat, IsSeated, IsStranger, TenantsData, count_at, settled}
-use Rattle.pf_core.specs.States.{AreWithin, IsState, KeepsCounts, KeepsLogs, machine_in}
+use Rattle.pf_core.specs.States.{AreWithin, HasHistory, KeepsCounts, KeepsLogs, machine_in}
 use Rattle.pf_core.specs.declared.state.State.{State}
 use Rattle.pf_core.specs.declared.tenants.Seat.{Seat}
 use Rattle.pf_core.proofs.Keeping.{apart_grows, counts_grow, logs_put, logs_set}
@@ -140,7 +140,7 @@ pub record IsPlaced (s : State) (name : List ℕ) (seat : Seat) : Type 0 where
   pub named : (log : LogData) → slice_get (settled s.tenants seat.number log seat.newcomer).names seat.number ≡ Some name
 
 placed_by : (s : State) (name : List ℕ) (seat : Seat) (newcomer : Option (List ℕ)) → seat.newcomer ≡ newcomer
-    → IsState s → AreTenants s.tenants → IsFree s.tenants seat.number newcomer
+    → HasHistory s → AreTenants s.tenants → IsFree s.tenants seat.number newcomer
     → IsSeated s.tenants s.limits.window name seat.number seat.log newcomer → IsPlaced s name seat
 placed_by s name seat None e h t free seated =
     let many = h.stands.names.many in
@@ -166,11 +166,11 @@ placed_by s name seat (Some new) e h t free seated =
           (get_pushed s.tenants.names new ∙ ap (λ (n : List ℕ). Some n) seated.0));
     }
 
-pub placed : (s : State) (name : List ℕ) (seat : Seat) → IsState s → IsSeat s.tenants s.limits.window name seat → IsPlaced s name seat
+pub placed : (s : State) (name : List ℕ) (seat : Seat) → HasHistory s → IsSeat s.tenants s.limits.window name seat → IsPlaced s name seat
 placed s name seat h p = placed_by s name seat seat.newcomer refl h p.tenants p.free p.seated
 
 -- a stranger is one for the machine
-pub stranger : (s : State) (name : List ℕ) → IsState s → IsStranger s.tenants name → IsNoTenant (s.tenants.names ++ []) (machine_in s) name
+pub stranger : (s : State) (name : List ℕ) → HasHistory s → IsStranger s.tenants name → IsNoTenant (s.tenants.names ++ []) (machine_in s) name
 stranger s name h p =
     let many = h.stands.names.many in
     record {

@@ -1,15 +1,17 @@
 -- A state with an entry more stands for its longer journal.
-use Rattle.std.proofs.Common.{◌≡◌, ℕ, ◌+◌, ◌<◌, ◌≤◌, map, false, true, nat_le, Option, List, [], ◌∷◌, ◌++◌, length, sym, ap, ◌∙◌, arith, subst}
+use Rattle.std.proofs.Common.{◌≡◌, ℕ, ◌+◌, ◌<◌, ◌≤◌, map, false, true, nat_le, Option, List, [], ◌∷◌, ◌++◌, length, sym, ap, ◌∙◌, arith, subst, vec_capacity}
 use Rattle.std.proofs.lemmas.Bool.Decides.{nat_tests}
 use Rattle.std.proofs.lemmas.List.{length-map}
 use Rattle.pf_base.specs.declared.plain.By.{By}
 use Rattle.pf_base.specs.declared.plain.Limits.{Limits}
-use Rattle.pf_journal.specs.Legal.{Legal, machine_after}
+use Rattle.pf_journal.specs.Legal.{AreNames, Legal, machine_after}
 use Rattle.pf_journal.specs.Machine.{Allowed, Entry, Machine, What, next, open_at, started}
-use Rattle.pf_core.specs.Cores.{AreLimits, Enters, HasRoomFor, IsFull, Stands}
+use Rattle.pf_query.specs.declared.job.Job.{Job}
+use Rattle.pf_core.specs.Cores.{AreLimits, Enters, HasRoomFor, IsFull}
 use Rattle.pf_core.specs.Entries.{entry_of}
+use Rattle.pf_core.specs.Jobs.{by_tenant}
 use Rattle.pf_core.specs.Seats.{AreApart, TenantsData}
-use Rattle.pf_core.specs.States.{IsSame, IsState, Keeps, Steps, core_of, kept_in, machine_in, IsKept}
+use Rattle.pf_core.specs.States.{HasHistory, IsSame, Keeps, Steps, core_of, kept_in, machine_in, progress_of, IsKept}
 use Rattle.pf_core.specs.declared.query.Query.{Query}
 use Rattle.pf_core.specs.declared.state.State.{State}
 use Rattle.pf_core.proofs.Keeping.{legal_push}
@@ -24,7 +26,7 @@ counted s =
     omega (arith, n, m)
 
 -- where a test of room fails, the journal is full
-pub is_full : (s : State) (n : ℕ) → IsState s → nat_le (length s.journal.items + s.reserved + n) s.limits.journal ≡ false → IsFull (core_of s) n
+pub is_full : (s : State) (n : ℕ) → HasHistory s → nat_le (length s.journal.items + s.reserved + n) s.limits.journal ≡ false → IsFull (core_of s) n
 is_full s n h t =
     let c = counted s in
     let r = h.keeps.keeps_room in
@@ -32,7 +34,7 @@ is_full s n h t =
     omega (arith, c, r, over)
 
 -- where it succeeds, so many entries find room
-pub room_for : (s : State) (n : ℕ) → IsState s → nat_le (length s.journal.items + s.reserved + n) s.limits.journal ≡ true → HasRoomFor (core_of s) n
+pub room_for : (s : State) (n : ℕ) → HasHistory s → nat_le (length s.journal.items + s.reserved + n) s.limits.journal ≡ true → HasRoomFor (core_of s) n
 room_for s n h t =
     let c = counted s in
     let r = h.keeps.keeps_room in
@@ -43,7 +45,18 @@ room_for s n h t =
 
 pub same_core : (old new : State) → IsSame old new → core_of new ≡ core_of old
 same_core old new e =
-    λ i. record { limits = e.limits i; names = (e.tenants i).names; journal = map entry_of (e.journal i) }
+    λ i. record {
+      limits = e.limits i;
+      names = (e.tenants i).names;
+      journal = map entry_of (e.journal i);
+      progress = progress_of (machine_after started (map entry_of (e.journal i))).queries (λ q. e.jobs.table.entries q i);
+      queues = by_tenant (λ u. record {
+        waiting = map (λ (j : Job). j.head) ((e.jobs.table.queues.queues u).waiting i);
+        hands = (e.jobs.table.queues.queues u).hands i;
+      });
+      ring = e.jobs.table.queues.ring i;
+      failed = (e.jobs.failed i).items;
+    }
 
 keeps_alike : (l : Limits) (t : TenantsData) (kept other : ℕ → Option Query) (room : ℕ) (m : Machine)
     → ((place : ℕ) → other place ≡ kept place) → Keeps l t kept room m → Keeps l t other room m
@@ -64,21 +77,33 @@ keeps_as l k t u kept other room space m n el et e er em h =
     (subst (λ (x : ℕ). Keeps l t other x n) (sym er)
     (subst (λ (x : Machine). Keeps l t other room x) (sym em) (keeps_alike l t kept other room m e h))))
 
-pub same_state : (old new : State) → IsState old → IsSame old new → IsState new
-same_state old new h e =
-    let many : length new.journal.items ≡ length old.journal.items = ap length e.journal in
+-- all but room in memory and the table is as it was
+pub history_as : (old new : State) → HasHistory old → new.limits ≡ old.limits → new.tenants ≡ old.tenants → ((place : ℕ) → kept_in new place ≡ kept_in old place)
+    → new.reserved ≡ old.reserved → new.journal.items ≡ old.journal.items → vec_capacity old.journal ≤ vec_capacity new.journal → HasHistory new
+history_as old new h limits tenants queries reserved journal wider =
+    let many : length new.journal.items ≡ length old.journal.items = ap length journal in
     let fits = h.fits in
     let capacity = h.capacity in
-    let wider = e.capacity in
-    let reserved = e.reserved in
-    let most : new.limits.journal ≡ old.limits.journal = ap (λ (l : Limits). l.journal) e.limits in
+    let most : new.limits.journal ≡ old.limits.journal = ap (λ (l : Limits). l.journal) limits in
+    let entries : map entry_of new.journal.items ≡ map entry_of old.journal.items = ap (map entry_of) journal in
+    let names : new.tenants.names ≡ old.tenants.names = ap (λ (t : TenantsData). t.names) tenants in
     record {
-      stands = subst Stands (sym (same_core old new e)) h.stands;
+      stands = record {
+        limits = subst AreLimits (sym limits) h.stands.limits;
+        legal = subst (λ (l : Limits). Legal l new.tenants.names (map entry_of new.journal.items)) (sym limits)
+            (subst (λ (ns : List (List ℕ)). Legal old.limits ns (map entry_of new.journal.items)) (sym names)
+            (subst (λ (es : List Entry). Legal old.limits old.tenants.names es) (sym entries) h.stands.legal));
+        names = subst (λ (ns : List (List ℕ)). AreNames ns (map entry_of new.journal.items)) (sym names)
+            (subst (λ (es : List Entry). AreNames old.tenants.names es) (sym entries) h.stands.names);
+      };
       keeps = keeps_as old.limits new.limits old.tenants new.tenants (kept_in old) (kept_in new) old.reserved new.reserved (machine_in old) (machine_in new)
-          e.limits e.tenants e.queries e.reserved (ap (λ (js : List _). machine_after started (map entry_of js)) e.journal) h.keeps;
+          limits tenants queries reserved (ap (λ (js : List _). machine_after started (map entry_of js)) journal) h.keeps;
       fits = omega (arith, many, fits, reserved, most);
       capacity = omega (arith, many, capacity, wider, reserved);
     }
+
+pub same_history : (old new : State) → HasHistory old → IsSame old new → HasHistory new
+same_history old new h e = history_as old new h e.limits e.tenants e.queries e.reserved e.journal e.capacity
 
 -- ---- an entry that is allowed, after which all is kept
 
@@ -88,14 +113,14 @@ pub behind : (old new : State) (by : By) (what : What)
 behind old new by what journal = ap (machine_after started) journal ∙ after_push started (map entry_of old.journal.items) _
 
 pub stepped : (old new : State) (by : By) (what : What) (t : TenantsData) (kept : ℕ → Option Query) (room : ℕ) (more : List (List ℕ))
-    → IsState old → Steps old by what t kept room new
+    → HasHistory old → Steps old by what t kept room new
     → t.names ≡ old.tenants.names ++ more
     → length t.names ≡ length (next (machine_in old) what).logs
     → AreApart t.names
     → Allowed old.limits (old.tenants.names ++ more) (machine_in old) what
     → Keeps old.limits t kept room (next (machine_in old) what)
     → length old.journal.items + 1 + room ≤ old.limits.journal
-    → IsState new × Enters (core_of old) by what (core_of new)
+    → HasHistory new × Enters (core_of old) by what (core_of new)
 stepped old new by what t kept room more h s grown many apart allowed keeps fits =
     let m = machine_in old in
     let J = map entry_of old.journal.items in

@@ -1,9 +1,10 @@
 -- How a core is told from others where a proof compares two: this project's own.
-use Rattle.std.specs.Prelude.{◌≡◌, ◌⊎◌, ℕ, ℤ, pos, cond, nat_eq, Option, List, refl}
-use Rattle.std.specs.Coded.{Coded, code_by, coded×, coded⊎, coded_list, coded_option, coded_ℕ, coded_ℤ}
+use Rattle.std.specs.Prelude.{◌≡◌, ◌⊎◌, ℕ, ℤ, pos, Bool, cond, nat_eq, Option, List, refl}
+use Rattle.std.specs.Coded.{Coded, code_by, coded×, coded⊎, coded_bool, coded_list, coded_option, coded_ℕ, coded_ℤ}
 use mathlib.Core.Logic.{inl, inr}
 use Rattle.pf_base.specs.Batches.{BatchData}
 use Rattle.pf_base.specs.LabelSets.{Pairs}
+use Rattle.pf_base.specs.declared.plain.JobHead.{JobHead}
 use Rattle.pf_base.specs.declared.plain.Limits.{Limits}
 use Rattle.pf_base.specs.declared.plain.Row.{Row}
 use Rattle.pf_journal.specs.Asking.{Asked}
@@ -12,7 +13,12 @@ use Rattle.pf_model.specs.Log.{Verdict, taken, too_old, repeated, differs}
 use Rattle.pf_model.specs.TreeCode.{bytes_code, matchers_code}
 use Rattle.pf_model.specs.declared.expr.Matcher.{Matcher}
 use Rattle.pf_query.specs.Codes.{asked_code}
+use Rattle.pf_query.specs.declared.job.Hand.{Hand}
+use Rattle.pf_query.specs.declared.stop.Stop.{Stop}
+use Rattle.pf_query.specs.declared.stop.Stop.TheVariants.{Cancelled, Exhausted, Starved}
 use Rattle.pf_core.specs.Cores.{CoreData}
+use Rattle.pf_core.specs.Jobs.{QueueHeads}
+use Rattle.pf_core.specs.Progress.{QueryProgress}
 
 abbrev pub row_code : Coded Row
 row_code =
@@ -109,7 +115,49 @@ limits_code =
     (λ p. record { outstanding = p.0; window = p.1.0; interval = p.1.1.0; shards = p.1.1.1.0; extents = p.1.1.1.1.0; journal = p.1.1.1.1.1 })
     (λ _. refl)
 
+abbrev pub head_code : Coded JobHead
+head_code =
+    code_by (ℕ × (ℕ × (ℕ × (ℕ × (ℕ × (ℕ × ℕ))))))
+    (coded× coded_ℕ (coded× coded_ℕ (coded× coded_ℕ (coded× coded_ℕ (coded× coded_ℕ (coded× coded_ℕ coded_ℕ))))))
+    (λ h. (h.tenant, (h.query, (h.job, (h.leg, (h.first, (h.last, h.tries)))))))
+    (λ p. record { tenant = p.0; query = p.1.0; job = p.1.1.0; leg = p.1.1.1.0; first = p.1.1.1.1.0; last = p.1.1.1.1.1.0; tries = p.1.1.1.1.1.1 })
+    (λ _. refl)
+
+abbrev pub hand_code : Coded Hand
+hand_code = code_by (JobHead × ℕ) (coded× head_code coded_ℕ) (λ h. (h.head, h.actor)) (λ p. record { head = p.0; actor = p.1 }) (λ _. refl)
+
+abbrev pub queue_code : Coded QueueHeads
+queue_code =
+    code_by (List JobHead × List Hand) (coded× (coded_list head_code) (coded_list hand_code)) (λ q. (q.waiting, q.hands))
+    (λ p. record { waiting = p.0; hands = p.1 }) (λ _. refl)
+
+abbrev pub stop_parts : Stop → ℕ × ℕ
+stop_parts (Cancelled place) = (0, place)
+stop_parts (Exhausted job) = (1, job)
+stop_parts Starved = (2, 0)
+
+abbrev pub stop_from : ℕ × ℕ → Stop
+stop_from p = cond (nat_eq p.0 0) (Cancelled p.1) (cond (nat_eq p.0 1) (Exhausted p.1) Starved)
+
+pub stop_back : (s : Stop) → stop_from (stop_parts s) ≡ s
+stop_back (Cancelled place) = refl
+stop_back (Exhausted job) = refl
+stop_back Starved = refl
+
+abbrev pub stop_code : Coded Stop
+stop_code = code_by (ℕ × ℕ) (coded× coded_ℕ coded_ℕ) stop_parts stop_from stop_back
+
+abbrev pub progress_code : Coded QueryProgress
+progress_code =
+    code_by (ℕ × (Option Stop × (Bool × Bool))) (coded× coded_ℕ (coded× (coded_option stop_code) (coded× coded_bool coded_bool)))
+    (λ p. (p.query, (p.stop, (p.planned, p.given))))
+    (λ p. record { query = p.0; stop = p.1.0; planned = p.1.1.0; given = p.1.1.1 })
+    (λ _. refl)
+
 abbrev pub core_code : Coded CoreData
 core_code =
-    code_by (Limits × (List (List ℕ) × List Entry)) (coded× limits_code (coded× (coded_list bytes_code) (coded_list entry_code)))
-    (λ c. (c.limits, (c.names, c.journal))) (λ p. record { limits = p.0; names = p.1.0; journal = p.1.1 }) (λ _. refl)
+    code_by (Limits × (List (List ℕ) × (List Entry × (List QueryProgress × (List QueueHeads × (List ℕ × List ℕ))))))
+    (coded× limits_code (coded× (coded_list bytes_code) (coded× (coded_list entry_code) (coded× (coded_list progress_code) (coded× (coded_list queue_code) (coded× (coded_list coded_ℕ) (coded_list coded_ℕ)))))))
+    (λ c. (c.limits, (c.names, (c.journal, (c.progress, (c.queues, (c.ring, c.failed)))))))
+    (λ p. record { limits = p.0; names = p.1.0; journal = p.1.1.0; progress = p.1.1.1.0; queues = p.1.1.1.1.0; ring = p.1.1.1.1.1.0; failed = p.1.1.1.1.1.1 })
+    (λ _. refl)

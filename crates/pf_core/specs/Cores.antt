@@ -1,16 +1,26 @@
--- A core as contracts see it: its limits, its tenants' names and its journal, and what its calls leave. This project's own.
+-- A core as contracts see it: its limits, its tenants' names and its journal, the jobs of its tenants and the failed tries of its
+-- actors, and what its calls leave. This project's own.
 use Rattle.std.specs.Arc.{arc_value}
-use Rattle.std.specs.Prelude.{◌≡◌, ℕ, ◌+◌, ◌<◌, ◌≤◌, Option, Some, None, List, [], ◌∷◌, ◌++◌, length, slice_get}
+use Rattle.std.specs.Prelude.{◌≡◌, ℕ, ◌+◌, ◌*◌, ◌<◌, ◌≤◌, ◌⊎◌, true, not, cond, Option, Some, None, List, [], ◌∷◌, ◌++◌, filter, length, slice_get, slice_index_or, sum}
 use Rattle.pf_base.specs.Batches.{BatchData}
 use Rattle.pf_base.specs.declared.plain.By.{By}
+use Rattle.pf_base.specs.declared.plain.JobHead.{JobHead}
 use Rattle.pf_base.specs.declared.plain.Limits.{Limits}
 use Rattle.pf_journal.specs.Asking.{Asked}
 use Rattle.pf_journal.specs.Legal.{AreNames, Legal, machine_after}
-use Rattle.pf_journal.specs.Machine.{Entry, Machine, Open, What, append, ask, cancel, delete, full, no_tenant, open_at, reserved, started}
+use Rattle.pf_journal.specs.Machine.{Entry, Machine, Open, What, append, ask, cancel, delete, full, no_tenant, most_tenants, open_at, reserved, started}
 use Rattle.pf_model.specs.declared.expr.Matcher.{Matcher}
+use Rattle.pf_query.specs.Jobs.{is_empty, is_other_hand}
+use Rattle.pf_query.specs.Tables.{hands_with}
+use Rattle.pf_journal.specs.Weave.{failed_answers}
+use Rattle.pf_query.specs.declared.job.Hand.{Hand}
+use Rattle.pf_query.specs.declared.stop.Stop.TheVariants.{Cancelled}
+use Rattle.pf_queue.specs.Rings.{AreDifferent, waits, without}
 use Rattle.pf_store.specs.Standing.{IsPin, PinData}
 use Rattle.pf_store.specs.Verdicts.{VerdictsData}
 use Rattle.pf_store.specs.declared.tenant_log.Deleted.{Deleted}
+use Rattle.pf_core.specs.Jobs.{QueueHeads, by_tenant, heads_with, is_other_head, no_failures, no_heads, tried_in, tries_in}
+use Rattle.pf_core.specs.Progress.{GoesWith, QueryProgress, begun, cancel_in, exhausted_in, progress_at, stopped, with_progress, without_progress}
 use Rattle.pf_core.specs.declared.error.AskError.{AskError}
 use Rattle.pf_core.specs.declared.error.AskError.TheVariants as ask_error
 use Rattle.pf_core.specs.declared.error.CoreError.{CoreError}
@@ -20,11 +30,36 @@ use Rattle.pf_core.specs.declared.answers.CancelAnswer.{CancelAnswer}
 use Rattle.pf_core.specs.declared.answers.CancelAnswer.TheVariants.{Done, NotOutstanding, OtherTenant, Already}
 use Rattle.pf_core.specs.declared.answers.Opened.{Opened}
 
--- the names stand by number
+-- the names and the queues stand by tenant, the counts of failed tries by actor; how far the work on open queries is stands in the
+-- order of their asks; the ring has the tenants whose jobs wait, in the order in which they are served
 pub record CoreData : Type 0 where
   pub limits : Limits
   pub names : List (List ℕ)
   pub journal : List Entry
+  pub progress : List QueryProgress
+  pub queues : List QueueHeads
+  pub ring : List ℕ
+  pub failed : List ℕ
+
+-- a core in which nothing was done
+abbrev pub started_core : Limits → CoreData
+started_core l =
+    record { limits = l; names = []; journal = []; progress = []; queues = by_tenant (λ _. no_heads); ring = []; failed = no_failures }
+
+-- a tenant's queue
+abbrev pub queue_at : CoreData → ℕ → QueueHeads
+queue_at c u = slice_index_or c.queues u no_heads
+
+-- how many jobs of a query wait, and how many are in hand
+abbrev pub queued_of : CoreData → (tenant query : ℕ) → ℕ
+queued_of c u query = heads_with query (queue_at c u).waiting
+
+abbrev pub in_hand_of : CoreData → (tenant query : ℕ) → ℕ
+in_hand_of c u query = hands_with query (queue_at c u).hands
+
+-- how often the jobs that wait may be tried still, all together
+abbrev pub tries_left : CoreData → ℕ
+tries_left c = tries_in c.queues
 
 -- the machine behind the journal
 abbrev pub machine_of : CoreData → Machine
@@ -37,13 +72,34 @@ most_entries = 4000000
 -- the limits that a core has
 pub record AreLimits (l : Limits) : Type 0 where
   pub some : 1 ≤ l.outstanding
+  pub interval : 1000 ≤ l.interval
   pub bounded : l.journal ≤ most_entries
 
--- what every core keeps: its journal is legal, and its names are those of the known tenants, all different
+-- each tenant with a job that waits is in the ring once, and no other is
+pub record AreServed (c : CoreData) : Type 0 where
+  pub in_ring : (u : ℕ) → waits u c.ring ≡ not (is_empty (queue_at c u).waiting)
+  pub different : AreDifferent c.ring
+  pub known : (u : ℕ) → waits u c.ring ≡ true → u < most_tenants
+
+-- how often jobs that wait or are in hand were tried, and five tries for each open query that one of its jobs stopped
+abbrev pub open_tries : CoreData → ℕ
+open_tries c = tried_in c.queues + 5 * exhausted_in c.progress
+
+-- the failed tries are at least five for each answer with 500 and those of jobs of open queries, unless their total stands at its
+-- greatest value
+abbrev pub AreCovered : CoreData → Type 0
+AreCovered c = (sum c.failed ≡ 18446744073709551615) ⊎ (5 * failed_answers c.journal + open_tries c ≤ sum c.failed)
+
+-- what every core keeps: its journal is legal, its names are those of the known tenants, all different, the tenants are served in
+-- turn, there are 32 actors, and their failed tries cover what is told of them
 pub record Stands (c : CoreData) : Type 0 where
   pub limits : AreLimits c.limits
   pub legal : Legal c.limits c.names c.journal
   pub names : AreNames c.names c.journal
+  pub served : AreServed c
+  pub actors : length c.failed ≡ 32
+  pub progressing : GoesWith (machine_of c).queries c.progress
+  pub covered : AreCovered c
 
 -- so many entries more find room beside those that open queries keep
 abbrev pub HasRoomFor : CoreData → ℕ → Type 0
@@ -113,6 +169,12 @@ pub record IsOpened (c : CoreData) (query : ℕ) (o : Opened) : Type 0 where
   pub asked : opened.asked ≡ arc_value o.asked.now
   pub pinned : IsPin o.pin.now c.limits.window opened.log
   pub cancelled : opened.cancelled ≡ o.cancelled
+  pub far : QueryProgress
+  pub is_far : progress_at query c.progress ≡ Some far
+  pub planned : far.planned ≡ o.planned
+  pub stop : far.stop ≡ o.stop
+  -- a stop by a cancel is that of the machine
+  pub by_cancel : cancel_in o.stop ≡ opened.cancelled
 
 -- a query is open, and its tenant has this name
 pub record IsOwned (c : CoreData) (query : ℕ) (tenant : List ℕ) (cancelled : Option ℕ) : Type 0 where
@@ -136,3 +198,60 @@ IsCancelled old by query tenant Done new = IsOwned old query tenant None × Ente
 IsCancelled old by query tenant NotOutstanding new = (open_at query (machine_of old).queries ≡ None) × (new ≡ old)
 IsCancelled old by query tenant (OtherTenant owner) new = IsOthers old query tenant owner × (new ≡ old)
 IsCancelled old by query tenant (Already place) new = IsOwned old query tenant (Some place) × (new ≡ old)
+
+-- ---- jobs
+
+-- no job and no count is changed
+pub record AreSameJobs (old new : CoreData) : Type 0 where
+  pub queues : new.queues ≡ old.queues
+  pub ring : new.ring ≡ old.ring
+  pub failed : new.failed ≡ old.failed
+
+-- nor is how far queries are
+abbrev pub AreSameWork : CoreData → CoreData → Type 0
+AreSameWork old new = AreSameJobs old new × (new.progress ≡ old.progress)
+
+-- the work on a query that was just asked is not begun
+abbrev pub AreBegun : CoreData → ℕ → CoreData → Type 0
+AreBegun old query new = AreSameJobs old new × (new.progress ≡ old.progress ++ begun query ∷ [])
+
+-- the limits, the names and the journal are as they were
+pub record IsSameHistory (old new : CoreData) : Type 0 where
+  pub limits : new.limits ≡ old.limits
+  pub names : new.names ≡ old.names
+  pub journal : new.journal ≡ old.journal
+
+-- a tenant's queue and the ring are these, and the other queues are as they were
+pub record HasQueue (old : CoreData) (u : ℕ) (queue : QueueHeads) (ring : List ℕ) (new : CoreData) : Type 0 where
+  pub here : queue_at new u ≡ queue
+  pub others : (v : ℕ) → (v ≡ u → ⊥) → queue_at new v ≡ queue_at old v
+  pub ring_is : new.ring ≡ ring
+
+-- the jobs of other queries that wait
+abbrev pub others_waiting : CoreData → ℕ → ℕ → List JobHead
+others_waiting c u query = filter (is_other_head query) (queue_at c u).waiting
+
+-- the ring once a tenant has these jobs that wait
+abbrev pub ring_left : List ℕ → ℕ → List JobHead → List ℕ
+ring_left ring u waiting = cond (is_empty waiting) (without u ring) ring
+
+-- none of a query's jobs waits any more, and these of its tenant's jobs are in hand
+abbrev pub IsLeft : CoreData → (u query : ℕ) → List Hand → CoreData → Type 0
+IsLeft old u query hands new =
+    HasQueue old u (record { waiting = others_waiting old u query; hands = hands }) (ring_left old.ring u (others_waiting old u query)) new
+
+-- the jobs once a query was cancelled: none of it waits any more
+abbrev pub AreCancelled : CoreData → ℕ → CancelAnswer → CoreData → Type 0
+AreCancelled old query Done new =
+    ((o : Open) → open_at query (machine_of old).queries ≡ Some o → IsLeft old o.tenant query (queue_at old o.tenant).hands new)
+    × ((new.failed ≡ old.failed) × (new.progress ≡ with_progress query (stopped (Cancelled (machine_of old).count)) old.progress))
+AreCancelled old query NotOutstanding new = AreSameWork old new
+AreCancelled old query (OtherTenant owner) new = AreSameWork old new
+AreCancelled old query (Already place) new = AreSameWork old new
+
+-- the jobs once a query was answered: none of it waits or is in hand any more
+pub record AreClosed (old : CoreData) (query : ℕ) (new : CoreData) : Type 0 where
+  pub left : (o : Open) → open_at query (machine_of old).queries ≡ Some o
+      → IsLeft old o.tenant query (filter (is_other_hand query) (queue_at old o.tenant).hands) new
+  pub failed : new.failed ≡ old.failed
+  pub progress : new.progress ≡ without_progress query old.progress

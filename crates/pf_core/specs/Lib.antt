@@ -1,5 +1,9 @@
+pub mod Asks
+pub mod Calls
 pub mod Codes
 pub mod Cores
 pub mod Entries
+pub mod Jobs
+pub mod Progress
 pub mod Seats
 pub mod States

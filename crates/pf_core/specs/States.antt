@@ -1,21 +1,34 @@
 -- What a core keeps beside its journal, and how its steps change it. This project's own.
 use Rattle.std.specs.Arc.{arc_value}
 use Rattle.std.specs.HashMap.{get}
-use Rattle.std.specs.Prelude.{◌≡◌, ℕ, ◌+◌, ◌-◌, ◌<◌, ◌≤◌, cond, map, nat_eq, Option, Some, None, List, [], ◌∷◌, ◌++◌, length, slice_get, vec_capacity}
+use Rattle.std.specs.Prelude.{◌≡◌, ◌⊎◌, ℕ, ◌+◌, ◌-◌, ◌*◌, ◌<◌, ◌≤◌, cond, map, nat_eq, IfSome, Option, Some, None, List, [], ◌∷◌, ◌++◌, length, slice_get, sum, vec_capacity}
 use Rattle.pf_base.specs.Batches.{BatchData}
+use Rattle.pf_base.specs.GridLists.{GridData}
 use Rattle.pf_base.specs.declared.plain.By.{By}
 use Rattle.pf_base.specs.declared.plain.Limits.{Limits}
 use Rattle.pf_journal.specs.Asking.{Asked}
-use Rattle.pf_journal.specs.Legal.{machine_after}
+use Rattle.pf_journal.specs.Legal.{AreNames, Legal, machine_after}
+use Rattle.pf_journal.specs.Machine as machine
+use Rattle.pf_journal.specs.Weave.{failed_answers}
 use Rattle.pf_journal.specs.Machine.{Machine, Open, What, append, ask, cancel, delete, log_of, open_at, open_of, reserved, started}
 use Rattle.pf_model.specs.Lists.{Each}
-use Rattle.pf_model.specs.Log.{Change, log_with, log_without, verdicts_of}
+use Rattle.pf_model.specs.Log.{Change, log_with, log_without, store_of, verdicts_of}
 use Rattle.pf_model.specs.declared.expr.Matcher.{Matcher}
+use Rattle.pf_shard.specs.declared.parts.Part.{Part}
+use Rattle.pf_query.specs.Entries.{is_given_out, is_planned}
+use Rattle.pf_query.specs.Tables.{EntryData, IsClosed, IsSameTable, IsTable, entry_in, hands_of, ring_of, waiting_of}
+use Rattle.pf_query.specs.Works.{WorkData}
+use Rattle.pf_query.specs.declared.job.Job.{Job}
+use Rattle.pf_query.specs.declared.slot.Slot.TheVariants.{Filled}
+use Rattle.pf_query.specs.declared.table.Table.{Table}
+use Rattle.pf_shard.specs.Lawful.{legs_data}
 use Rattle.pf_store.specs.Standing.{IsLog, IsPin, LogData, deleted_after, verdicts_after}
 use Rattle.pf_store.specs.Verdicts.{VerdictsData}
 use Rattle.pf_store.specs.declared.tenant_log.Deleted.{Deleted}
-use Rattle.pf_core.specs.Cores.{CoreData, Stands}
+use Rattle.pf_core.specs.Cores.{AreLimits, CoreData, Stands, open_tries}
 use Rattle.pf_core.specs.Entries.{entry_of, what_of}
+use Rattle.pf_core.specs.Jobs.{AreRunsOf, IsForAsk, IsValueOver, QueueHeads, by_tenant}
+use Rattle.pf_core.specs.Progress.{QueryProgress, begun, cancel_in}
 use Rattle.pf_core.specs.Seats.{TenantsData, counted_as, settled}
 use Rattle.pf_core.specs.declared.query.Query.{Query}
 use Rattle.pf_core.specs.declared.state.Opening.{Opening}
@@ -79,22 +92,126 @@ pub record Keeps (l : Limits) (t : TenantsData) (kept : ℕ → Option Query) (r
 abbrev pub kept_in : State → ℕ → Option Query
 kept_in s place = get nat_eq s.queries place
 
-abbrev pub core_of : State → CoreData
-core_of s = record { limits = s.limits; names = s.tenants.names; journal = map entry_of s.journal.items }
+-- what is said of a tenant's jobs
+abbrev pub heads_in : Table → ℕ → QueueHeads
+heads_in t u = record { waiting = map (λ j. j.head) (waiting_of t u); hands = hands_of t u }
+
+-- how far the work on a query is, by what the table keeps of it
+abbrev pub far_of : ℕ → Option EntryData → QueryProgress
+far_of query None = begun query
+far_of query (Some e) = record { query = query; stop = e.stop; planned = is_planned e.work; given = is_given_out e.work }
+
+-- and on each of these open queries
+abbrev pub progress_of : List Open → (ℕ → Option EntryData) → List QueryProgress
+progress_of qs entries = map (λ o. far_of o.place (entries o.place)) qs
 
 abbrev pub machine_in : State → Machine
 machine_in s = machine_after started (map entry_of s.journal.items)
+
+abbrev pub core_of : State → CoreData
+core_of s = record {
+  limits = s.limits;
+  names = s.tenants.names;
+  journal = map entry_of s.journal.items;
+  progress = progress_of (machine_in s).queries (entry_in s.table);
+  queues = by_tenant (heads_in s.table);
+  ring = ring_of s.table;
+  failed = s.failed.items;
+}
 
 -- the entries have room in memory for what open queries keep
 abbrev pub HasCapacity : State → Type 0
 HasCapacity s = length s.journal.items + s.reserved ≤ vec_capacity s.journal
 
+-- a journal is legal, and names are those of its tenants
+pub record IsLegal (c : CoreData) : Type 0 where
+  pub limits : AreLimits c.limits
+  pub legal : Legal c.limits c.names c.journal
+  pub names : AreNames c.names c.journal
+
 -- a state stands for its journal, whose entries have room for what open queries keep
-pub record IsState (s : State) : Type 0 where
-  pub stands : Stands (core_of s)
+pub record HasHistory (s : State) : Type 0 where
+  pub stands : IsLegal (core_of s)
   pub keeps : Keeps s.limits s.tenants (kept_in s) s.reserved (machine_in s)
   pub fits : length s.journal.items + s.reserved ≤ s.limits.journal
   pub capacity : HasCapacity s
+
+-- ---- jobs
+
+-- what is kept of a planned query: its legs are one leg of what was asked, its runs are the steps of its grid, and each part that is
+-- stored is the leg's value over the part's run
+pub record IsWorkOf (window : ℕ) (o : Open) (w : WorkData) : Type 0 where
+  pub query : w.legs.resolved.query ≡ o.asked.query.tree
+  pub whole : w.legs.nodes ≡ []
+  pub runs : AreRunsOf o.asked.query.grid w.runs
+  pub values : (i : ℕ) (run : GridData) (part : Part) → slice_get w.runs i ≡ Some run → slice_get w.slots i ≡ Some (Filled part)
+      → IsValueOver (store_of window o.log).samples (legs_data w.legs) 0 run part
+
+-- what the table keeps of an open query
+pub record IsEntryOf (window : ℕ) (o : Open) (e : EntryData) : Type 0 where
+  pub tenant : e.tenant ≡ o.tenant
+  pub stop : cancel_in e.stop ≡ o.cancelled
+  pub work : IfSome e.work (IsWorkOf window o)
+
+-- the table keeps an entry of each open query, and of no other
+abbrev pub IsOutstanding : ℕ → Option Open → Option EntryData → Type 0
+IsOutstanding window None None = Unit {0}
+IsOutstanding window None (Some e) = ⊥
+IsOutstanding window (Some o) None = ⊥
+IsOutstanding window (Some o) (Some e) = IsEntryOf window o e
+
+abbrev pub JobStands : List machine.Entry → ℕ → Job → Type 0
+JobStands journal window j = IsForAsk journal window j.head (arc_value j.legs) j.run (arc_value j.snap)
+
+-- what the table keeps goes with the open queries, and each job that waits is one of its query's
+pub record AreJobs (journal : List machine.Entry) (window : ℕ) (qs : List Open) (entries : ℕ → Option EntryData) (waiting : ℕ → List Job) : Type 0 where
+  pub outstanding : (place : ℕ) → IsOutstanding window (open_at place qs) (entries place)
+  pub waiting_for : (u : ℕ) → Each (JobStands journal window) (waiting u)
+
+-- the counts of failed tries
+pub record AreCounts (failed : List ℕ) (total : ℕ) : Type 0 where
+  pub actors : length failed ≡ 32
+  pub summed : sum failed ≡ total
+
+-- a failed try more is counted than is told of jobs, unless the total stands at its greatest value
+abbrev pub IsAhead : CoreData → Type 0
+IsAhead c = (sum c.failed ≡ 18446744073709551615) ⊎ (5 * failed_answers c.journal + open_tries c + 1 ≤ sum c.failed)
+
+-- a state stands for its journal, and its table for the open queries
+pub record IsState (s : State) : Type 0 where
+  pub stands : Stands (core_of s)
+  pub history : HasHistory s
+  pub table : IsTable s.table
+  pub jobs : AreJobs (map entry_of s.journal.items) s.limits.window (machine_in s).queries (entry_in s.table) (waiting_of s.table)
+  pub counts : AreCounts s.failed.items s.total
+
+-- the table and the counts are as they were
+pub record KeepsJobs (old new : State) : Type 0 where
+  pub table : new.table ≡ old.table
+  pub failed : new.failed ≡ old.failed
+  pub total : new.total ≡ old.total
+
+-- the counts of failed tries are as they were
+pub record KeepsFailures (old new : State) : Type 0 where
+  pub failed : new.failed ≡ old.failed
+  pub total : new.total ≡ old.total
+
+-- all but the table and the counts is as it was
+pub record KeepsHistory (old new : State) : Type 0 where
+  pub limits : new.limits ≡ old.limits
+  pub tenants : new.tenants ≡ old.tenants
+  pub queries : new.queries ≡ old.queries
+  pub reserved : new.reserved ≡ old.reserved
+  pub journal : new.journal ≡ old.journal
+
+-- the table is as it was, as far as contracts see it
+pub record IsSameJobs (old new : State) : Type 0 where
+  pub table : IsSameTable old.table new.table
+  pub lawful : IsTable old.table → IsTable new.table
+  pub failed : new.failed ≡ old.failed
+  pub total : new.total ≡ old.total
+
+-- ---- what steps leave
 
 -- nothing changed but room in memory
 pub record IsSame (old new : State) : Type 0 where
@@ -104,6 +221,7 @@ pub record IsSame (old new : State) : Type 0 where
   pub reserved : new.reserved ≡ old.reserved
   pub journal : new.journal.items ≡ old.journal.items
   pub capacity : vec_capacity old.journal ≤ vec_capacity new.journal
+  pub jobs : IsSameJobs old new
 
 -- an entry stands at the journal's end, and nothing else changed
 pub record IsNoted (old : State) (by : By) (what : What) (new : State) : Type 0 where
@@ -114,6 +232,7 @@ pub record IsNoted (old : State) (by : By) (what : What) (new : State) : Type 0 
   pub journal : map entry_of new.journal.items ≡ map entry_of old.journal.items ++ record { client = by.client; line = by.line; what = what } ∷ []
   pub many : length new.journal.items ≡ length old.journal.items + 1
   pub capacity : vec_capacity new.journal ≡ vec_capacity old.journal
+  pub jobs : KeepsJobs old new
 
 -- a step: an entry, with the tenants, the open queries and the room for these behind it
 pub record Steps (old : State) (by : By) (what : What) (t : TenantsData) (kept : ℕ → Option Query) (room : ℕ) (new : State) : Type 0 where
@@ -184,3 +303,23 @@ pub record IsOpening (seat : Seat) (wanted : Asked) (o : Opening) : Type 0 where
   pub uncancelled : o.query.cancelled ≡ None
   pub pinned : (log : List Change) → IsLog seat.log log → IsPin o.pin seat.log.window log
   pub what : what_of o.what ≡ ask seat.number wanted o.pin.number o.pin.generation o.pin.floor
+
+-- a seat was put in, and nothing else changed
+pub record IsSettledFor (old : State) (seat : Seat) (new : State) : Type 0 where
+  pub limits : new.limits ≡ old.limits
+  pub tenants : new.tenants ≡ settled old.tenants seat.number seat.log seat.newcomer
+  pub queries : new.queries ≡ old.queries
+  pub reserved : new.reserved ≡ old.reserved
+  pub journal : new.journal ≡ old.journal
+  pub jobs : KeepsJobs old new
+
+-- a query ended in the table, and nothing else changed
+pub record IsUnsettled (old : State) (query : ℕ) (new : State) : Type 0 where
+  pub limits : new.limits ≡ old.limits
+  pub tenants : new.tenants ≡ old.tenants
+  pub queries : new.queries ≡ old.queries
+  pub reserved : new.reserved ≡ old.reserved
+  pub journal : new.journal ≡ old.journal
+  pub closed : IsClosed old.table query new.table
+  pub table : IsTable new.table
+  pub failures : KeepsFailures old new

@@ -1,6 +1,6 @@
 //! What calls answer.
 
-use pf_query::Asked;
+use pf_query::{Asked, Stop};
 use pf_store::Pin;
 use std::sync::Arc;
 
@@ -12,13 +12,15 @@ pub struct Admitted {
 }
 
 /// An open query: its tenant's number, the tenant's log as it stood at the ask, what was asked, and the place of its cancel in
-/// the journal, if it was cancelled.
+/// the journal, if it was cancelled; whether it is planned, and why it was stopped, if it was.
 #[derive(Clone, Copy)]
 pub struct Opened<'a> {
     pub tenant: u32,
     pub pin: &'a Pin,
     pub asked: &'a Arc<Asked>,
     pub cancelled: Option<u64>,
+    pub planned: bool,
+    pub stop: Option<Stop>,
 }
 
 /// What is told of a cancel: it was done; no query is open there; another tenant, of this number, asked; or it was cancelled

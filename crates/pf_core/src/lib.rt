@@ -1,14 +1,20 @@
-//! The state that clients share: the tenants with their logs, the open queries, and the journal.
+//! The state that clients share: the tenants with their logs, the open queries with their jobs, and the journal.
 //!
-//! What the layers above use: contracts see a `Core` as its limits, the names of its tenants and its journal, and the journal
-//! machine says the rest. The journal of every core is legal. Each call adds the entry that it says, or leaves the core as it
-//! was; the open queries, with what they pinned, are those of the machine. What an open query needs for its cancel and its
-//! answer is kept at its ask, so these two calls take no memory.
+//! What the layers above use: contracts see a `Core` as its limits, the names of its tenants and its journal, of which the
+//! journal machine says the rest, and beside them what is said of each tenant's jobs, the ring of the tenants that are served in
+//! turn, and the counts of failed tries. The journal of every core is legal. Each call adds the entry that it says, or leaves the
+//! core as it was; the open queries, with what they pinned, are those of the machine. What an open query needs for its cancel and
+//! its answer is kept at its ask, so these two calls take no memory.
+//!
+//! A query that is open goes so: `plan` divides its steps into jobs, `take` hands them to actors in turn, `finish` keeps their
+//! parts, or `fail` lets them wait again, and `collect` hands out all parts once they are there. A part is the value of the query
+//! over the samples that its tenant had at the ask.
 #![tactic(auto)]
 
 mod answers;
 mod entry;
 mod error;
+mod jobs;
 mod query;
 mod session;
 mod state;

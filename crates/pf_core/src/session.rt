@@ -1,11 +1,12 @@
 //! The core, whose journal is legal by its type.
 
 ghost use Rattle.std.specs.Arc.{arc_value};
-ghost use Rattle.std.specs.Prelude.{◌≡◌, ◌≤◌, [], IfErr, IfOk, MatchOption, None, map, slice_get, true};
+ghost use Rattle.std.specs.Prelude.{◌≡◌, ◌<◌, ◌≤◌, IfErr, IfOk, MatchOption, None, Some, map, slice_get, sum, true};
 ghost use Rattle.std.specs.Option.{option_copied};
 ghost use Rattle.pf_block.specs.Snaps.{are_timed};
-ghost use Rattle.pf_journal.specs.Machine.{AnswersOpen, answer, open_at};
-ghost use Rattle.pf_core.specs.Cores.{AreLimits, Enters, IsAppended, IsAsked, IsCancelled, IsDeleted, IsOpened, IsRefused, IsUnasked, Stands, machine_of};
+ghost use Rattle.pf_journal.specs.Machine.{answer, open_at};
+ghost use Rattle.pf_core.specs.Calls.{BindsOpen, IsAnswerable, IsCollected, IsFailed, IsFinished, IsLacked, IsLackedBy, IsPartOf, IsPlanned, IsUnplanned, StandsForAsk, Takes, TriesAfter, evaluated_of};
+ghost use Rattle.pf_core.specs.Cores.{AreBegun, AreCancelled, AreClosed, AreLimits, AreSameWork, Enters, IsAppended, IsAsked, IsCancelled, IsDeleted, IsOpened, IsRefused, IsUnasked, Stands, machine_of, started_core, tries_left};
 ghost use Rattle.pf_core.specs.Entries.{entry_of};
 
 use crate::answers::{Admitted, CancelAnswer, Opened};
@@ -13,8 +14,10 @@ use crate::entry::Entry;
 use crate::error::{AskError, CoreError};
 use crate::state::State;
 use pf_base::{Batch, By, Limits, OutOfMemory, Tenant};
+use pf_block::Snap;
 use pf_model::Matchers;
-use pf_query::Asked;
+use pf_query::{Asked, Collected, FailedTry, Finished, Held, PlanError, Planned};
+use pf_shard::{Legs, Part};
 use pf_store::{Deleted, Verdicts};
 use std::alloc::Global;
 use std::marker::Model;
@@ -45,11 +48,11 @@ impl Core {
     /// No tenants, and an empty journal.
     pub fn open(alloc: Global, limits: Limits) -> Result<Core, OutOfMemory>
         requires { AreLimits limits }
-        ensures core { IfOk result (λ c. c ≡ record { limits = limits; names = []; journal = [] }) }
+        ensures core { IfOk result (λ c. c ≡ started_core limits) }
         ensures stands { IfOk result Stands }
     {
         Ok(Core {
-            state: State::new(alloc, limits),
+            state: State::new(alloc, limits)?,
         })
     }
 
@@ -62,6 +65,7 @@ impl Core {
     ) -> Result<Arc<Verdicts>, CoreError>
         requires timed { are_timed (arc_value batch).rows ≡ true }
         ensures stands { Stands self.new }
+        ensures jobs { AreSameWork self.old self.new }
         ensures ok { IfOk result (λ v. IsAppended self.old by tenant.now (arc_value batch) (arc_value v) self.new) }
         ensures err { IfErr result (λ e. IsRefused self.old by tenant.now e self.new) }
     {
@@ -79,6 +83,7 @@ impl Core {
     ) -> Result<Deleted, CoreError>
         requires range { from ≤ to }
         ensures stands { Stands self.new }
+        ensures jobs { AreSameWork self.old self.new }
         ensures ok { IfOk result (λ d. IsDeleted self.old by tenant.now (arc_value matchers) from to d self.new) }
         ensures err { IfErr result (λ e. IsRefused self.old by tenant.now e self.new) }
     {
@@ -89,13 +94,15 @@ impl Core {
     /// its answer.
     pub fn ask(&mut self, by: By, tenant: &Tenant, asked: Arc<Asked>) -> Result<Admitted, AskError>
         ensures stands { Stands self.new }
+        ensures jobs { IfOk result (λ a. AreBegun self.old a.query self.new) }
+        ensures err_jobs { IfErr result (λ _. AreSameWork self.old self.new) }
         ensures ok { IfOk result (λ a. IsAsked self.old by tenant.now (arc_value asked) a self.new) }
         ensures err { IfErr result (λ e. IsUnasked self.old by tenant.now e self.new) }
     {
         self.state.ask(by, tenant, asked)
     }
 
-    /// What is known of the query that was asked at a place, while it is open.
+    /// What is known of the query that was asked at a place, while it is open. None exactly where none is open there.
     pub fn look(&self, query: u64) -> Option<Opened<'_>>
         ensures stands { Stands self.now }
         ensures found { MatchOption result (open_at query (machine_of self.now).queries ≡ None) (λ o. IsOpened self.now query o) }
@@ -103,7 +110,7 @@ impl Core {
         self.state.look(query)
     }
 
-    /// The name of a tenant.
+    /// The name of a tenant. None exactly where fewer tenants are known.
     pub fn tenant_name(&self, tenant: u32) -> Option<&Tenant>
         ensures { option_copied result ≡ slice_get self.now.names tenant }
     {
@@ -114,17 +121,113 @@ impl Core {
     pub fn cancel(&mut self, by: By, query: u64, tenant: &Tenant) -> CancelAnswer
         ensures stands { Stands self.new }
         ensures told { IsCancelled self.old by query tenant.now result self.new }
+        ensures jobs { AreCancelled self.old query result self.new }
     {
         self.state.cancel(by, query, tenant)
     }
 
-    /// Answers an open query, which is closed from then on.
-    pub fn answer(&mut self, by: By, query: u64, code: u16, cached: u32, evaluated: u32)
-        requires { AnswersOpen self.old.limits (open_at query (machine_of self.old).queries) code cached evaluated }
+    /// Answers an open query, which is closed from then on: with the code of its direct evaluation once its parts were handed out,
+    /// or with the code of its stop. The entry tells that no step was cached, and that all were evaluated, if it was planned.
+    pub fn answer(&mut self, by: By, query: u64, code: u16)
+        requires { IsAnswerable self.old query code }
         ensures stands { Stands self.new }
-        ensures entered { Enters self.old by (answer query code cached evaluated) self.new }
+        ensures entered { Enters self.old by (answer query code 0 (evaluated_of self.old query)) self.new }
+        ensures jobs { AreClosed self.old query self.new }
     {
-        self.state.answer(by, query, code, cached, evaluated);
+        self.state.answer(by, query, code);
+    }
+
+    /// Plans the query that was asked at a place, which is open: its steps are divided into the runs of their intervals, and from
+    /// then on a job for each run waits, last of its tenant's. The snapshot is the one that the legs were bound over. Mimir, query
+    /// frontend: Splitting queries by interval.
+    pub fn plan(
+        &mut self,
+        query: u64,
+        legs: Arc<Legs>,
+        snap: Arc<Snap>,
+    ) -> Result<Planned, PlanError>
+        requires legs { BindsOpen self.old.limits.window (open_at query (machine_of self.old).queries) (arc_value legs) (arc_value snap) }
+        ensures stands { Stands self.new }
+        ensures ok { IfOk result (λ p. IsPlanned self.old query p.jobs self.new) }
+        ensures err { IfErr result (λ e. IsUnplanned self.old query e self.new) }
+    {
+        self.state.plan(query, legs, &snap)
+    }
+
+    /// Hands the first job of the first tenant in turn to an actor, of 32; the tenant is last from then on, if it has more jobs
+    /// that wait. None exactly where no job waits. It takes no memory, as all calls below.
+    pub fn take(&mut self, actor: u32) -> Option<Held>
+        requires { actor < 32 }
+        ensures stands { Stands self.new }
+        ensures taken { Takes self.old actor result self.new }
+    {
+        self.state.take(actor)
+    }
+
+    /// Keeps the part of a job in hand, which is in hand no more: it was stored; its query is stopped; or the job isn't in hand at
+    /// that try.
+    pub fn finish(&mut self, held: Held, part: Part) -> Finished
+        requires stands { StandsForAsk self.old held }
+        requires part { IsPartOf self.old held part }
+        ensures stands { Stands self.new }
+        ensures finished { IsFinished self.old held result self.new }
+        ensures tries { tries_left self.new ≡ tries_left self.old }
+    {
+        self.state.finish(held, part)
+    }
+
+    /// Counts a failed try of a job's actor, up to 2^64 - 1 in all, and lets the job wait again, last of its tenant's. At the fifth
+    /// failed try its query is stopped.
+    pub fn fail(&mut self, held: Held) -> FailedTry
+        requires stands { StandsForAsk self.old held }
+        requires actor { held.actor < 32 }
+        ensures stands { Stands self.new }
+        ensures failed { IsFailed self.old held result self.new }
+        ensures tries { TriesAfter self.old result self.new }
+    {
+        self.state.fail(held)
+    }
+
+    /// Takes a job out of its actor's hand, and stops its query for want of memory.
+    pub fn lack_job(&mut self, held: Held)
+        ensures stands { Stands self.new }
+        ensures lacked { IsLackedBy self.old held self.new }
+        ensures tries { tries_left self.new ≤ tries_left self.old }
+    {
+        self.state.lack_job(held);
+    }
+
+    /// Stops the query that was asked at a place for want of memory.
+    pub fn lack_query(&mut self, query: u64)
+        ensures stands { Stands self.new }
+        ensures lacked { IsLacked self.old query self.new }
+    {
+        self.state.lack_query(query);
+    }
+
+    /// What the query that was asked at a place has. Where all its parts are there, they are handed out, once. None exactly where it
+    /// isn't open.
+    pub fn collect(&mut self, query: u64) -> Option<Collected>
+        ensures stands { Stands self.new }
+        ensures collected { IsCollected self.old query result self.new }
+        ensures tries { tries_left self.new ≡ tries_left self.old }
+    {
+        self.state.collect(query)
+    }
+
+    /// How many tries of an actor, of 32, failed.
+    pub fn failed(&self, actor: u32) -> u64
+        requires { actor < 32 }
+        ensures { slice_get self.now.failed actor ≡ Some result }
+    {
+        self.state.failed[actor as usize]
+    }
+
+    /// How many tries failed in all.
+    pub fn total(&self) -> u64
+        ensures { result ≡ sum self.now.failed }
+    {
+        self.state.total
     }
 
     /// The entries in order.

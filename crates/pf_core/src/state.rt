@@ -1,13 +1,18 @@
 //! What a core keeps, and the steps that change it.
 
 ghost use Rattle.std.specs.Arc.{arc_value};
-ghost use Rattle.std.specs.Prelude.{◌≡◌, ◌+◌, ◌-◌, ◌<◌, ◌≤◌, [], IfErr, IfOk, MatchOption, None, OnErr, OnOk, length, nat_le, true, vec_capacity};
+ghost use Rattle.std.specs.Prelude.{◌≡◌, ◌+◌, ◌-◌, ◌<◌, ◌≤◌, [], IfErr, IfOk, MatchOption, None, OnErr, OnOk, cond, length, nat_le, true, vec_capacity};
+ghost use Rattle.pf_base.specs.Grids.{points};
 ghost use Rattle.pf_block.specs.Snaps.{are_timed};
-ghost use Rattle.pf_journal.specs.Machine.{AnswersOpen, CancelsOpen, answer, full, no_tenant, open_at, room_kept};
-ghost use Rattle.pf_core.specs.Cores.{AreLimits, Enters, IsAppended, IsAsked, IsCancelled, IsDeleted, IsOpened, IsRefused, IsUnasked};
+ghost use Rattle.pf_journal.specs.Machine.{CancelsOpen, answer, full, no_tenant, open_at, room_kept};
+ghost use Rattle.pf_query.specs.Tables as table;
+ghost use Rattle.pf_query.specs.Tables.{IsTable};
+ghost use Rattle.pf_query.specs.declared.stop.Stop.TheVariants.{Cancelled};
+ghost use Rattle.pf_core.specs.Calls.{IsAnswerable, evaluated_of};
+ghost use Rattle.pf_core.specs.Cores.{AreBegun, AreCancelled, AreClosed, AreLimits, AreSameWork, Enters, IsAppended, IsAsked, IsCancelled, IsDeleted, IsOpened, IsRefused, IsUnasked, started_core};
 ghost use Rattle.pf_core.specs.Entries.{what_of};
 ghost use Rattle.pf_core.specs.Seats.{AreTenants, IsFree, counted_as};
-ghost use Rattle.pf_core.specs.States.{CutsOut, HasCapacity, IsCancelledAt, IsEntered, IsNoted, IsOpenedFor, IsOpening, IsSame, IsState, IsTold, Steps, TakesIn, core_of, kept_in, machine_in, without_query};
+ghost use Rattle.pf_core.specs.States.{CutsOut, HasCapacity, IsCancelledAt, IsEntered, IsNoted, IsOpenedFor, IsOpening, IsSame, IsSettledFor, IsState, IsTold, IsUnsettled, KeepsFailures, KeepsJobs, Steps, TakesIn, core_of, kept_in, machine_in, without_query};
 
 use crate::answers::{Admitted, CancelAnswer, Opened};
 use crate::entry::{Entry, What};
@@ -16,13 +21,17 @@ use crate::query::{Queries, Query, cancel, open};
 use crate::tenants::{Seat, Tenants};
 use pf_base::{Batch, By, Limits, OutOfMemory, Tenant};
 use pf_model::Matchers;
-use pf_query::Asked;
+use pf_query::{Asked, Stop, Table};
 use pf_store::{Deleted, Pin, Verdicts};
 use std::alloc::Global;
 use std::collections::HashMap;
 use std::sync::Arc;
 
-/// The limits, the tenants, the open queries, the number of entries that these keep room for, and the journal.
+/// The number of actors.
+const ACTORS: usize = 32;
+
+/// The limits, the tenants, the open queries, the number of entries that these keep room for, and the journal; the jobs of the
+/// open queries; and how many tries failed of each actor and in all.
 #[derive(Drop)]
 pub struct State {
     pub alloc: Global,
@@ -31,6 +40,9 @@ pub struct State {
     pub queries: Queries,
     pub reserved: u64,
     pub journal: Vec<Entry>,
+    pub table: Table,
+    pub failed: Vec<u64>,
+    pub total: u64,
 }
 
 /// Takes a batch into a seat's log: the verdicts, and what the entry says.
@@ -111,23 +123,35 @@ fn kept_for(cancelled: Option<u64>) -> u64
     }
 }
 
+/// How many steps of an open query were evaluated: all, once it is planned.
+fn steps_of(open: &Opened<'_>) -> u32
+    ensures { result ≡ cond open.now.planned (length (points (arc_value open.now.asked.now).query.grid)) 0 }
+{
+    if !open.planned {
+        return 0;
+    }
+    let asked: &Asked = open.asked;
+    asked.grid.len()
+}
+
 impl State {
     /// No tenants, and an empty journal.
-    pub fn new(alloc: Global, limits: Limits) -> State
+    pub fn new(alloc: Global, limits: Limits) -> Result<State, OutOfMemory>
         requires { AreLimits limits }
-        ensures limits { result.limits ≡ limits }
-        ensures names { result.tenants.names ≡ [] }
-        ensures journal { result.journal.items ≡ [] }
-        ensures state { IsState result }
+        ensures core { IfOk result (λ s. core_of s ≡ started_core limits) }
+        ensures state { IfOk result IsState }
     {
-        State {
+        Ok(State {
             alloc,
             limits,
             tenants: Tenants::new(alloc),
             queries: HashMap::new(alloc),
             reserved: 0,
             journal: Vec::new(alloc),
-        }
+            table: Table::new(alloc)?,
+            failed: vec![in alloc; 0; ACTORS]?,
+            total: 0,
+        })
     }
 
     /// Whether the journal has room for so many entries beside those that are kept for open queries.
@@ -144,6 +168,7 @@ impl State {
         requires state { IsState self.old }
         requires few { entries ≤ 3 }
         ensures same { IsSame self.old self.new }
+        ensures jobs { KeepsJobs self.old self.new }
         ensures ok { OnOk result (length self.new.journal.items + self.new.reserved + entries ≤ vec_capacity self.new.journal) }
     {
         self.journal.reserve((self.reserved + entries) as usize)?;
@@ -162,6 +187,7 @@ impl State {
     fn enter(&mut self, by: By, seat: Seat, what: What) -> Result<(), OutOfMemory>
         requires state { IsState self.old }
         requires free { IsFree self.old.tenants seat.number seat.newcomer }
+        ensures jobs { KeepsJobs self.old self.new }
         ensures ok { OnOk result (IsEntered self.old by seat (what_of what) self.new) }
         ensures err { OnErr result (IsSame self.old self.new) }
     {
@@ -174,6 +200,7 @@ impl State {
     /// Adds an entry that changes nothing else.
     fn tell(&mut self, by: By, what: What) -> Result<(), OutOfMemory>
         requires state { IsState self.old }
+        ensures jobs { KeepsJobs self.old self.new }
         ensures ok { OnOk result (IsTold self.old by (what_of what) self.new) }
         ensures err { OnErr result (IsSame self.old self.new) }
     {
@@ -185,6 +212,7 @@ impl State {
     /// Notes that a tenant was not admitted.
     fn refuse(&mut self, by: By, name: &Tenant) -> Result<(), OutOfMemory>
         requires state { IsState self.old }
+        ensures jobs { KeepsJobs self.old self.new }
         ensures ok { OnOk result (IsTold self.old by (no_tenant name.now) self.new) }
         ensures err { OnErr result (IsSame self.old self.new) }
     {
@@ -195,6 +223,7 @@ impl State {
     /// Notes that a tenant has as many open queries as it may.
     fn fill(&mut self, by: By, tenant: u32, outstanding: u32) -> Result<(), OutOfMemory>
         requires state { IsState self.old }
+        ensures jobs { KeepsJobs self.old self.new }
         ensures ok { OnOk result (IsTold self.old by (full tenant outstanding) self.new) }
         ensures err { OnErr result (IsSame self.old self.new) }
     {
@@ -208,6 +237,7 @@ impl State {
     }
 
     /// Takes in a batch for a tenant.
+    #[tactic(auto, using(crate::proofs::Standing::same_work))]
     pub fn append(
         &mut self,
         by: By,
@@ -217,6 +247,7 @@ impl State {
         requires state { IsState self.old }
         requires timed { are_timed (arc_value batch).rows ≡ true }
         ensures state { IsState self.new }
+        ensures jobs { AreSameWork (core_of self.old) (core_of self.new) }
         ensures ok { IfOk result (λ v. IsAppended (core_of self.old) by tenant.now (arc_value batch) (arc_value v) (core_of self.new)) }
         ensures err { IfErr result (λ e. IsRefused (core_of self.old) by tenant.now e (core_of self.new)) }
     {
@@ -235,6 +266,7 @@ impl State {
     }
 
     /// Deletes samples of a tenant.
+    #[tactic(auto, using(crate::proofs::Standing::same_work))]
     pub fn delete(
         &mut self,
         by: By,
@@ -246,6 +278,7 @@ impl State {
         requires state { IsState self.old }
         requires range { from ≤ to }
         ensures state { IsState self.new }
+        ensures jobs { AreSameWork (core_of self.old) (core_of self.new) }
         ensures ok { IfOk result (λ d. IsDeleted (core_of self.old) by tenant.now (arc_value matchers) from to d (core_of self.new)) }
         ensures err { IfErr result (λ e. IsRefused (core_of self.old) by tenant.now e (core_of self.new)) }
     {
@@ -263,6 +296,20 @@ impl State {
         Ok(deleted)
     }
 
+    /// Puts in the seat of a query's tenant. Where memory runs out, the query's entry in the table goes again.
+    fn settle_for(&mut self, query: u64, seat: Seat) -> Result<(), OutOfMemory>
+        requires table { IsTable self.old.table }
+        requires free { IsFree self.old.tenants seat.number seat.newcomer }
+        ensures ok { OnOk result (IsSettledFor self.old seat self.new) }
+        ensures err { OnErr result (IsUnsettled self.old query self.new) }
+    {
+        let settled = self.tenants.settle(seat);
+        if settled.is_err() {
+            self.table.close(query);
+        }
+        settled
+    }
+
     /// Opens a query for a seat, whose tenant has so many.
     fn open_query(
         &mut self,
@@ -277,6 +324,9 @@ impl State {
         requires few { outstanding < 4294967295 }
         ensures pin { IfOk result (λ p. p ≡ opening.pin) }
         ensures ok { OnOk result (IsOpenedFor self.old by seat outstanding opening.query (what_of opening.what) self.new) }
+        ensures opened { OnOk result (table.IsOpened self.old.table (length self.old.journal.items) seat.number self.new.table) }
+        ensures table { IsTable self.new.table }
+        ensures failures { KeepsFailures self.old self.new }
         ensures err { OnErr result (IsSame self.old self.new) }
     {
         let Opening { query, pin, what } = opening;
@@ -284,7 +334,8 @@ impl State {
         let number = seat.number;
         self.make_room(3)?;
         self.queries.reserve(1)?;
-        self.tenants.settle(seat)?;
+        self.table.open(place, number)?;
+        self.settle_for(place, seat)?;
         self.tenants.set_count(number, outstanding + 1);
         open(&mut self.queries, place, query);
         self.reserved += 2;
@@ -293,9 +344,12 @@ impl State {
     }
 
     /// Asks a query of a tenant, and opens it.
+    #[tactic(auto, using(crate::proofs::Standing::same_work))]
     pub fn ask(&mut self, by: By, tenant: &Tenant, asked: Arc<Asked>) -> Result<Admitted, AskError>
         requires state { IsState self.old }
         ensures state { IsState self.new }
+        ensures jobs { IfOk result (λ a. AreBegun (core_of self.old) a.query (core_of self.new)) }
+        ensures err_jobs { IfErr result (λ _. AreSameWork (core_of self.old) (core_of self.new)) }
         ensures ok { IfOk result (λ a. IsAsked (core_of self.old) by tenant.now (arc_value asked) a (core_of self.new)) }
         ensures err { IfErr result (λ e. IsUnasked (core_of self.old) by tenant.now e (core_of self.new)) }
     {
@@ -323,11 +377,14 @@ impl State {
         ensures { MatchOption result (open_at query (machine_in self.now).queries ≡ None) (λ o. IsOpened (core_of self.now) query o) }
     {
         let open = self.queries.get(&query)?;
+        let progress = self.table.look(query)?;
         Some(Opened {
             tenant: open.tenant,
             pin: &open.pin,
             asked: &open.asked,
             cancelled: open.cancelled,
+            planned: progress.planned,
+            stop: progress.stop,
         })
     }
 
@@ -335,10 +392,14 @@ impl State {
     fn cancel_open(&mut self, by: By, query: u64)
         requires state { IsState self.old }
         requires uncancelled { CancelsOpen (open_at query (machine_in self.old).queries) }
-        ensures { IsCancelledAt self.old by query self.new }
+        ensures cancelled { IsCancelledAt self.old by query self.new }
+        ensures stopped { table.IsStopped self.old.table query (Cancelled (length self.old.journal.items)) self.new.table }
+        ensures table { IsTable self.new.table }
+        ensures failures { KeepsFailures self.old self.new }
     {
         let place = self.journal.len() as u64;
         cancel(&mut self.queries, query, place);
+        self.table.stop(query, Stop::Cancelled { place });
         self.reserved -= 1;
         self.note(by, What::Cancel { query });
     }
@@ -348,6 +409,7 @@ impl State {
         requires state { IsState self.old }
         ensures state { IsState self.new }
         ensures told { IsCancelled (core_of self.old) by query tenant.now result (core_of self.new) }
+        ensures jobs { AreCancelled (core_of self.old) query result (core_of self.new) }
     {
         let Some(open) = self.look(query) else {
             return CancelAnswer::NotOutstanding;
@@ -370,27 +432,34 @@ impl State {
         requires some { 1 ≤ outstanding }
         requires room { (1 ≤ kept) × (kept ≤ self.old.reserved) }
         requires capacity { HasCapacity self.old }
-        ensures { Steps self.old by (what_of what) (counted_as self.old.tenants tenant (outstanding - 1)) (without_query (kept_in self.old) query) (self.old.reserved - kept) self.new }
+        requires table { IsTable self.old.table }
+        ensures closed { table.IsClosed self.old.table query self.new.table }
+        ensures table { IsTable self.new.table }
+        ensures failures { KeepsFailures self.old self.new }
+        ensures steps { Steps self.old by (what_of what) (counted_as self.old.tenants tenant (outstanding - 1)) (without_query (kept_in self.old) query) (self.old.reserved - kept) self.new }
     {
         let _closed = self.queries.remove(&query);
+        self.table.close(query);
         self.tenants.set_count(tenant, outstanding - 1);
         self.reserved -= kept;
         self.note(by, what);
     }
 
     /// Answers an open query.
-    #[tactic(auto, using(crate::proofs::OpenQueries::never_closed))]
-    pub fn answer(&mut self, by: By, query: u64, code: u16, cached: u32, evaluated: u32)
+    #[tactic(auto, using(crate::proofs::Closing::never_closed))]
+    pub fn answer(&mut self, by: By, query: u64, code: u16)
         requires state { IsState self.old }
-        requires right { AnswersOpen self.old.limits (open_at query (machine_in self.old).queries) code cached evaluated }
+        requires may { IsAnswerable (core_of self.old) query code }
         ensures state { IsState self.new }
-        ensures entered { Enters (core_of self.old) by (answer query code cached evaluated) (core_of self.new) }
+        ensures entered { Enters (core_of self.old) by (answer query code 0 (evaluated_of (core_of self.old) query)) (core_of self.new) }
+        ensures jobs { AreClosed (core_of self.old) query (core_of self.new) }
     {
         let Some(open) = self.look(query) else {
             unreachable!()
         };
         let tenant = open.tenant;
         let kept = kept_for(open.cancelled);
+        let evaluated = steps_of(&open);
         let outstanding = self.tenants.count(tenant);
         self.close(
             by,
@@ -401,7 +470,7 @@ impl State {
             What::Answer {
                 query,
                 code,
-                cached,
+                cached: 0,
                 evaluated,
             },
         );

@@ -1,0 +1,671 @@
+-- What the table does for a call is what the call promises of the core.
+use Rattle.std.proofs.Common.{◌≡◌, ◌⊎◌, ℕ, ◌+◌, ◌*◌, ◌<◌, ◌≤◌, inl, inr, Bool, true, false, cond, map, nat_eq, Option, Some, None, List, [], ◌∷◌, ◌++◌, length, refl, sym, ap, ◌∙◌, arith, subst, slice_get, slice_set}
+use Rattle.std.specs.Arc.{arc_value}
+use Rattle.std.specs.Prelude.{MatchOption, sum}
+use Rattle.std.proofs.lemmas.Bool.Decides.{nat_tests}
+use Rattle.std.proofs.lemmas.Option.{slice_get_within}
+use Rattle.pf_base.specs.GridLists.{GridData}
+use Rattle.pf_base.specs.declared.plain.JobHead.{JobHead}
+use Rattle.pf_base.specs.declared.plain.Limits.{Limits}
+use Rattle.pf_block.specs.Snaps.{SnapData}
+use Rattle.pf_journal.specs.Legal.{machine_after}
+use Rattle.pf_journal.specs.Machine.{Entry, Open, open_at, started}
+use Rattle.pf_journal.specs.Weave.{failed_answers}
+use Rattle.pf_model.specs.Lists.{Each}
+use Rattle.pf_model.specs.Log.{store_of}
+use Rattle.pf_query.specs.Jobs.{has_hand, hand_of, is_empty, is_other_job, job_of_held, tried, without_hand}
+use Rattle.pf_query.specs.Queueing as queues
+use Rattle.pf_query.specs.Queueing.{AreSame, AreWith, put_last}
+use Rattle.pf_shard.specs.declared.parts.Part.{Part}
+use Rattle.pf_query.specs.Tables as table
+use Rattle.pf_query.specs.Tables.{EntryData, IsHeldOf, IsSameTable, IsTable, Stops, entry_in, hands_of, hands_with, jobs_in, ring_of, stopped, waiting_of}
+use Rattle.pf_query.specs.Entries.{is_planned, stop_after}
+use Rattle.pf_query.specs.Works.{WorkData, filled, last_of, legs_in, planned_work}
+use Rattle.pf_query.specs.declared.answers.FailedTry.TheVariants as failed
+use Rattle.pf_query.specs.declared.answers.PlanError.{PlanError}
+use Rattle.pf_query.specs.declared.answers.PlanError.TheVariants as plan_error
+use Rattle.pf_query.specs.declared.job.Hand.{Hand}
+use Rattle.pf_query.specs.declared.job.Held.{Held}
+use Rattle.pf_query.specs.declared.job.Job.{Job}
+use Rattle.pf_query.specs.declared.slot.Slot.TheVariants.{Empty, Filled}
+use Rattle.pf_query.specs.declared.stop.Stop.{Stop}
+use Rattle.pf_query.specs.declared.table.Table.{Table}
+use Rattle.pf_query.specs.declared.stop.Stop.TheVariants.{Cancelled, Exhausted, Starved}
+use Rattle.pf_shard.specs.Lawful.{ResolvedLegs, legs_data}
+use Rattle.pf_core.specs.Asks.{as_opened, opened_at}
+use Rattle.pf_core.specs.Calls.{ChangesQueue, IsNotHeld, IsOpenWith, IsPartOf, IsPlanned, IsPlannedBefore, IsReleased, IsStoppedBy, IsTaken, IsTried, IsUnplanned, IsWhole, StandsForAsk, StopsQuery, counted, is_in_hand, ring_with}
+use Rattle.pf_core.specs.Cores.{AreCovered, CoreData, HasQueue, IsSameHistory, open_tries, queue_at}
+use Rattle.pf_core.specs.Entries.{entry_of}
+use Rattle.pf_core.specs.Jobs.{AreRunsOf, IsForAsk, IsLegsOf, IsRunOf, IsValueOver, QueueHeads, by_tenant, failures_after, planned_heads, runs_of, tried_in}
+use Rattle.pf_core.specs.Progress as progress
+use Rattle.pf_core.specs.Progress.{QueryProgress, begun, cancel_in, exhausted_in, planned, progress_at, with_progress}
+use Rattle.pf_core.specs.States.{AreCounts, IsAhead, IsEntryOf, IsOutstanding, IsState, IsWorkOf, JobStands, KeepsFailures, KeepsHistory, core_of, far_of, heads_in, machine_in, progress_of}
+use Rattle.pf_core.specs.declared.state.State.{State}
+use Rattle.pf_core.proofs.Asked.{asked_open}
+use Rattle.pf_core.proofs.Covered.{covered_ahead, covered_less, tried_added, tried_back, tried_dropped, tried_hands, tried_left, tried_released, tried_table, tried_taken, untried}
+use Rattle.pf_core.proofs.Lists.{get_set_other, get_set_same}
+use Rattle.pf_core.proofs.Machines.{bool_cases}
+use Rattle.pf_core.proofs.Outstanding.{closed_there, each_filter, each_front, entry_there, jobs_with, none_there, open_there, outstanding_same, outstanding_set}
+use Rattle.pf_core.proofs.Progressing.{exhausted_no_more, exhausted_one, far_at, far_kept, far_set, not_by_want}
+use Rattle.pf_core.proofs.Runs.{empty_unfilled, heads_planned, jobs_planned, many_planned, own_run, run_at, same_run, whole_values}
+use Rattle.pf_core.proofs.Standing.{counts_as, left_by, state_beside}
+use Rattle.pf_core.proofs.Tenanted.{empty_heads, has_queue, head_of, map_front, queue_is, tries_table}
+
+-- ---- what stays
+
+pub history_same : (old new : State) → KeepsHistory old new → IsSameHistory (core_of old) (core_of new)
+history_same old new k = record {
+  limits = k.limits;
+  names = ap (λ (t : _). t.names) k.tenants;
+  journal = ap (λ (v : _). map entry_of v.items) k.journal;
+}
+
+-- a core whose table is the same for contracts
+pub core_same : (old new : State) → KeepsHistory old new → new.failed ≡ old.failed → IsSameTable old.table new.table → core_of new ≡ core_of old
+core_same old new k failed e = λ i. record {
+  limits = k.limits i;
+  names = (k.tenants i).names;
+  journal = map entry_of (k.journal i).items;
+  progress = progress_of (machine_after started (map entry_of (k.journal i).items)).queries (λ q. e.entries q i);
+  queues = by_tenant (λ u. record { waiting = map head_of ((e.queues.queues u).waiting i); hands = (e.queues.queues u).hands i });
+  ring = e.queues.ring i;
+  failed = (failed i).items;
+}
+
+-- how far the work on open queries is, by what the table keeps
+queries_same : (old new : State) → KeepsHistory old new → (core_of new).progress ≡ progress_of (machine_in old).queries (entry_in new.table)
+queries_same old new k = λ i. progress_of (machine_after started (map entry_of (k.journal i).items)).queries (entry_in new.table)
+
+progress_same : (old new : State) → KeepsHistory old new → ((q : ℕ) → entry_in new.table q ≡ entry_in old.table q) → (core_of new).progress ≡ (core_of old).progress
+progress_same old new k e = queries_same old new k ∙ (λ i. progress_of (machine_in old).queries (λ q. e q i))
+
+progress_kept : (old new : State) (query : ℕ) (was now : Option EntryData) → KeepsHistory old new → entry_in old.table query ≡ was
+    → ((q : ℕ) → entry_in new.table q ≡ cond (nat_eq query q) now (entry_in old.table q)) → far_of query now ≡ far_of query was
+    → (core_of new).progress ≡ (core_of old).progress
+progress_kept old new query was now k there sets e =
+    queries_same old new k ∙ far_kept query (machine_in old).queries (entry_in old.table) (entry_in new.table) was now there sets e
+
+pub progress_set : (old new : State) (query : ℕ) (change : QueryProgress → QueryProgress) (was now : Option EntryData) → KeepsHistory old new
+    → entry_in old.table query ≡ was → ((q : ℕ) → entry_in new.table q ≡ cond (nat_eq query q) now (entry_in old.table q))
+    → far_of query now ≡ change (far_of query was) → (core_of new).progress ≡ with_progress query change (core_of old).progress
+progress_set old new query change was now k there sets e =
+    queries_same old new k ∙ far_set query change (machine_in old).queries (entry_in old.table) (entry_in new.table) was now there sets e
+
+-- tries are covered where no more are told of
+pub covered_beside : (old new : State) → IsState old → KeepsHistory old new → KeepsFailures old new → tried_table new.table ≤ tried_table old.table
+    → exhausted_in (core_of new).progress ≤ exhausted_in (core_of old).progress → AreCovered (core_of new)
+covered_beside old new h k f tries far =
+    covered_less (core_of old) (core_of new) (ap (λ (v : _). v.items) f.failed) (ap (λ (v : _). map entry_of v.items) k.journal) (omega (arith, tries, far))
+    h.stands.covered
+
+covered_same : (old new : State) → IsState old → KeepsHistory old new → KeepsFailures old new → tried_table new.table ≤ tried_table old.table
+    → (core_of new).progress ≡ (core_of old).progress → AreCovered (core_of new)
+covered_same old new h k f tries same = covered_beside old new h k f tries (let far = ap exhausted_in same in omega (arith, far))
+
+-- and its state
+pub state_same : (old new : State) → IsState old → KeepsHistory old new → KeepsFailures old new → IsTable new.table → IsSameTable old.table new.table → IsState new
+state_same old new h k f t e =
+    state_beside old new h k t (counts_as old new f h.counts)
+    (outstanding_same old.limits.window (machine_in old).queries (entry_in old.table) (entry_in new.table) h.jobs.outstanding e.entries)
+    (λ u. subst (λ (js : List Job). Each (JobStands (map entry_of old.journal.items) old.limits.window) js) (sym (e.queues.queues u).waiting) (h.jobs.waiting_for u))
+    (subst AreCovered (sym (core_same old new k f.failed e)) h.stands.covered)
+
+-- ---- entries and open queries
+
+-- the open query of an entry, as its ask has it
+pub record HasAsk (s : State) (query : ℕ) (d : EntryData) : Type 0 where
+  pub opened : Open
+  pub there : open_at query (machine_in s).queries ≡ Some opened
+  pub is : IsEntryOf s.limits.window opened d
+  pub asked : opened_at (map entry_of s.journal.items) query ≡ Some (as_opened opened)
+
+pub ask_of : (s : State) (query : ℕ) (d : EntryData) → IsState s → entry_in s.table query ≡ Some d → HasAsk s query d
+ask_of s query d h e =
+    let found = open_there s.limits.window (open_at query (machine_in s).queries) (entry_in s.table query) d (h.jobs.outstanding query) e in
+    record {
+      opened = found.opened;
+      there = found.there;
+      is = found.is;
+      asked = asked_open (map entry_of s.journal.items) query found.opened found.there;
+    }
+
+abbrev pub open_with : (s : State) (query : ℕ) (d : EntryData) (stop : Option Stop) → (a : HasAsk s query d) → entry_in s.table query ≡ Some d → d.stop ≡ stop
+    → IsOpenWith (core_of s) query stop
+open_with s query d stop a e why = record {
+  opened = a.opened;
+  is_open = a.there;
+  cancelled_at = sym a.is.stop ∙ ap cancel_in why;
+  far = far_of query (Some d);
+  is_far = far_at query (machine_in s).queries (entry_in s.table) a.opened a.there ∙ ap (λ (x : Option EntryData). Some (far_of query x)) e;
+  stop_is = why;
+}
+
+-- the same query of a core that differs in neither
+abbrev open_still : (old new : CoreData) (query : ℕ) (stop : Option Stop) → new.journal ≡ old.journal → new.progress ≡ old.progress → IsOpenWith old query stop
+    → IsOpenWith new query stop
+open_still old new query stop j p o = record {
+  opened = o.opened;
+  is_open = subst (λ (js : List Entry). open_at query (machine_after started js).queries ≡ Some o.opened) (sym j) o.is_open;
+  cancelled_at = o.cancelled_at;
+  far = o.far;
+  is_far = subst (λ (ps : List QueryProgress). progress_at query ps ≡ Some o.far) (sym p) o.is_far;
+  stop_is = o.stop_is;
+}
+
+-- ---- a job is taken
+
+pub taken_state : (old new : State) (actor : ℕ) (held : Held) → IsState old → KeepsHistory old new → KeepsFailures old new → IsTable new.table
+    → table.IsTakenFrom old.table actor held new.table → IsState new
+taken_state old new actor held h k f t taken =
+    let w = old.limits.window in
+    let q = taken.taken in
+    let all : Each (JobStands (map entry_of old.journal.items) w) (q.job ∷ q.jobs) =
+    subst (λ (js : List Job). Each (JobStands (map entry_of old.journal.items) w) js) q.waiting (h.jobs.waiting_for q.tenant) in
+    state_beside old new h k t (counts_as old new f h.counts)
+    (outstanding_same w (machine_in old).queries (entry_in old.table) (entry_in new.table) h.jobs.outstanding taken.entries)
+    (jobs_with (map entry_of old.journal.items) w q.tenant (waiting_of old.table) (waiting_of new.table) q.jobs h.jobs.waiting_for q.left.waiting all.1
+    (λ v d. (q.left.others v d).waiting))
+    (covered_same old new h k f (tried_taken old.table new.table actor held q) (progress_same old new k taken.entries))
+
+pub taken_core : (old new : State) (actor : ℕ) (held : Held) → IsState old → KeepsHistory old new → KeepsFailures old new → IsTable new.table
+    → table.IsTakenFrom old.table actor held new.table → IsTaken (core_of old) actor held (core_of new)
+taken_core old new actor held h k f t taken = record {
+  tenant = q.tenant;
+  tenants = q.tenants;
+  heads = map head_of q.jobs;
+  ring = q.ring;
+  waiting = ap (λ (d : QueueHeads). d.waiting) (queue_is old h.table q.tenant) ∙ ap (map head_of) q.waiting
+      ∙ ap (λ (x : JobHead). x ∷ map head_of q.jobs) (ap (λ (x : Held). x.head) (sym q.held_is));
+  actor_is = ap (λ (x : Held). x.actor) q.held_is;
+  leaves = record {
+    queue_is = record {
+      here = changed.here ∙ (λ i. record { waiting = map head_of q.jobs; hands = (sym (queue_is old h.table q.tenant) i).hands ++ hand_of held ∷ [] });
+      others = changed.others;
+      ring_is = changed.ring_is ∙ ap (λ (b : Bool). cond b q.tenants (q.tenants ++ q.tenant ∷ [])) (sym (empty_heads q.jobs));
+    };
+    history = history_same old new k;
+    failed = ap (λ (v : _). v.items) f.failed;
+    progress_is = progress_same old new k taken.entries;
+  };
+  stands = subst (λ (x : Held). StandsForAsk (core_of new) x) (sym q.held_is)
+      (subst (λ (js : List Entry). IsForAsk js new.limits.window q.job.head (arc_value q.job.legs) q.job.run (arc_value q.job.snap))
+      (sym (ap (λ (v : _). map entry_of v.items) k.journal))
+      (subst (λ (l : Limits). IsForAsk (map entry_of old.journal.items) l.window q.job.head (arc_value q.job.legs) q.job.run (arc_value q.job.snap)) (sym k.limits) all.0));
+  whole = open_still (core_of old) (core_of new) held.head.query None (ap (λ (v : _). map entry_of v.items) k.journal) (progress_same old new k taken.entries)
+      (open_with old held.head.query d None a there refl);
+  own = ap (λ (x : Held). x.head.tenant) q.held_is ∙ taken.waited.tenant_is;
+  owner = sym a.is.tenant;
+  few = let same = ap (λ (x : Held). x.head.tries) q.held_is in let few = taken.waited.head.tries in omega (arith, same, few);
+  tries = let tries = taken.tries in let before = tries_table old.table h.table in let after = tries_table new.table t in omega (arith, tries, before, after);
+} where
+  q : queues.IsTaken old.table.queues actor held new.table.queues
+  q = taken.taken
+
+  w : ℕ
+  w = old.limits.window
+
+  all : Each (JobStands (map entry_of old.journal.items) w) (q.job ∷ q.jobs)
+  all = subst (λ (js : List Job). Each (JobStands (map entry_of old.journal.items) w) js) q.waiting (h.jobs.waiting_for q.tenant)
+
+  changed : HasQueue (core_of old) q.tenant (record { waiting = map head_of q.jobs; hands = hands_of old.table q.tenant ++ hand_of held ∷ [] })
+      (cond (is_empty q.jobs) q.tenants (q.tenants ++ q.tenant ∷ [])) (core_of new)
+  changed = has_queue old new q.tenant q.jobs _ _ h.table t q.left
+
+  d : EntryData
+  d = record { tenant = q.tenant; stop = None; work = Some taken.waited.work }
+
+  there : entry_in old.table held.head.query ≡ Some d
+  there = subst (λ (x : Held). entry_in old.table x.head.query ≡ Some d) (sym q.held_is) taken.waited.entry
+
+  a : HasAsk old held.head.query d
+  a = ask_of old held.head.query d h there
+
+-- ---- a job is in hand no more
+
+pub released : (old new : State) (held : Held) → IsState old → KeepsHistory old new → KeepsFailures old new → IsTable new.table
+    → queues.IsReleased old.table.queues held new.table.queues → (core_of new).progress ≡ (core_of old).progress → IsReleased (core_of old) held (core_of new)
+released old new held h k f t r same =
+    let u = held.head.tenant in
+    let changed = has_queue old new u (waiting_of old.table u) (without_hand (hand_of held) (hands_of old.table u)) (ring_of old.table) h.table t r in
+    let was = queue_is old h.table u in
+    record {
+      queue_is = record {
+        here = changed.here ∙ (λ i. record { waiting = (sym was i).waiting; hands = without_hand (hand_of held) (sym was i).hands });
+        others = changed.others;
+        ring_is = changed.ring_is;
+      };
+      history = history_same old new k;
+      failed = ap (λ (v : _). v.items) f.failed;
+      progress_is = same;
+    }
+
+-- of a stopped query
+pub gone_released : (old new : State) (held : Held) (why : Stop) → IsState old → KeepsHistory old new → KeepsFailures old new → IsTable new.table
+    → table.Goes old.table held why new.table → IsReleased (core_of old) held (core_of new)
+gone_released old new held why h k f t goes = released old new held h k f t goes.queues (progress_same old new k goes.entries)
+
+-- whose part is stored
+pub stored_released : (old new : State) (held : Held) (part : Part) → IsState old → KeepsHistory old new → KeepsFailures old new → IsTable new.table
+    → table.IsStored old.table held part new.table → IsReleased (core_of old) held (core_of new)
+stored_released old new held part h k f t stored =
+    released old new held h k f t stored.queues (progress_kept old new held.head.query _ _ k stored.held_of.entry stored.entries refl)
+
+-- its state, where only that changed
+pub released_state : (old new : State) (held : Held) → IsState old → KeepsHistory old new → KeepsFailures old new → IsTable new.table
+    → ((q : ℕ) → entry_in new.table q ≡ entry_in old.table q) → queues.IsReleased old.table.queues held new.table.queues → IsState new
+released_state old new held h k f t entries r =
+    state_beside old new h k t (counts_as old new f h.counts)
+    (outstanding_same old.limits.window (machine_in old).queries (entry_in old.table) (entry_in new.table) h.jobs.outstanding entries)
+    (jobs_with (map entry_of old.journal.items) old.limits.window held.head.tenant (waiting_of old.table) (waiting_of new.table) (waiting_of old.table held.head.tenant)
+    h.jobs.waiting_for r.waiting (h.jobs.waiting_for held.head.tenant) (λ v d. (r.others v d).waiting))
+    (covered_same old new h k f (tried_released old.table new.table held r) (progress_same old new k entries))
+
+-- whether a job is in hand
+pub in_hand_as : (s : State) (held : Held) (b : Bool) → IsState s → has_hand (hand_of held) (hands_of s.table held.head.tenant) ≡ b → is_in_hand (core_of s) held ≡ b
+in_hand_as s held b h e = ap (λ (q : QueueHeads). has_hand (hand_of held) q.hands) (queue_is s h.table held.head.tenant) ∙ e
+
+-- why a job isn't held
+pub not_held : (s : State) (held : Held) → IsState s → table.IsNotHeld s.table held (entry_in s.table held.head.query) → IsNotHeld (core_of s) held
+not_held s held h n = by (entry_in s.table held.head.query) refl n where
+  by : (e : Option EntryData) → entry_in s.table held.head.query ≡ e → table.IsNotHeld s.table held e → IsNotHeld (core_of s) held
+  by None e n = inl (closed_there s.limits.window (open_at held.head.query (machine_in s).queries) (entry_in s.table held.head.query)
+      (h.jobs.outstanding held.head.query) e)
+  by (Some d) e n = inr (open_with s held.head.query d None (ask_of s held.head.query d h e) e n.0, in_hand_as s held false h n.1)
+
+-- a query is stopped
+pub gone_by : (s : State) (query : ℕ) (why : Stop) → IsState s → table.IsGone (entry_in s.table query) why → IsStoppedBy (core_of s) query why
+gone_by s query why h g = by (entry_in s.table query) refl g where
+  by : (e : Option EntryData) → entry_in s.table query ≡ e → table.IsGone e why → IsStoppedBy (core_of s) query why
+  by None e g = absurd g
+  by (Some d) e g = open_with s query d (Some why) (ask_of s query d h e) e g
+
+-- and isn't
+pub whole_of : (s : State) (held : Held) (w : WorkData) → IsState s → IsHeldOf s.table held w → IsWhole (core_of s) held.head.query
+whole_of s held w h is = open_with s held.head.query _ None (ask_of s held.head.query _ h is.entry) is.entry refl
+
+-- ---- a part is stored
+
+-- the run and the legs of a held job are those of its query
+pub stored_value : (s : State) (held : Held) (part : Part) (w : WorkData) (o : Open) → IsState s → StandsForAsk (core_of s) held → IsPartOf (core_of s) held part
+    → opened_at (map entry_of s.journal.items) held.head.query ≡ Some (as_opened o) → IsHeldOf s.table held w → IsWorkOf s.limits.window o w
+    → (run : GridData) → slice_get w.runs held.head.job ≡ Some run → IsValueOver (store_of s.limits.window o.log).samples (legs_data w.legs) 0 run part
+stored_value s held part w o h stands is asked of work run there =
+    let both : Some stands.at ≡ Some (as_opened o) = sym stands.asked ∙ asked in
+    let same : stands.at ≡ as_opened o = cc in
+    let own = own_run w.legs w.runs of.run held.head work.whole of.head in
+    let runs : Some of.run ≡ Some run = sym own.0 ∙ there in
+    let same_one : of.run ≡ run = cc in
+    let grid = ap (λ (x : Open). x.asked.query.grid) same in
+    let job_run : IsRunOf o.asked.query.grid held.run = subst (λ (g : GridData). IsRunOf g held.run) grid stands.job_of.run_is in
+    let own_one : IsRunOf o.asked.query.grid of.run = run_at o.asked.query.grid w.runs held.head.job of.run work.runs.each own.0 in
+    let first : held.run.start ≡ of.run.start = sym stands.job_of.first ∙ of.head.first in
+    let last : last_of held.run ≡ last_of of.run = sym stands.job_of.last ∙ of.head.last in
+    let equal : held.run ≡ run = same_run o.asked.query.grid held.run of.run job_run own_one first last ∙ same_one in
+    let value : IsValueOver (store_of s.limits.window o.log).samples (legs_data (arc_value held.legs)) held.head.leg held.run part =
+    subst (λ (x : Open). IsValueOver (store_of s.limits.window x.log).samples (legs_data (arc_value held.legs)) held.head.leg held.run part) same (is stands.at stands.asked) in
+    let query : (arc_value held.legs).resolved.query ≡ w.legs.resolved.query =
+    stands.legs_of.query ∙ ap (λ (x : Open). x.asked.query.tree) same ∙ sym work.query in
+    subst (λ (r : GridData). IsValueOver (store_of s.limits.window o.log).samples (legs_data w.legs) 0 r part) equal
+    (whole_values (store_of s.limits.window o.log).samples (legs_data (arc_value held.legs)) (legs_data w.legs) held.head.leg 0 held.run part
+    stands.legs_of.whole work.whole query value)
+
+work_filled : (window : ℕ) (o : Open) (w : WorkData) (job : ℕ) (part : Part) → IsWorkOf window o w → job < length w.slots
+    → ((run : GridData) → slice_get w.runs job ≡ Some run → IsValueOver (store_of window o.log).samples (legs_data w.legs) 0 run part)
+    → IsWorkOf window o (filled job part w)
+work_filled window o w job part h inside new = record {
+  query = h.query;
+  whole = h.whole;
+  runs = h.runs;
+  values = λ i run p there g. elim (bool_cases (nat_eq i job)) [
+    | inl t ↦
+        let same : i ≡ job = grind (arith, nat_tests, t) in
+        let at_job : slice_get (slice_set w.slots job (Filled part)) i ≡ Some (Filled part) =
+        subst (λ x. slice_get (slice_set w.slots job (Filled part)) x ≡ Some (Filled part)) (sym same) (get_set_same w.slots job (Filled part) inside) in
+        let both : Some (Filled part) ≡ Some (Filled p) = sym at_job ∙ g in
+        let equal : part ≡ p = cc in
+        subst (λ (x : Part). IsValueOver (store_of window o.log).samples (legs_data w.legs) 0 run x) equal
+        (new run (subst (λ x. slice_get w.runs x ≡ Some run) same there))
+    | inr t ↦
+        let other : i ≡ job → ⊥ = λ e. grind (arith, nat_tests, t, e) in
+        h.values i run p there (sym (get_set_other w.slots job i (Filled part) other) ∙ g)
+  ];
+}
+
+pub stored_state : (old new : State) (held : Held) (part : Part) → IsState old → KeepsHistory old new → KeepsFailures old new → IsTable new.table
+    → StandsForAsk (core_of old) held → IsPartOf (core_of old) held part → table.IsStored old.table held part new.table → IsState new
+stored_state old new held part h k f t stands is stored =
+    let window = old.limits.window in
+    let a = ask_of old held.head.query _ h stored.held_of.entry in
+    let inside = slice_get_within stored.work.slots held.head.job Empty stored.held_of.empty in
+    let work = work_filled window a.opened stored.work held.head.job part a.is.work inside
+    (stored_value old held part stored.work a.opened h stands is a.asked stored.held_of a.is.work) in
+    state_beside old new h k t (counts_as old new f h.counts)
+    (outstanding_set window held.head.query (machine_in old).queries a.opened _ (entry_in old.table) (entry_in new.table) h.jobs.outstanding a.there
+    (record { tenant = a.is.tenant; stop = a.is.stop; work = work }) stored.entries)
+    (jobs_with (map entry_of old.journal.items) window held.head.tenant (waiting_of old.table) (waiting_of new.table) (waiting_of old.table held.head.tenant)
+    h.jobs.waiting_for stored.queues.waiting (h.jobs.waiting_for held.head.tenant) (λ v d. (stored.queues.others v d).waiting))
+    (covered_same old new h k f (tried_released old.table new.table held stored.queues)
+    (progress_kept old new held.head.query _ _ k stored.held_of.entry stored.entries refl))
+
+-- ---- a query is stopped for another cause than a cancel
+
+-- a stop that is no cancel tells of none where none was
+pub stop_other : (stop : Option Stop) (why : Stop) → cancel_in (Some why) ≡ None → cancel_in (Some (stop_after stop why)) ≡ cancel_in stop
+stop_other stop (Cancelled place) e = cc
+stop_other None (Exhausted job) e = refl
+stop_other (Some first) (Exhausted job) e = refl
+stop_other None Starved e = refl
+stop_other (Some first) Starved e = refl
+
+pub stopped_state : (old new : State) (query : ℕ) (why : Stop) (d : EntryData) (hands : List Hand) → IsState old → KeepsHistory old new → IsTable new.table
+    → AreCounts new.failed.items new.total
+    → entry_in old.table query ≡ Some d → cancel_in (Some why) ≡ None → Stops old.table query why d hands new.table → AreCovered (core_of new) → IsState new
+stopped_state old new query why d hands h k t counts there other stops covered =
+    let window = old.limits.window in
+    let a = ask_of old query d h there in
+    state_beside old new h k t counts
+    (outstanding_set window query (machine_in old).queries a.opened (stopped why d) (entry_in old.table) (entry_in new.table) h.jobs.outstanding a.there
+    (record { tenant = a.is.tenant; stop = stop_other d.stop why other ∙ a.is.stop; work = a.is.work }) stops.entries)
+    (jobs_with (map entry_of old.journal.items) window d.tenant (waiting_of old.table) (waiting_of new.table) _ h.jobs.waiting_for stops.queues.waiting
+    (each_filter _ (is_other_job query) (waiting_of old.table d.tenant) (h.jobs.waiting_for d.tenant)) (λ v x. (stops.queues.others v x).waiting)) covered
+
+stopped_progress : (old new : State) (query : ℕ) (why : Stop) (d : EntryData) → KeepsHistory old new → entry_in old.table query ≡ Some d
+    → ((q : ℕ) → entry_in new.table q ≡ cond (nat_eq query q) (Some (stopped why d)) (entry_in old.table q))
+    → (core_of new).progress ≡ with_progress query (progress.stopped why) (core_of old).progress
+stopped_progress old new query why d k there sets = progress_set old new query (progress.stopped why) _ _ k there sets refl
+
+pub stops_query : (old new : State) (query : ℕ) (why : Stop) (d : EntryData) (hands : List Hand) → IsState old → KeepsHistory old new → KeepsFailures old new → IsTable new.table
+    → entry_in old.table query ≡ Some d → Stops old.table query why d hands new.table → StopsQuery (core_of old) d.tenant query why hands (core_of new)
+stops_query old new query why d hands h k f t there stops = record {
+  left = left_by old new d.tenant query hands h.table t stops.queues;
+  history = history_same old new k;
+  failed = ap (λ (v : _). v.items) f.failed;
+  progress_is = stopped_progress old new query why d k there stops.entries;
+}
+
+-- ---- a job failed
+
+pub counted_core : (old new : State) (actor : ℕ) → KeepsHistory old new → new.table ≡ old.table → new.failed.items ≡ failures_after old.failed.items actor
+    → core_of new ≡ counted (core_of old) actor
+counted_core old new actor k table failed = λ i. record {
+  limits = k.limits i;
+  names = (k.tenants i).names;
+  journal = map entry_of (k.journal i).items;
+  progress = progress_of (machine_after started (map entry_of (k.journal i).items)).queries (entry_in (table i));
+  queues = by_tenant (heads_in (table i));
+  ring = ring_of (table i);
+  failed = failed i;
+}
+
+-- the table tells of as many tries as before
+counted_tries : (old new : State) → KeepsHistory old new → new.table ≡ old.table → open_tries (core_of new) ≡ open_tries (core_of old)
+counted_tries old new k table = λ i.
+    tried_in (by_tenant (heads_in (table i)))
+    + 5 * exhausted_in (progress_of (machine_after started (map entry_of (k.journal i).items)).queries (entry_in (table i)))
+
+answers_same : (old new : State) → KeepsHistory old new → failed_answers (core_of new).journal ≡ failed_answers (core_of old).journal
+answers_same old new k = ap (λ (v : _). failed_answers (map entry_of v.items)) k.journal
+
+-- a try is counted, or as many are as may be
+pub counted_ahead : (old new : State) → IsState old → KeepsHistory old new → new.table ≡ old.table
+    → (sum new.failed.items ≡ 18446744073709551615) ⊎ (sum old.failed.items + 1 ≡ sum new.failed.items) → AreCounts old.failed.items old.total
+    → old.total < 18446744073709551615 ⊎ (sum new.failed.items ≡ 18446744073709551615) → IsAhead (core_of new)
+counted_ahead old new h k table one counts below = by one below h.stands.covered where
+  by : (sum new.failed.items ≡ 18446744073709551615) ⊎ (sum old.failed.items + 1 ≡ sum new.failed.items)
+      → old.total < 18446744073709551615 ⊎ (sum new.failed.items ≡ 18446744073709551615) → AreCovered (core_of old) → IsAhead (core_of new)
+  by (inl most) below covered = inl most
+  by (inr one) (inr most) covered = inl most
+  by (inr one) (inl below) (inl most) = let total = counts.summed in absurd (omega (arith, below, most, total))
+  by (inr one) (inl below) (inr covered) =
+      inr (let tries = counted_tries old new k table in let answers = answers_same old new k in omega (arith, covered, one, tries, answers))
+
+ahead_covered : (c : CoreData) → IsAhead c → AreCovered c
+ahead_covered c (inl most) = inl most
+ahead_covered c (inr more) = inr (omega (arith, more))
+
+pub counted_state : (old new : State) → IsState old → KeepsHistory old new → new.table ≡ old.table → AreCounts new.failed.items new.total → IsAhead (core_of new)
+    → IsState new
+counted_state old new h k table counts ahead =
+    state_beside old new h k (subst IsTable (sym table) h.table) counts
+    (λ p. subst (λ (t : Table). IsOutstanding old.limits.window (open_at p (machine_in old).queries) (entry_in t p)) (sym table) (h.jobs.outstanding p))
+    (λ u. subst (λ (t : Table). Each (JobStands (map entry_of old.journal.items) old.limits.window) (waiting_of t u)) (sym table) (h.jobs.waiting_for u))
+    (ahead_covered (core_of new) ahead)
+
+again_job : (s : State) (held : Held) → StandsForAsk (core_of s) held
+    → JobStands (map entry_of s.journal.items) s.limits.window (job_of_held (held.head.tries + 1) held)
+again_job s held h = record {
+  at = h.at;
+  asked = h.asked;
+  legs_of = h.legs_of;
+  job_of = record { tenant = h.job_of.tenant; leg = h.job_of.leg; run_is = h.job_of.run_is; first = h.job_of.first; last = h.job_of.last };
+}
+
+pub again_state : (old new : State) (held : Held) (tries : ℕ) → IsState old → KeepsHistory old new → KeepsFailures old new → IsTable new.table
+    → IsAhead (core_of old) → StandsForAsk (core_of old) held → table.WaitsAgain old.table held tries new.table → IsState new
+again_state old new held tries h k f t ahead stands again =
+    let window = old.limits.window in
+    let u = held.head.tenant in
+    state_beside old new h k t (counts_as old new f h.counts)
+    (outstanding_same window (machine_in old).queries (entry_in old.table) (entry_in new.table) h.jobs.outstanding again.entries)
+    (jobs_with (map entry_of old.journal.items) window u (waiting_of old.table) (waiting_of new.table) _ h.jobs.waiting_for again.queues.waiting
+    (each_front _ (waiting_of old.table u) (job_of_held (held.head.tries + 1) held ∷ []) (h.jobs.waiting_for u) (again_job old held stands, tt))
+    (λ v d. (again.queues.others v d).waiting))
+    (covered_ahead (core_of old) (core_of new) (ap (λ (v : _). v.items) f.failed) (ap (λ (v : _). map entry_of v.items) k.journal)
+    (let tries = tried_back old.table new.table held again.held_of.in_hand again.queues in
+    let far = ap exhausted_in (progress_same old new k again.entries) in
+    omega (arith, tries, far)) ahead)
+
+pub again_core : (old new : State) (held : Held) (tries : ℕ) → IsState old → KeepsHistory old new → KeepsFailures old new → IsTable new.table
+    → table.WaitsAgain old.table held tries new.table → IsTried (core_of old) held (failed.Again tries) (core_of new)
+again_core old new held tries h k f t again =
+    let u = held.head.tenant in
+    let changed = has_queue old new u (waiting_of old.table u ++ job_of_held (held.head.tries + 1) held ∷ []) (without_hand (hand_of held) (hands_of old.table u))
+    (cond (is_empty (waiting_of old.table u)) (put_last u (ring_of old.table)) (ring_of old.table)) h.table t again.queues in
+    let was = queue_is old h.table u in
+    let heads = map_front head_of (waiting_of old.table u) (job_of_held (held.head.tries + 1) held ∷ []) in (
+      whole_of old held again.work h again.held_of,
+      (
+        in_hand_as old held true h again.held_of.in_hand,
+        (
+          again.tries_are,
+          (
+            again.few,
+            record {
+              queue_is = record {
+                here = changed.here
+                    ∙ (λ i. record { waiting = heads i; hands = without_hand (hand_of held) (hands_of old.table u) })
+                    ∙ (λ i. record {
+                      waiting = (sym was i).waiting ++ tried (held.head.tries + 1) held.head ∷ [];
+                      hands = without_hand (hand_of held) (sym was i).hands;
+                    });
+                others = changed.others;
+                ring_is = changed.ring_is
+                    ∙ ap (λ (b : Bool). cond b (put_last u (ring_of old.table)) (ring_of old.table))
+                    (sym (empty_heads (waiting_of old.table u)) ∙ ap (λ (q : QueueHeads). is_empty q.waiting) (sym was));
+              };
+              history = history_same old new k;
+              failed = ap (λ (v : _). v.items) f.failed;
+              progress_is = progress_same old new k again.entries;
+            },
+          ),
+        ),
+      ),
+    )
+
+-- for the fifth time
+pub exhausted_state : (old new : State) (held : Held) (job : ℕ) → IsState old → KeepsHistory old new → KeepsFailures old new → IsTable new.table
+    → IsAhead (core_of old) → table.IsExhausted old.table held job new.table → IsState new
+exhausted_state old new held job h k f t ahead e =
+    let known = (h.table.agree.all_kept held.head.query _ e.held_of.entry).known in
+    let stops : Stops old.table held.head.query (Exhausted job) (record { tenant = held.head.tenant; stop = None; work = Some e.work })
+    (without_hand (hand_of held) (hands_of old.table held.head.tenant)) new.table =
+    record { entries = e.entries; queues = e.queues; tries = e.tries } in
+    stopped_state old new held.head.query (Exhausted job) _ (without_hand (hand_of held) (hands_of old.table held.head.tenant)) h k t (counts_as old new f h.counts)
+    e.held_of.entry refl stops
+    (covered_ahead (core_of old) (core_of new) (ap (λ (v : _). v.items) f.failed) (ap (λ (v : _). map entry_of v.items) k.journal)
+    (let tries = tried_dropped old.table new.table held _ e.held_of.in_hand e.queues known in
+    let last = e.last_try in
+    let far = ap exhausted_in (stopped_progress old new held.head.query (Exhausted job) _ k e.held_of.entry stops.entries) in
+    let one = exhausted_one held.head.query (progress.stopped (Exhausted job)) 0 (machine_in old).queries (entry_in old.table) h.history.keeps.are_open.apart in
+    omega (arith, tries, last, far, one)) ahead)
+
+pub exhausted_core : (old new : State) (held : Held) (job : ℕ) → IsState old → KeepsHistory old new → KeepsFailures old new → IsTable new.table
+    → table.IsExhausted old.table held job new.table → IsTried (core_of old) held (failed.Exhausted job) (core_of new)
+exhausted_core old new held job h k f t e =
+    let u = held.head.tenant in
+    let left = stops_query old new held.head.query (Exhausted job) _ (without_hand (hand_of held) (hands_of old.table u)) h k f t e.held_of.entry
+    (record { entries = e.entries; queues = e.queues; tries = e.tries }) in (
+      whole_of old held e.work h e.held_of,
+      (
+        in_hand_as old held true h e.held_of.in_hand,
+        (
+          e.job_is,
+          (
+            e.last_try,
+            subst (λ (hs : List Hand). StopsQuery (core_of old) u held.head.query (Exhausted job) (without_hand (hand_of held) hs) (core_of new))
+                (sym (ap (λ (q : QueueHeads). q.hands) (queue_is old h.table u))) left,
+          ),
+        ),
+      ),
+    )
+
+-- ---- want of memory
+
+pub lacked_state : (old new : State) (query : ℕ) (entry : Option EntryData) (hands : EntryData → List Hand) → IsState old → KeepsHistory old new → KeepsFailures old new
+    → IsTable new.table → entry_in old.table query ≡ entry → ((d : EntryData) → tried_hands (hands d) ≤ tried_hands (hands_of old.table d.tenant))
+    → MatchOption entry (IsSameTable old.table new.table) (λ d. Stops old.table query Starved d (hands d) new.table) → IsState new
+lacked_state old new query None hands h k f t there less s = state_same old new h k f t s
+lacked_state old new query (Some d) hands h k f t there less s =
+    stopped_state old new query Starved d (hands d) h k t (counts_as old new f h.counts) there refl s
+    (covered_beside old new h k f (tried_left old.table new.table d.tenant query (hands d) _ s.queues (less d))
+    (let far = ap exhausted_in (stopped_progress old new query Starved d k there s.entries) in
+    let none = exhausted_no_more query (progress.stopped Starved) (not_by_want Starved refl) (core_of old).progress in
+    omega (arith, far, none)))
+
+pub lacked_none : (old new : State) (query : ℕ) (hands : EntryData → List Hand) → IsState old → KeepsHistory old new → KeepsFailures old new
+    → MatchOption (entry_in old.table query) (IsSameTable old.table new.table) (λ d. Stops old.table query Starved d (hands d) new.table)
+    → open_at query (machine_in old).queries ≡ None → core_of new ≡ core_of old
+lacked_none old new query hands h k f s e =
+    let none = none_there old.limits.window (open_at query (machine_in old).queries) (entry_in old.table query) (h.jobs.outstanding query) e in
+    core_same old new k f.failed (subst (λ (x : Option EntryData). MatchOption x (IsSameTable old.table new.table)
+    (λ d. Stops old.table query Starved d (hands d) new.table)) none s)
+
+pub lacked_some : (old new : State) (query : ℕ) (hands : ℕ → List Hand) (told : ℕ → List Hand) → IsState old → KeepsHistory old new → KeepsFailures old new → IsTable new.table
+    → MatchOption (entry_in old.table query) (IsSameTable old.table new.table) (λ (d : EntryData). Stops old.table query Starved d (hands d.tenant) new.table)
+    → ((u : ℕ) → hands u ≡ told u)
+    → (o : Open) → open_at query (machine_in old).queries ≡ Some o → StopsQuery (core_of old) o.tenant query Starved (told o.tenant) (core_of new)
+lacked_some old new query hands told h k f t s same o e =
+    let entry = entry_there old.limits.window (open_at query (machine_in old).queries) (entry_in old.table query) o (h.jobs.outstanding query) e in
+    let stops : Stops old.table query Starved entry.kept (hands entry.kept.tenant) new.table =
+    subst (λ (x : Option EntryData). MatchOption x (IsSameTable old.table new.table)
+    (λ (d : EntryData). Stops old.table query Starved d (hands d.tenant) new.table)) entry.there s in
+    let left = stops_query old new query Starved entry.kept (hands entry.kept.tenant) h k f t entry.there stops in
+    subst (λ u. StopsQuery (core_of old) u query Starved (told u) (core_of new)) entry.is.tenant
+    (subst (λ (hs : List Hand). StopsQuery (core_of old) entry.kept.tenant query Starved hs (core_of new)) (same entry.kept.tenant) left)
+
+-- ---- a query is planned
+
+work_planned : (window : ℕ) (o : Open) (legs : ResolvedLegs) (snap : SnapData) (rs : List GridData) → IsLegsOf window o legs snap → AreRunsOf o.asked.query.grid rs
+    → IsWorkOf window o (planned_work legs rs)
+work_planned window o legs snap rs h runs = record {
+  query = h.query;
+  whole = h.whole;
+  runs = runs;
+  values = λ i run part there g. absurd (empty_unfilled (length rs * legs_in legs) i part g);
+}
+
+pub planned_state : (old new : State) (query count : ℕ) (legs : ResolvedLegs) (rs : List GridData) (snap : SnapData) (o : Open) → IsState old → KeepsHistory old new
+    → KeepsFailures old new → IsTable new.table → open_at query (machine_in old).queries ≡ Some o → IsLegsOf old.limits.window o legs snap
+    → AreRunsOf o.asked.query.grid rs → table.IsPlannedOver old.table query legs rs snap count new.table → IsState new
+planned_state old new query count legs rs snap o h k f t there is runs p =
+    let window = old.limits.window in
+    let a = ask_of old query _ h p.was in
+    let both : Some a.opened ≡ Some o = sym a.there ∙ there in
+    let same : a.opened ≡ o = cc in
+    let entry = subst (λ (x : Open). IsEntryOf window x (record { tenant = p.tenant; stop = None; work = None })) same a.is in
+    let J = map entry_of old.journal.items in
+    state_beside old new h k t (counts_as old new f h.counts)
+    (outstanding_set window query (machine_in old).queries o _ (entry_in old.table) (entry_in new.table) h.jobs.outstanding there
+    (record { tenant = entry.tenant; stop = entry.stop; work = work_planned window o legs snap rs is runs }) p.entries)
+    (jobs_with J window p.tenant (waiting_of old.table) (waiting_of new.table) _ h.jobs.waiting_for p.queues.waiting
+    (each_front _ (waiting_of old.table p.tenant) p.jobs (h.jobs.waiting_for p.tenant)
+    (jobs_planned J window p.tenant query (as_opened o) legs rs snap 0 p.jobs (asked_open J query o there) (sym entry.tenant)
+    (record { query = is.query; whole = is.whole; bound = is.bound; stands = is.stands; apart = is.apart }) runs.each p.planned.each))
+    (λ v d. (p.queues.others v d).waiting))
+    (covered_beside old new h k f
+    (tried_added old.table new.table p.tenant p.jobs _ p.queues (untried p.tenant query legs rs snap 0 p.jobs p.planned.each))
+    (let far = ap exhausted_in (progress_set old new query planned _ _ k p.was p.entries refl) in
+    let none = exhausted_no_more query planned (λ _. omega arith) (core_of old).progress in
+    omega (arith, far, none)))
+
+pub planned_core : (old new : State) (query count : ℕ) (legs : ResolvedLegs) (rs : List GridData) (snap : SnapData) (o : Open) → IsState old → KeepsHistory old new
+    → KeepsFailures old new → IsTable new.table → open_at query (machine_in old).queries ≡ Some o → legs.nodes ≡ []
+    → rs ≡ runs_of old.limits.interval o.asked.query.grid
+    → table.IsPlannedOver old.table query legs rs snap count new.table → IsPlanned (core_of old) query count (core_of new)
+planned_core old new query count legs rs snap o h k f t there whole runs p =
+    let a = ask_of old query _ h p.was in
+    let both : Some a.opened ≡ Some o = sym a.there ∙ there in
+    let same : a.opened ≡ o = cc in
+    let owner : p.tenant ≡ o.tenant = a.is.tenant ∙ ap (λ (x : Open). x.tenant) same in
+    let heads : map head_of p.jobs ≡ planned_heads o.tenant query 0 (runs_of old.limits.interval o.asked.query.grid) =
+    heads_planned p.tenant query legs rs snap p.jobs whole p.planned
+    ∙ (λ i. planned_heads (owner i) query 0 (runs i)) in
+    let many = many_planned p.tenant query legs rs snap p.jobs whole p.planned in
+    let changed = has_queue old new p.tenant (waiting_of old.table p.tenant ++ p.jobs) (hands_of old.table p.tenant)
+    (cond (is_empty p.jobs) (ring_of old.table) (cond (is_empty (waiting_of old.table p.tenant)) (put_last p.tenant (ring_of old.table)) (ring_of old.table)))
+    h.table t p.queues in
+    let was = queue_is old h.table p.tenant in
+    let front = map_front head_of (waiting_of old.table p.tenant) p.jobs in
+    let told : ChangesQueue (core_of old) p.tenant
+    (record { waiting = (queue_at (core_of old) p.tenant).waiting ++ map head_of p.jobs; hands = (queue_at (core_of old) p.tenant).hands })
+    (ring_with (core_of old) p.tenant (map head_of p.jobs)) (with_progress query planned (core_of old).progress) (core_of new) = record {
+      queue_is = record {
+        here = changed.here
+            ∙ (λ i. record { waiting = front i; hands = hands_of old.table p.tenant })
+            ∙ (λ i. record { waiting = (sym was i).waiting ++ map head_of p.jobs; hands = (sym was i).hands });
+        others = changed.others;
+        ring_is = changed.ring_is
+            ∙ (λ i. cond (sym (empty_heads p.jobs) i) (ring_of old.table)
+            (cond ((sym (empty_heads (waiting_of old.table p.tenant)) ∙ ap (λ (q : QueueHeads). is_empty q.waiting) (sym was)) i)
+            (put_last p.tenant (ring_of old.table)) (ring_of old.table)));
+      };
+      history = history_same old new k;
+      failed = ap (λ (v : _). v.items) f.failed;
+      progress_is = progress_set old new query planned _ _ k p.was p.entries refl;
+    } in
+    record {
+      whole = record {
+        opened = o;
+        is_open = there;
+        cancelled_at = sym (ap (λ (x : Open). x.cancelled) same) ∙ sym a.is.stop;
+        far = begun query;
+        is_far = far_at query (machine_in old).queries (entry_in old.table) o there ∙ ap (λ (x : Option EntryData). Some (far_of query x)) p.was;
+        stop_is = refl;
+      };
+      unplanned = refl;
+      count_is = p.count_is ∙ many ∙ ap (λ (xs : List GridData). length xs) runs;
+      leaves = subst (λ u. ChangesQueue (core_of old) u
+          (record { waiting = (queue_at (core_of old) u).waiting ++ planned_heads o.tenant query 0 (runs_of old.limits.interval o.asked.query.grid); hands = (queue_at (core_of old) u).hands })
+          (ring_with (core_of old) u (planned_heads o.tenant query 0 (runs_of old.limits.interval o.asked.query.grid)))
+          (with_progress query planned (core_of old).progress) (core_of new)) owner
+          (subst (λ (hs : List JobHead). ChangesQueue (core_of old) p.tenant
+          (record { waiting = (queue_at (core_of old) p.tenant).waiting ++ hs; hands = (queue_at (core_of old) p.tenant).hands })
+          (ring_with (core_of old) p.tenant hs) (with_progress query planned (core_of old).progress) (core_of new)) heads told);
+    }
+
+-- why it isn't
+pub unplanned : (old new : State) (query : ℕ) (error : PlanError) → IsState old → KeepsHistory old new → KeepsFailures old new
+    → table.IsUnplanned (entry_in old.table query) error → IsSameTable old.table new.table → IsUnplanned (core_of old) query error (core_of new)
+unplanned old new query plan_error.PlannedBefore h k f u e = (planned_before (entry_in old.table query) refl u, core_same old new k f.failed e) where
+  planned_before : (x : Option EntryData) → entry_in old.table query ≡ x → table.IsUnplanned x plan_error.PlannedBefore → IsPlannedBefore (core_of old) query
+  planned_before None e u = absurd u
+  planned_before (Some d) e u = record {
+    stop = d.stop;
+    opened = open_with old query d d.stop (ask_of old query d h e) e refl;
+    was_planned = ap is_planned u.1;
+  }
+unplanned old new query (plan_error.Stopped why) h k f u e = (gone_by old query why h (stop_of (entry_in old.table query) u), core_same old new k f.failed e) where
+  stop_of : (x : Option EntryData) → table.IsUnplanned x (plan_error.Stopped why) → table.IsGone x why
+  stop_of None u = absurd u
+  stop_of (Some d) u = u.1
+unplanned old new query plan_error.OutOfMemory h k f u e = core_same old new k f.failed e

@@ -1,0 +1,264 @@
+-- What the calls on jobs answer and leave: this project's own.
+use Rattle.std.specs.Arc.{arc_value}
+use Rattle.std.specs.Prelude.{◌≡◌, ◌⊎◌, ℕ, ◌+◌, ◌-◌, ◌<◌, ◌≤◌, Bool, true, false, cond, Option, Some, None, List, [], ◌∷◌, ◌++◌, length}
+use Rattle.pf_base.specs.declared.plain.JobHead.{JobHead}
+use Rattle.pf_block.specs.Snaps.{SnapData}
+use Rattle.pf_base.specs.Grids.{points}
+use Rattle.pf_base.specs.declared.plain.Limits.{Limits}
+use Rattle.pf_journal.specs.Machine.{Open, answer_of, code_of, open_at}
+use Rattle.pf_model.specs.Log.{store_of}
+use Rattle.pf_query.specs.Jobs.{has_hand, hand_of, is_empty, tried, without_hand}
+use Rattle.pf_query.specs.Queueing.{put_last}
+use Rattle.pf_shard.specs.declared.parts.Part.{Part}
+use Rattle.pf_query.specs.declared.answers.Collected.{Collected}
+use Rattle.pf_query.specs.declared.answers.Collected.TheVariants as collected
+use Rattle.pf_query.specs.declared.answers.FailedTry.{FailedTry}
+use Rattle.pf_query.specs.declared.answers.FailedTry.TheVariants as failed
+use Rattle.pf_query.specs.declared.answers.Finished.{Finished}
+use Rattle.pf_query.specs.declared.answers.Finished.TheVariants as finished
+use Rattle.pf_query.specs.declared.answers.PlanError.{PlanError}
+use Rattle.pf_query.specs.declared.answers.PlanError.TheVariants as plan_error
+use Rattle.pf_query.specs.declared.gathered.Gathered.{Gathered}
+use Rattle.pf_query.specs.declared.job.Hand.{Hand}
+use Rattle.pf_query.specs.declared.job.Held.{Held}
+use Rattle.pf_query.specs.declared.stop.Stop.{Stop}
+use Rattle.pf_query.specs.declared.stop.Stop.TheVariants.{Cancelled, Exhausted, Starved}
+use Rattle.pf_shard.specs.Lawful.{ResolvedLegs, legs_data}
+use Rattle.pf_core.specs.Asks.{opened_at}
+use Rattle.pf_core.specs.Cores.{AreSameJobs, CoreData, HasQueue, IsLeft, IsSameHistory, in_hand_of, machine_of, queue_at, queued_of, tries_left}
+use Rattle.pf_core.specs.Jobs.{AreParts, IsForAsk, IsLegsOf, IsValueOver, QueueHeads, failures_after, planned_heads, runs_of}
+use Rattle.pf_core.specs.Progress.{QueryProgress, cancel_in, handed_out, planned, progress_at, stopped, with_progress}
+
+-- ---- conditions
+
+-- legs over a snapshot are those of a query, if it is open
+abbrev pub BindsOpen : ℕ → Option Open → ResolvedLegs → SnapData → Type 0
+BindsOpen window None legs snap = ⊥
+BindsOpen window (Some o) legs snap = IsLegsOf window o legs snap
+
+-- a held job is one of a query that was asked in this journal
+abbrev pub StandsForAsk : CoreData → Held → Type 0
+StandsForAsk c h = IsForAsk c.journal c.limits.window h.head (arc_value h.legs) h.run (arc_value h.snap)
+
+-- a part is the value of a held job's leg over its run
+abbrev pub IsPartOf : CoreData → Held → Part → Type 0
+IsPartOf c h part =
+    (at : Open) → opened_at c.journal h.head.query ≡ Some at
+    → IsValueOver (store_of c.limits.window at.log).samples (legs_data (arc_value h.legs)) h.head.leg h.run part
+
+-- ---- what calls leave
+
+-- a query is open, and stopped for this, if it is
+pub record IsOpenWith (c : CoreData) (query : ℕ) (stop : Option Stop) : Type 0 where
+  pub opened : Open
+  pub is_open : open_at query (machine_of c).queries ≡ Some opened
+  pub cancelled_at : opened.cancelled ≡ cancel_in stop
+  pub far : QueryProgress
+  pub is_far : progress_at query c.progress ≡ Some far
+  pub stop_is : far.stop ≡ stop
+
+-- a query is open and stopped
+abbrev pub IsStoppedBy : CoreData → ℕ → Stop → Type 0
+IsStoppedBy c query why = IsOpenWith c query (Some why)
+
+-- a query is open, and isn't stopped
+abbrev pub IsWhole : CoreData → ℕ → Type 0
+IsWhole c query = IsOpenWith c query None
+
+-- one tenant's jobs, the ring, and how far queries are, are these, and nothing else is changed
+pub record ChangesQueue (old : CoreData) (u : ℕ) (queue : QueueHeads) (ring : List ℕ) (progress : List QueryProgress) (new : CoreData) : Type 0 where
+  pub queue_is : HasQueue old u queue ring new
+  pub history : IsSameHistory old new
+  pub failed : new.failed ≡ old.failed
+  pub progress_is : new.progress ≡ progress
+
+-- the first tenant's first job is in an actor's hand, and the tenant is last if it has more
+pub record IsTaken (old : CoreData) (actor : ℕ) (held : Held) (new : CoreData) : Type 0 where
+  pub tenant : ℕ
+  pub tenants : List ℕ
+  pub heads : List JobHead
+  pub ring : old.ring ≡ tenant ∷ tenants
+  pub waiting : (queue_at old tenant).waiting ≡ held.head ∷ heads
+  pub actor_is : held.actor ≡ actor
+  pub leaves : ChangesQueue old tenant (record { waiting = heads; hands = (queue_at old tenant).hands ++ hand_of held ∷ [] })
+      (cond (is_empty heads) tenants (put_last tenant tenants)) old.progress new
+  pub stands : StandsForAsk new held
+  pub whole : IsWhole new held.head.query
+  pub own : held.head.tenant ≡ tenant
+  pub owner : whole.opened.tenant ≡ tenant
+  pub few : held.head.tries < 5
+  pub tries : tries_left new + (5 - held.head.tries) ≡ tries_left old
+
+abbrev pub Takes : CoreData → ℕ → Option Held → CoreData → Type 0
+Takes old actor None new = (old.ring ≡ []) × (new ≡ old)
+Takes old actor (Some held) new = IsTaken old actor held new
+
+-- a tenant's jobs in hand but for one
+abbrev pub hands_left : CoreData → Held → List Hand
+hands_left c held = without_hand (hand_of held) (queue_at c held.head.tenant).hands
+
+-- a job is in hand no more
+abbrev pub IsReleased : CoreData → Held → CoreData → Type 0
+IsReleased old held new =
+    ChangesQueue old held.head.tenant
+    (record { waiting = (queue_at old held.head.tenant).waiting; hands = hands_left old held }) old.ring old.progress new
+
+abbrev pub is_in_hand : CoreData → Held → Bool
+is_in_hand c held = has_hand (hand_of held) (queue_at c held.head.tenant).hands
+
+-- a job's query isn't open, or it is and the job isn't in hand
+abbrev pub IsNotHeld : CoreData → Held → Type 0
+IsNotHeld c held =
+    (open_at held.head.query (machine_of c).queries ≡ None) ⊎ (IsWhole c held.head.query × (is_in_hand c held ≡ false))
+
+abbrev pub IsFinished : CoreData → Held → Finished → CoreData → Type 0
+IsFinished old held finished.Stored new = IsWhole old held.head.query × ((is_in_hand old held ≡ true) × IsReleased old held new)
+IsFinished old held (finished.Gone why) new = IsStoppedBy old held.head.query why × IsReleased old held new
+IsFinished old held finished.NotHeld new = IsNotHeld old held × (new ≡ old)
+
+-- a failed try of an actor is counted
+abbrev pub counted : CoreData → ℕ → CoreData
+counted c actor = record c { failed = failures_after c.failed actor }
+
+-- a job waits last of its tenant's, tried once more
+abbrev pub IsPutBack : CoreData → Held → CoreData → Type 0
+IsPutBack old held new =
+    ChangesQueue old held.head.tenant
+    (record {
+      waiting = (queue_at old held.head.tenant).waiting ++ tried (held.head.tries + 1) held.head ∷ [];
+      hands = hands_left old held;
+    })
+    (cond (is_empty (queue_at old held.head.tenant).waiting) (put_last held.head.tenant old.ring) old.ring) old.progress new
+
+-- a query is stopped: none of its jobs waits any more, and these of its tenant's jobs are in hand
+pub record StopsQuery (old : CoreData) (u query : ℕ) (why : Stop) (hands : List Hand) (new : CoreData) : Type 0 where
+  pub left : IsLeft old u query hands new
+  pub history : IsSameHistory old new
+  pub failed : new.failed ≡ old.failed
+  pub progress_is : new.progress ≡ with_progress query (stopped why) old.progress
+
+-- what became of a failed job, over the core in which the try is counted
+abbrev pub IsTried : CoreData → Held → FailedTry → CoreData → Type 0
+IsTried old held (failed.Again tries) new =
+    IsWhole old held.head.query × ((is_in_hand old held ≡ true) × ((tries ≡ held.head.tries + 1) × ((tries < 5) × IsPutBack old held new)))
+IsTried old held (failed.Exhausted job) new =
+    IsWhole old held.head.query
+    × ((is_in_hand old held ≡ true) × ((job ≡ held.head.job) × ((held.head.tries ≡ 4) × StopsQuery old held.head.tenant held.head.query (Exhausted job) (hands_left old held) new)))
+IsTried old held (failed.Gone why) new = IsStoppedBy old held.head.query why × IsReleased old held new
+IsTried old held failed.NotHeld new = IsNotHeld old held × (new ≡ old)
+
+abbrev pub IsFailed : CoreData → Held → FailedTry → CoreData → Type 0
+IsFailed old held answer new = IsTried (counted old held.actor) held answer new
+
+-- how often waiting jobs may be tried, once a try failed
+abbrev pub TriesAfter : CoreData → FailedTry → CoreData → Type 0
+TriesAfter old (failed.Again tries) new = tries_left new ≡ tries_left old + (5 - tries)
+TriesAfter old _ new = tries_left new ≤ tries_left old
+
+-- a query is stopped, if it is open, and one of its jobs is in hand no more
+pub record IsLackedBy (old : CoreData) (held : Held) (new : CoreData) : Type 0 where
+  pub none : open_at held.head.query (machine_of old).queries ≡ None → new ≡ old
+  pub some : (o : Open) → open_at held.head.query (machine_of old).queries ≡ Some o
+      → StopsQuery old o.tenant held.head.query Starved (without_hand (hand_of held) (queue_at old o.tenant).hands) new
+
+-- a query is stopped, if it is open
+pub record IsLacked (old : CoreData) (query : ℕ) (new : CoreData) : Type 0 where
+  pub none : open_at query (machine_of old).queries ≡ None → new ≡ old
+  pub some : (o : Open) → open_at query (machine_of old).queries ≡ Some o
+      → StopsQuery old o.tenant query Starved (queue_at old o.tenant).hands new
+
+-- the ring once these jobs of a tenant wait behind its others
+abbrev pub ring_with : CoreData → ℕ → List JobHead → List ℕ
+ring_with c u heads = cond (is_empty heads) c.ring (cond (is_empty (queue_at c u).waiting) (put_last u c.ring) c.ring)
+
+-- a query is planned: a job for each of its runs waits, last of its tenant's
+pub record IsPlanned (old : CoreData) (query : ℕ) (count : ℕ) (new : CoreData) : Type 0 where
+  pub whole : IsWhole old query
+  pub unplanned : whole.far.planned ≡ false
+  pub count_is : count ≡ length (runs_of old.limits.interval whole.opened.asked.query.grid)
+  pub leaves : ChangesQueue old whole.opened.tenant
+      (record {
+        waiting = (queue_at old whole.opened.tenant).waiting ++ planned_heads whole.opened.tenant query 0 (runs_of old.limits.interval whole.opened.asked.query.grid);
+        hands = (queue_at old whole.opened.tenant).hands;
+      })
+      (ring_with old whole.opened.tenant (planned_heads whole.opened.tenant query 0 (runs_of old.limits.interval whole.opened.asked.query.grid)))
+      (with_progress query planned old.progress) new
+
+-- a query is open, and was planned
+pub record IsPlannedBefore (c : CoreData) (query : ℕ) : Type 0 where
+  pub stop : Option Stop
+  pub opened : IsOpenWith c query stop
+  pub was_planned : opened.far.planned ≡ true
+
+-- why a query isn't planned
+abbrev pub IsUnplanned : CoreData → ℕ → PlanError → CoreData → Type 0
+IsUnplanned old query plan_error.PlannedBefore new = IsPlannedBefore old query × (new ≡ old)
+IsUnplanned old query (plan_error.Stopped why) new = IsStoppedBy old query why × (new ≡ old)
+IsUnplanned old query plan_error.OutOfMemory new = new ≡ old
+
+-- a query is planned, and so many of its jobs wait and are in hand
+pub record AreCountedOf (c : CoreData) (query queued in_hand : ℕ) : Type 0 where
+  pub whole : IsWhole c query
+  pub was_planned : whole.far.planned ≡ true
+  pub queued_is : queued ≡ queued_of c whole.opened.tenant query
+  pub in_hand_is : in_hand ≡ in_hand_of c whole.opened.tenant query
+
+-- what is handed out of a query
+pub record IsGathered (c : CoreData) (query : ℕ) (g : Gathered) : Type 0 where
+  pub counts : AreCountedOf c query 0 0
+  pub first : counts.whole.far.given ≡ false
+  pub parts : AreParts c.limits.window counts.whole.opened (arc_value g.legs) g.runs.items g.parts.items
+
+-- a query's parts were handed out before
+pub record IsGivenBefore (c : CoreData) (query : ℕ) : Type 0 where
+  pub counts : AreCountedOf c query 0 0
+  pub given : counts.whole.far.given ≡ true
+
+-- a query is open and isn't planned
+pub record IsUnbegun (c : CoreData) (query : ℕ) : Type 0 where
+  pub whole : IsWhole c query
+  pub unplanned : whole.far.planned ≡ false
+
+-- a query's parts are handed out, and nothing else is changed
+pub record IsHandedOut (old : CoreData) (query : ℕ) (new : CoreData) : Type 0 where
+  pub history : IsSameHistory old new
+  pub jobs : AreSameJobs old new
+  pub progress_is : new.progress ≡ with_progress query handed_out old.progress
+
+-- what is told of an open query
+abbrev pub IsTold : CoreData → ℕ → Collected → CoreData → Type 0
+IsTold old query (collected.Stopped why) new = IsStoppedBy old query why × (new ≡ old)
+IsTold old query collected.Unplanned new = IsUnbegun old query × (new ≡ old)
+IsTold old query (collected.Waiting queued in_hand) new = AreCountedOf old query queued in_hand × ((0 < queued + in_hand) × (new ≡ old))
+IsTold old query collected.Given new = IsGivenBefore old query × (new ≡ old)
+IsTold old query (collected.Parts g) new = IsGathered old query g × IsHandedOut old query new
+
+-- none exactly where it isn't open
+abbrev pub IsCollected : CoreData → ℕ → Option Collected → CoreData → Type 0
+IsCollected old query None new = (open_at query (machine_of old).queries ≡ None) × (new ≡ old)
+IsCollected old query (Some told) new = IsTold old query told new
+
+-- ---- answers
+
+-- the code of an open query's answer: 503, 500 or 507 by why it is stopped, and else that of its direct evaluation, once its parts
+-- were handed out
+abbrev pub IsCodeBy : Limits → Open → (given : Bool) → Option Stop → (code : ℕ) → Type 0
+IsCodeBy l o given None code = (given ≡ true) × (code ≡ code_of (answer_of l o))
+IsCodeBy l o given (Some (Cancelled place)) code = code ≡ 503
+IsCodeBy l o given (Some (Exhausted job)) code = code ≡ 500
+IsCodeBy l o given (Some Starved) code = code ≡ 507
+
+-- an open query may be answered with this code
+pub record IsAnswerable (c : CoreData) (query code : ℕ) : Type 0 where
+  pub stop : Option Stop
+  pub opened : IsOpenWith c query stop
+  pub coded : IsCodeBy c.limits opened.opened opened.far.given stop code
+
+-- how many steps of a query were evaluated: all, once it is planned
+abbrev pub evaluated_by : Option Open → Option QueryProgress → ℕ
+evaluated_by None far = 0
+evaluated_by (Some o) None = 0
+evaluated_by (Some o) (Some far) = cond far.planned (length (points o.asked.query.grid)) 0
+
+abbrev pub evaluated_of : CoreData → ℕ → ℕ
+evaluated_of c query = evaluated_by (open_at query (machine_of c).queries) (progress_at query c.progress)

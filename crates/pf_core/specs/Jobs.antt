@@ -1,0 +1,146 @@
+-- The jobs of a core as contracts see them, and what a job in an actor's hand stands for. This project's own.
+use Rattle.std.specs.List.{count_by, sum, sum_by}
+use Rattle.std.specs.Prelude.{◌≡◌, ℕ, zero, suc, ◌+◌, ◌-◌, ◌*◌, ◌<◌, Bool, not, pos, cond, nat_eq, nat_lt, Option, Some, None, List, [], ◌∷◌, ◌++◌, Contains, length, map, replicate, slice_get, slice_index_or, slice_set}
+use Rattle.pf_base.specs.GridLists.{GridData, IsGrid}
+use Rattle.pf_base.specs.Grids.{points}
+use Rattle.pf_base.specs.declared.plain.JobHead.{JobHead}
+use Rattle.pf_base.specs.declared.plain.Row.{Row}
+use Rattle.pf_block.specs.Snaps.{SnapData}
+use Rattle.pf_core.specs.Asks.{opened_at}
+use Rattle.pf_journal.specs.Machine.{Entry, Open}
+use Rattle.pf_model.specs.Legs.{LegsData, leg_part}
+use Rattle.pf_model.specs.Lists.{Each}
+use Rattle.pf_model.specs.Log.{AreApart, store_of}
+use Rattle.pf_query.specs.Tables.{is_of}
+use Rattle.pf_query.specs.Works.{last_of}
+use Rattle.pf_query.specs.declared.job.Hand.{Hand}
+use Rattle.pf_shard.specs.Bound.{IsBoundOver}
+use Rattle.pf_shard.specs.LegParts.{part_at}
+use Rattle.pf_shard.specs.Lawful.{ResolvedLegs, legs_data}
+use Rattle.pf_shard.specs.declared.parts.Part.{Part}
+use Rattle.pf_split.specs.Pieces.{pieces_of}
+use Rattle.pf_store.specs.Standing.{StandsFor}
+
+-- ---- the jobs of tenants
+
+-- what is said of a tenant's jobs: of those that wait, first to last, and of those in hand
+pub record QueueHeads : Type 0 where
+  pub waiting : List JobHead
+  pub hands : List Hand
+
+abbrev pub no_heads : QueueHeads
+no_heads = record { waiting = []; hands = [] }
+
+-- what f gives for so many numbers, from a first one on
+abbrev pub numbered : {X : Type 0} → (ℕ → X) → ℕ → ℕ → List X
+numbered f first zero = []
+numbered f first (suc n) = f first ∷ numbered f (first + 1) n
+
+-- the jobs of all tenants that there may be
+unfoldable pub by_tenant : (ℕ → QueueHeads) → List QueueHeads
+by_tenant f = numbered f 0 1024
+
+-- how many jobs are of a query
+abbrev pub heads_with : ℕ → List JobHead → ℕ
+heads_with query hs = count_by (is_of query) hs
+
+-- those of other queries
+abbrev pub is_other_head : ℕ → JobHead → Bool
+is_other_head query h = not (nat_eq h.query query)
+
+-- how often waiting jobs may be tried still
+abbrev pub tries_of : List JobHead → ℕ
+tries_of hs = sum_by (λ h. 5 - h.tries) hs
+
+abbrev pub tries_in : List QueueHeads → ℕ
+tries_in qs = sum_by (λ q. tries_of q.waiting) qs
+
+-- how often jobs that wait, and jobs in hand, were tried already
+abbrev pub tried_of : QueueHeads → ℕ
+tried_of q = sum_by (λ h. h.tries) q.waiting + sum_by (λ h. h.head.tries) q.hands
+
+abbrev pub tried_in : List QueueHeads → ℕ
+tried_in qs = sum_by tried_of qs
+
+-- ---- counts of failed tries
+
+-- of 32 actors
+abbrev pub no_failures : List ℕ
+no_failures = replicate 32 0
+
+-- one more of an actor; at the greatest total none
+abbrev pub failures_after : List ℕ → ℕ → List ℕ
+failures_after fs actor = cond (nat_lt (sum fs) 18446744073709551615) (slice_set fs actor (slice_index_or fs actor 0 + 1)) fs
+
+-- ---- the runs of a query
+
+-- the steps of runs, one after another
+abbrev pub steps_in : List GridData → List ℕ
+steps_in [] = []
+steps_in (r ∷ rs) = points r ++ steps_in rs
+
+-- the runs of a grid: its steps by intervals of a length in milliseconds
+abbrev pub runs_of : ℕ → GridData → List GridData
+runs_of interval grid = map (λ p. p.run) (pieces_of interval grid.step (points grid))
+
+-- what is said of the jobs of a query over its runs, from a number on: one job for each run, not tried yet
+abbrev pub planned_heads : (tenant query number : ℕ) → List GridData → List JobHead
+planned_heads tenant query number [] = []
+planned_heads tenant query number (r ∷ rs) =
+    record { tenant = tenant; query = query; job = number; leg = 0; first = r.start; last = last_of r; tries = 0 }
+    ∷ planned_heads tenant query (number + 1) rs
+
+-- ---- what jobs and parts stand for
+
+-- legs over a snapshot are those of a query, as one leg over the samples that its tenant had at the ask
+pub record IsLegsOf (window : ℕ) (at : Open) (legs : ResolvedLegs) (snap : SnapData) : Type 0 where
+  pub query : legs.resolved.query ≡ at.asked.query.tree
+  pub whole : legs.nodes ≡ []
+  pub bound : IsBoundOver legs.resolved snap.labels
+  pub stands : StandsFor snap (store_of window at.log).samples
+  pub apart : AreApart (store_of window at.log).samples
+
+-- a run of a grid's steps
+pub record IsRunOf (grid run : GridData) : Type 0 where
+  pub lawful : IsGrid run
+  pub step : run.step ≡ grid.step
+  pub among : (t : ℕ) → Contains (points run) t → Contains (points grid) t
+
+-- an open query is asked over this grid
+abbrev pub HasGrid : Option Open → GridData → Type 0
+HasGrid None grid = ⊥
+HasGrid (Some o) grid = grid ≡ o.asked.query.grid
+
+-- these runs are the steps of a grid, one after another
+pub record AreRunsOf (grid : GridData) (runs : List GridData) : Type 0 where
+  pub steps : steps_in runs ≡ points grid
+  pub each : Each (IsRunOf grid) runs
+
+-- a job is about a run of a query's only leg
+pub record IsJobOf (at : Open) (head : JobHead) (run : GridData) : Type 0 where
+  pub tenant : head.tenant ≡ at.tenant
+  pub leg : head.leg ≡ 0
+  pub run_is : IsRunOf at.asked.query.grid run
+  pub first : head.first ≡ run.start
+  pub last : head.last ≡ last_of run
+
+-- a part is what a leg is over a run
+abbrev pub IsValueOver : List Row → LegsData → (leg : ℕ) → GridData → Part → Type 0
+IsValueOver samples legs leg run part =
+    (k : ℕ) → k < run.len → part_at part k ≡ leg_part samples legs leg (pos (run.start + k * run.step))
+
+-- legs, a run and a snapshot are those of a job of the query that an entry of the journal asked
+pub record IsForAsk (journal : List Entry) (window : ℕ) (head : JobHead) (legs : ResolvedLegs) (run : GridData) (snap : SnapData) : Type 0 where
+  pub at : Open
+  pub asked : opened_at journal head.query ≡ Some at
+  pub legs_of : IsLegsOf window at legs snap
+  pub job_of : IsJobOf at head run
+
+-- legs and parts are those of a query's runs, whose steps are the query's, run by run
+pub record AreParts (window : ℕ) (at : Open) (legs : ResolvedLegs) (runs : List GridData) (parts : List Part) : Type 0 where
+  pub query : legs.resolved.query ≡ at.asked.query.tree
+  pub whole : legs.nodes ≡ []
+  pub steps : steps_in runs ≡ points at.asked.query.grid
+  pub many : length parts ≡ length runs
+  pub values : (i : ℕ) (run : GridData) (part : Part) → slice_get runs i ≡ Some run → slice_get parts i ≡ Some part
+      → IsValueOver (store_of window at.log).samples (legs_data legs) 0 run part
