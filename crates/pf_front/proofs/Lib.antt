@@ -1,0 +1,7 @@
+mod Asked
+mod Hands
+mod Parts
+mod Plans
+mod Progress
+mod Settled
+mod Tries

@@ -1,0 +1,61 @@
+-- What is answered of open queries: this project's own.
+use Rattle.std.specs.Prelude.{◌≡◌, ℕ, ◌+◌, ◌<◌, None, Some, length}
+use Rattle.pf_base.specs.Grids.{points}
+use Rattle.pf_base.specs.declared.plain.By.{By}
+use Rattle.pf_base.specs.declared.plain.Limits.{Limits}
+use Rattle.pf_core.specs.Calls.{IsWhole}
+use Rattle.pf_core.specs.Cores.{AreClosed, CoreData, Enters, in_hand_of, machine_of, queued_of}
+use Rattle.pf_front.specs.Works.{WorksOn}
+use Rattle.pf_front.specs.declared.answering.Answering.{Answering}
+use Rattle.pf_front.specs.declared.answering.Answering.TheVariants.{Waits, Answered}
+use Rattle.pf_front.specs.declared.answering.Reply.{Reply}
+use Rattle.pf_front.specs.declared.outcome.Outcome.{Outcome}
+use Rattle.pf_front.specs.declared.outcome.Outcome.TheVariants as outcome
+use Rattle.pf_journal.specs.Machine.{AreSteps, Open, answer, answer_of, open_at}
+use Rattle.pf_model.specs.Direct.{failed, gathered}
+
+-- the code that goes with what came out of a query
+abbrev pub code_in : Outcome → ℕ
+code_in (outcome.Matrix rows) = 200
+code_in (outcome.Failed step kind) = 422
+code_in outcome.Cancelled = 503
+code_in (outcome.Exhausted job) = 500
+code_in outcome.Starved = 507
+
+-- what may come out of an open query: its direct evaluation, or that it was cancelled; of one that is not cancelled also that a job
+-- failed five times, or that memory ran out
+abbrev pub IsOutcomeOf : Limits → Open → Outcome → Type 0
+IsOutcomeOf l o (outcome.Matrix rows) = (o.cancelled ≡ None) × (answer_of l o ≡ gathered rows)
+IsOutcomeOf l o (outcome.Failed step kind) = (o.cancelled ≡ None) × (answer_of l o ≡ failed step kind)
+IsOutcomeOf l o outcome.Cancelled = (place : ℕ) × (o.cancelled ≡ Some place)
+IsOutcomeOf l o (outcome.Exhausted job) = o.cancelled ≡ None
+IsOutcomeOf l o outcome.Starved = o.cancelled ≡ None
+
+-- a reply tells what came out, its code, and that no step was cached
+pub record IsReplyOf (l : Limits) (o : Open) (reply : Reply) : Type 0 where
+  pub coded : reply.code ≡ code_in reply.outcome
+  pub outcome_of : IsOutcomeOf l o reply.outcome
+  pub uncached : reply.cached ≡ 0
+  pub steps : AreSteps (length (points o.asked.query.grid)) reply.code (reply.cached + reply.evaluated)
+
+-- an open query was answered, after work that entered nothing
+pub record IsReplied (old : CoreData) (by : By) (query : ℕ) (reply : Reply) (new : CoreData) : Type 0 where
+  pub opened : Open
+  pub is_open : open_at query (machine_of old).queries ≡ Some opened
+  pub middle : CoreData
+  pub works : WorksOn old middle
+  pub entered : Enters middle by (answer query reply.code reply.cached reply.evaluated) new
+  pub closed : AreClosed middle query new
+  pub is : IsReplyOf old.limits opened reply
+
+-- a query that isn't stopped has so many jobs, all in hand
+pub record IsInHands (old : CoreData) (query jobs : ℕ) (new : CoreData) : Type 0 where
+  pub works : WorksOn old new
+  pub whole : IsWhole new query
+  pub none_waits : queued_of new whole.opened.tenant query ≡ 0
+  pub jobs_are : jobs ≡ in_hand_of new whole.opened.tenant query
+  pub some : 0 < jobs
+
+abbrev pub IsAnswered : CoreData → By → (query : ℕ) → Answering → CoreData → Type 0
+IsAnswered old by query (Waits jobs) new = IsInHands old query jobs new
+IsAnswered old by query (Answered reply) new = IsReplied old by query reply new

@@ -1,0 +1,75 @@
+-- How far the work on an open query is, as contracts inside of this crate see it: this project's own.
+use Rattle.std.specs.Arc.{arc_value}
+use Rattle.std.specs.Prelude.{◌≡◌, ◌⊎◌, ℕ, Bool, true, false, nat_lt, Option, None, Some, length}
+use Rattle.pf_base.specs.Grids.{points}
+use Rattle.pf_core.specs.Calls.{IsAnswerable, IsStoppedBy, IsWhole, evaluated_of}
+use Rattle.pf_core.specs.Cores.{CoreData, machine_of}
+use Rattle.pf_core.specs.Jobs.{AreParts}
+use Rattle.pf_core.specs.Progress.{QueryProgress, progress_at}
+use Rattle.pf_front.specs.Answers.{IsInHands, IsOutcomeOf, code_in}
+use Rattle.pf_front.specs.Works.{WorksOn}
+use Rattle.pf_front.specs.declared.outcome.Outcome.{Outcome}
+use Rattle.pf_front.specs.declared.outcome.Outcome.TheVariants as outcome
+use Rattle.pf_journal.specs.Machine.{AreSteps, Open, open_at}
+use Rattle.pf_model.specs.Direct.{Answer, failed, gathered}
+use Rattle.pf_query.specs.declared.answers.Collected.{Collected}
+use Rattle.pf_query.specs.declared.answers.Collected.TheVariants as collected
+use Rattle.pf_query.specs.declared.gathered.Gathered.{Gathered}
+use Rattle.pf_query.specs.declared.stop.Stop.{Stop}
+use Rattle.pf_query.specs.declared.stop.Stop.TheVariants.{Cancelled, Exhausted, Starved}
+
+-- a query is planned or stopped
+pub record IsBegun (c : CoreData) (query : ℕ) : Type 0 where
+  pub far : QueryProgress
+  pub is_far : progress_at query c.progress ≡ Some far
+  pub begun : (far.planned ≡ true) ⊎ ((why : Stop) × (far.stop ≡ Some why))
+
+-- a query's parts were handed out, and it isn't stopped
+pub record IsEvaluable (c : CoreData) (query : ℕ) : Type 0 where
+  pub whole : IsWhole c query
+  pub was_planned : whole.far.planned ≡ true
+  pub given : whole.far.given ≡ true
+
+-- legs and parts are those of a query that is open
+abbrev pub HasParts : CoreData → Option Open → Gathered → Type 0
+HasParts c None g = ⊥
+HasParts c (Some o) g = AreParts c.limits.window o (arc_value g.legs) g.runs.items g.parts.items
+
+-- one of a query's jobs waits
+abbrev pub some_waits : Collected → Bool
+some_waits (collected.Stopped why) = false
+some_waits collected.Unplanned = false
+some_waits (collected.Waiting queued in_hand) = nat_lt 0 queued
+some_waits collected.Given = false
+some_waits (collected.Parts g) = false
+
+-- what is told of a query once none of its jobs waits
+abbrev pub IsWorkedOff : CoreData → (query : ℕ) → Collected → CoreData → Type 0
+IsWorkedOff old query (collected.Stopped why) new = WorksOn old new × IsStoppedBy new query why
+IsWorkedOff old query collected.Unplanned new = ⊥
+IsWorkedOff old query (collected.Waiting queued in_hand) new = IsInHands old query in_hand new
+IsWorkedOff old query collected.Given new = WorksOn old new × IsEvaluable new query
+IsWorkedOff old query (collected.Parts g) new =
+    WorksOn old new × (IsEvaluable new query × HasParts new (open_at query (machine_of new).queries) g)
+
+-- what comes out of a query that is stopped
+abbrev pub stopped_as : Stop → Outcome
+stopped_as (Cancelled place) = outcome.Cancelled
+stopped_as (Exhausted job) = outcome.Exhausted job
+stopped_as Starved = outcome.Starved
+
+-- an answer as what came out
+abbrev pub IsFound : Answer → Outcome → Type 0
+IsFound a (outcome.Matrix rows) = a ≡ gathered rows
+IsFound a (outcome.Failed step kind) = a ≡ failed step kind
+IsFound a outcome.Cancelled = ⊥
+IsFound a (outcome.Exhausted job) = ⊥
+IsFound a outcome.Starved = ⊥
+
+-- an open query may be answered with what came out of it
+pub record IsSettled (c : CoreData) (query : ℕ) (found : Outcome) : Type 0 where
+  pub opened : Open
+  pub is_open : open_at query (machine_of c).queries ≡ Some opened
+  pub outcome_of : IsOutcomeOf c.limits opened found
+  pub answerable : IsAnswerable c query (code_in found)
+  pub steps : AreSteps (length (points opened.asked.query.grid)) (code_in found) (evaluated_of c query)
