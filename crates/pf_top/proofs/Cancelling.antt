@@ -1,10 +1,15 @@
 -- Lines that cancel and answer.
-use Rattle.std.proofs.Common.{◌≡◌, ℕ, inl, inr, Option, Some, None, List, [], ◌∷◌, ◌++◌, refl, sym, ap, ◌∙◌, subst, append_assoc, slice_get, codes, decimal, arith}
+use Rattle.std.proofs.Common.{◌≡◌, ℕ, inl, inr, Bool, true, false, nat_eq, Option, Some, None, List, [], ◌∷◌, ◌++◌, refl, sym, ap, ◌∙◌, subst, append_assoc, slice_get, codes, decimal, arith}
 use Rattle.std.proofs.lemmas.Slice.Eq.{bytes_eq-Decides}
 use Rattle.std.specs.Str.{bytes_eq}
 use Rattle.pf_base.specs.declared.plain.By.{By}
 use Rattle.pf_base.specs.declared.plain.Limits.{Limits}
-use Rattle.pf_core.specs.Cores.{CoreData, Enters, HasRoomFor, IsOthers, IsOwned, Stands, machine_of}
+use Rattle.pf_core.specs.Cores.{AreCancelled, CoreData, Enters, HasQueue, HasRoomFor, IsOthers, IsOwned, Stands, machine_of, others_waiting, queue_at, ring_left}
+use Rattle.pf_core.specs.Jobs.{QueueHeads}
+use Rattle.pf_core.specs.declared.answers.CancelAnswer.TheVariants.{Done}
+use Rattle.std.proofs.lemmas.Bool.Decides.{nat_tests}
+use Rattle.pf_query.specs.declared.job.Hand.{Hand as JobHand}
+use Rattle.pf_top.proofs.HandLines.{keeps_hands, keeps_same, tries_same}
 use Rattle.pf_journal.proofs.Growing.{moments-snoc}
 use Rattle.pf_journal.specs.Entered.{IsOfAsk, what_of}
 use Rattle.pf_journal.specs.Legal.{IsLawful, Legal, Moment, machine_after, moments, moments_from}
@@ -18,9 +23,9 @@ use Rattle.pf_journal.specs.Unentered.{HasQuery}
 use Rattle.pf_model.specs.Lists.{Each}
 use Rattle.pf_top.proofs.Cases.{bool_cases}
 use Rattle.pf_top.proofs.SlotLaws.{IsOpenIn, each_front, full_shut, open_in, stranger_shut}
-use Rattle.pf_top.proofs.Steps.{name_known, step_entered, step_stayed}
+use Rattle.pf_top.proofs.Steps.{grows_entered, name_known, step_entered, step_stayed}
 use Rattle.pf_top.specs.Asks.{IsAskAt, IsNoQuery, SlotRight}
-use Rattle.pf_top.specs.Clients.{IsKnown, IsStep, naming}
+use Rattle.pf_top.specs.Clients.{Grows, IsKnown, IsStep, naming}
 use Rattle.pf_top.specs.Going.{own_of}
 use Rattle.pf_top.specs.declared.client.Client.{Client}
 use Rattle.pf_top.specs.declared.client.LineRun.TheVariants as run
@@ -58,6 +63,22 @@ known_before known old new more limits grown k = record {
 
 -- ---- cancels
 
+-- a cancel leaves the jobs in hand
+cancelled_hands : (old new : CoreData) (q : ℕ) (o : Open) → open_at q (machine_of old).queries ≡ Some o → AreCancelled old q Done new → (u : ℕ) → (queue_at new u).hands ≡ (queue_at old u).hands
+cancelled_hands old new q o there left u = by (nat_eq u o.tenant) refl where
+  one : HasQueue old o.tenant (record { waiting = others_waiting old o.tenant q; hands = (queue_at old o.tenant).hands }) (ring_left old.ring o.tenant (others_waiting old o.tenant q)) new
+  one = left.0 o there
+
+  by : (b : Bool) → nat_eq u o.tenant ≡ b → (queue_at new u).hands ≡ (queue_at old u).hands
+  by true t =
+      let e : u ≡ o.tenant = grind (arith, nat_tests, t) in
+      subst (λ (v : ℕ). (queue_at new v).hands ≡ (queue_at old v).hands) (sym e) (ap (λ (x : QueueHeads). x.hands) one.here)
+  by false t = ap (λ (x : QueueHeads). x.hands) (one.others u (λ e. grind (arith, nat_tests, t, e)))
+
+pub grows_cancelled : (old new : CoreData) (by : By) (q : ℕ) (tenant : List ℕ) → IsOwned old q tenant None → Enters old by (cancel q) new → AreCancelled old q Done new → Grows old new
+grows_cancelled old new by q tenant owned e left =
+    grows_entered old new by (cancel q) e (λ idle u. subst (Each (λ (x : JobHand). x.actor ≡ 0 → ⊥)) (sym (cancelled_hands old new q owned.opened owned.is_open left u)) (idle u))
+
 unfound_open : (tenant owner : List ℕ) (m : Option Moment) (x : Moment) (w : What) (answered c : Option Moment) → m ≡ Some x → answered ≡ None → w ≡ x.entry.what → HasQuery (Some w)
     → unfound_words tenant owner (what_of m) answered c ≡ uncancelled_words tenant owner c
 unfound_open tenant owner m x w answered c there none is q = rw there (rw none (rw (sym is) (by w q))) where
@@ -80,7 +101,7 @@ other_words tenant owner (Some y) differ = elim (bool_cases (bytes_eq tenant own
 already_words : (tenant owner : List ℕ) (c : Option Moment) (y : Moment) → c ≡ Some y → tenant ≡ owner → uncancelled_words tenant owner c ≡ codes "already" ∷ decimal (place_of y) ∷ []
 already_words tenant owner c y e same = rw e (rw ((bytes_eq-Decides tenant owner).1 same) refl)
 
-module _ (known : Known) (above : List Ran) (hands : List Hand) (old new : Client) (mid : CoreData) (same : new.core ≡ mid) (number : ℕ) (id : List ℕ) (k q : ℕ) (h : IsAskAt known above (own_of old.core) k q) where
+module _ (known : Known) (above : List Ran) (hands : List Hand) (old new : Client) (held : new.hands ≡ old.hands) (number : ℕ) (id : List ℕ) (k q : ℕ) (h : IsAskAt known above (own_of old.core) k q) where
   abbrev asker : List ℕ
   asker = asker_of (ran_at k above)
 
@@ -106,30 +127,30 @@ module _ (known : Known) (above : List Ran) (hands : List Hand) (old new : Clien
       cc
 
   module _ (tenant : List ℕ) where
-    pub step_cancelled : (by : By) → IsKnown known new.core → Each (λ (e : Entry). e.client ≡ 0) old.core.journal → IsOwned old.core q tenant None → Enters old.core by (cancel q) mid → Stands mid
-        → by.client ≡ 0 → by.line ≡ number
+    pub step_cancelled : (by : By) → IsKnown known new.core → Each (λ (e : Entry). e.client ≡ 0) old.core.journal → IsOwned old.core q tenant None → Enters old.core by (cancel q) new.core → Stands new.core
+        → AreCancelled old.core q Done new.core → by.client ≡ 0 → by.line ≡ number
         → new.out.items ≡ old.out.items ++ reply_line number (codes "cancel") id (codes "done" ∷ [])
         → IsStep known (naming (own_of old.core) above hands (script.cancel id k tenant)) old (record { number = number; line = script.cancel id k tenant }) run.On new
-    step_cancelled by kn alone owned e stands client line said =
-        let e' = subst (λ (c : CoreData). Enters old.core by (cancel q) c) (sym same) e in
-        let before = known_before known old.core new.core e'.more e'.limits e'.grown kn in
-        let named : tenant ≡ asker = owner_named owned.opened tenant before (open_in known above old.core k q old.core.limits mid.names (legal_before old.core mid by (cancel q) e stands) alone h) owned.is_open owned.named in
-        step_entered known (naming (own_of old.core) above hands (script.cancel id k tenant)) old new by (record { number = number; line = script.cancel id k tenant }) (cancel q) kn e' client line
-        (of_ask, named) refl (room_before old.core mid by (cancel q) e stands) (tt, (tt, refl)) refl said
+    step_cancelled by kn alone owned e stands left client line said =
+        let before = known_before known old.core new.core e.more e.limits e.grown kn in
+        let named : tenant ≡ asker = owner_named owned.opened tenant before (open_in known above old.core k q old.core.limits new.core.names (legal_before old.core new.core by (cancel q) e stands) alone h) owned.is_open owned.named in
+        step_entered known (naming (own_of old.core) above hands (script.cancel id k tenant)) old new by (record { number = number; line = script.cancel id k tenant }) nothing (cancel q) kn e client line
+        (of_ask, named) refl (room_before old.core new.core by (cancel q) e stands) tt refl
+        (tries_same old.core new.core nothing left.1.0 refl) (keeps_hands old new (ap (λ v. v.items) held) (cancelled_hands old.core new.core q owned.opened owned.is_open left)) said
 
     -- a query of another tenant
-    pub step_others : (owner : ℕ) → IsKnown known new.core → Each (λ (e : Entry). e.client ≡ 0) old.core.journal → IsOthers old.core q tenant owner → mid ≡ old.core → Stands mid
+    pub step_others : (owner : ℕ) → IsKnown known new.core → Each (λ (e : Entry). e.client ≡ 0) old.core.journal → IsOthers old.core q tenant owner → new.core ≡ old.core → Stands new.core
         → ((name : List ℕ) → slice_get old.core.names owner ≡ Some name → new.out.items ≡ old.out.items ++ reply_line number (codes "cancel") id (codes "other" ∷ codes "tenant" ∷ name ∷ []))
         → IsStep known (naming (own_of old.core) above hands (script.cancel id k tenant)) old (record { number = number; line = script.cancel id k tenant }) run.On new
     step_others owner kn alone others left stands said =
-        let before : IsKnown known old.core = subst (IsKnown known) (same ∙ left) kn in
+        let before : IsKnown known old.core = subst (IsKnown known) left kn in
         let stood : Stands old.core = subst Stands left stands in
         let law = open_in known above old.core k q old.core.limits old.core.names stood.legal alone h in
         let named : others.name ≡ asker = owner_named others.opened others.name before law others.is_open
         (subst (λ (u : ℕ). slice_get old.core.names u ≡ Some others.name) (sym others.owned) others.named) in
         let differ : asker ≡ tenant → ⊥ = λ e. others.other (named ∙ e) in
-        step_stayed known (naming (own_of old.core) above hands (script.cancel id k tenant)) old new (record { number = number; line = script.cancel id k tenant }) nothing (same ∙ left) tt refl
-        (λ p. differ (sym p.1))
+        step_stayed known (naming (own_of old.core) above hands (script.cancel id k tenant)) old new (record { number = number; line = script.cancel id k tenant }) nothing left refl refl
+        (λ p. differ (sym p.1)) (keeps_same old new (ap (λ v. v.items) held) left)
         (said others.name others.named
         ∙ ap (λ (name : List ℕ). old.out.items ++ reply_line number (codes "cancel") id (codes "other" ∷ codes "tenant" ∷ name ∷ [])) named
         ∙ ap (λ (words : List (List ℕ)). old.out.items ++ reply_line number (codes "cancel") id words)
@@ -138,7 +159,7 @@ module _ (known : Known) (above : List Ran) (hands : List Hand) (old new : Clien
         ∙ other_words tenant asker (cancel_of (moment_of k (own_of old.core)) (own_of old.core)) differ)))
 
     -- a query that was cancelled before
-    pub step_again : (place : ℕ) → IsKnown known new.core → Each (λ (e : Entry). e.client ≡ 0) old.core.journal → IsOwned old.core q tenant (Some place) → mid ≡ old.core → Stands mid
+    pub step_again : (place : ℕ) → IsKnown known new.core → Each (λ (e : Entry). e.client ≡ 0) old.core.journal → IsOwned old.core q tenant (Some place) → new.core ≡ old.core → Stands new.core
         → new.out.items ≡ old.out.items ++ reply_line number (codes "cancel") id (codes "already" ∷ decimal place ∷ [])
         → IsStep known (naming (own_of old.core) above hands (script.cancel id k tenant)) old (record { number = number; line = script.cancel id k tenant }) run.On new
     step_again place kn alone owned left stands said = by (cancel_of (Some h.asked) (own_of old.core)) refl where
@@ -146,7 +167,7 @@ module _ (known : Known) (above : List Ran) (hands : List Hand) (old new : Clien
       stood = subst Stands left stands
 
       before : IsKnown known old.core
-      before = subst (IsKnown known) (same ∙ left) kn
+      before = subst (IsKnown known) left kn
 
       law : IsOpenIn old.core (own_of old.core) h.asked h.tenant q
       law = open_in known above old.core k q old.core.limits old.core.names stood.legal alone h
@@ -170,8 +191,8 @@ module _ (known : Known) (above : List Ran) (hands : List Hand) (old new : Clien
           let both : Some place ≡ Some (place_of y) = sym some ∙ at_y in
           let place_is : place ≡ place_of y = cc in
           let found : cancel_of (moment_of k (own_of old.core)) (own_of old.core) ≡ Some y = ap (λ (m : Option Moment). cancel_of m (own_of old.core)) h.there ∙ e in
-          step_stayed known (naming (own_of old.core) above hands (script.cancel id k tenant)) old new (record { number = number; line = script.cancel id k tenant }) nothing (same ∙ left) tt refl
-          (λ p. let un = p.0.uncancelled in let bad : None ≡ Some y = sym un ∙ found in cc)
+          step_stayed known (naming (own_of old.core) above hands (script.cancel id k tenant)) old new (record { number = number; line = script.cancel id k tenant }) nothing left refl refl
+          (λ p. let un = p.0.uncancelled in let bad : None ≡ Some y = sym un ∙ found in cc) (keeps_same old new (ap (λ v. v.items) held) left)
           (said
           ∙ ap (λ (i : ℕ). old.out.items ++ reply_line number (codes "cancel") id (codes "already" ∷ decimal i ∷ [])) place_is
           ∙ ap (λ (words : List (List ℕ)). old.out.items ++ reply_line number (codes "cancel") id words)
@@ -198,6 +219,7 @@ shut_right known above own k (Some (slot.BadGrid e)) vacant h = λ a f. subst (�
 shut_right known above own k (Some (slot.BadQuery e)) vacant h = λ a f. subst (λ (x : Option Moment). HasQuery (what_of x)) h.none a
 shut_right known above own k (Some slot.Full) vacant h = λ a f. full_shut (what_of (moment_of k own)) h a
 shut_right known above own k (Some slot.TooManyTenants) vacant h = λ a f. stranger_shut (what_of (moment_of k own)) h a
+shut_right known above own k (Some slot.NoMemory) vacant h = λ a f. subst (λ (x : Option Moment). HasQuery (what_of x)) h.none a
 
 unfound_shut : (tenant owner : List ℕ) (w : Option What) (a c : Option Moment) → (HasQuery w → a ≡ None → ⊥) → unfound_words tenant owner w a c ≡ not_outstanding_words
 unfound_shut tenant owner (Some (ask u b pin generation floor)) None c h = absurd (h tt refl)
@@ -211,13 +233,13 @@ unfound_shut tenant owner (Some (answer k d x y)) a c h = refl
 unfound_shut tenant owner None a c h = refl
 
 pub step_unfound : (known : Known) (above : List Ran) (hands : List Hand) (old new : Client) (number : ℕ) (id : List ℕ) (k : ℕ) (tenant : List ℕ) (s : Option Slot)
-    → new.core ≡ old.core → IsNoQuery s → SlotRight known above (own_of old.core) k s
+    → new.core ≡ old.core → new.hands ≡ old.hands → IsNoQuery s → SlotRight known above (own_of old.core) k s
     → new.out.items ≡ old.out.items ++ reply_line number (codes "cancel") id not_outstanding_words
     → IsStep known (naming (own_of old.core) above hands (script.cancel id k tenant)) old (record { number = number; line = script.cancel id k tenant }) run.On new
-step_unfound known above hands old new number id k tenant s same vacant right said =
+step_unfound known above hands old new number id k tenant s same held vacant right said =
     let own = own_of old.core in
     let shut = shut_right known above own k s vacant right in
-    step_stayed known (naming own above hands (script.cancel id k tenant)) old new (record { number = number; line = script.cancel id k tenant }) nothing same tt refl
-    (λ p. shut p.0.query p.0.unanswered)
+    step_stayed known (naming own above hands (script.cancel id k tenant)) old new (record { number = number; line = script.cancel id k tenant }) nothing same refl refl
+    (λ p. shut p.0.query p.0.unanswered) (keeps_same old new (ap (λ v. v.items) held) same)
     (said ∙ ap (λ (words : List (List ℕ)). old.out.items ++ reply_line number (codes "cancel") id words)
     (sym (unfound_shut tenant (asker_of (ran_at k above)) (what_of (moment_of k own)) (answer_of (moment_of k own) own) (cancel_of (moment_of k own) own) shut)))

@@ -1,5 +1,5 @@
 -- Answers by their cases.
-use Rattle.std.proofs.Common.{◌≡◌, ◌⊎◌, inl, inr, Bool, true, false, Result, Ok, Err, IfOk, refl}
+use Rattle.std.proofs.Common.{◌≡◌, ◌⊎◌, inl, inr, Bool, true, false, Result, Ok, Err, IfOk, OnOk, refl}
 
 pub bool_cases : (b : Bool) → (b ≡ true) ⊎ (b ≡ false)
 bool_cases true = inl refl
@@ -8,3 +8,15 @@ bool_cases false = inr refl
 pub if_ok_map : {A E : Type 0} (P Q : A → Type 0) (r : Result A E) → ((x : A) → P x → Q x) → IfOk r P → IfOk r Q
 if_ok_map P Q (Ok x) f h = f x h
 if_ok_map P Q (Err e) f h = tt
+
+pub on_ok_all : {A E : Type 0} (P : Type 0) (r : Result A E) → P → OnOk r P
+on_ok_all P (Ok x) p = p
+on_ok_all P (Err e) p = tt
+
+pub on_ok_map : {A E : Type 0} (P Q : Type 0) (r : Result A E) → (P → Q) → OnOk r P → OnOk r Q
+on_ok_map P Q (Ok x) f p = f p
+on_ok_map P Q (Err e) f p = tt
+
+pub on_ok_two : {A E : Type 0} (P Q R : Type 0) (r : Result A E) → (P → Q → R) → OnOk r P → OnOk r Q → OnOk r R
+on_ok_two P Q R (Ok x) f p q = f p q
+on_ok_two P Q R (Err e) f p q = tt

@@ -39,14 +39,14 @@ pub has_failed : (samples : List Row) (asked : Asked) (step : ℕ) (kind : Error
     → direct samples asked.query ≡ failed step kind → body.Failed step kind ≡ answer_body asked.instant asked.kind (direct samples asked.query)
 has_failed samples asked step kind d = ap (answer_body asked.instant asked.kind) (sym d)
 
-result_texts : (instant : Bool) (kind : Kind) (rows : List MatrixRow) → text_of (result_body instant kind rows) ≡ result_text instant kind rows
+pub result_texts : (instant : Bool) (kind : Kind) (rows : List MatrixRow) → text_of (result_body instant kind rows) ≡ result_text instant kind rows
 result_texts false kind rows = refl
 result_texts true Scalar rows = refl
 result_texts true Instant rows = refl
 result_texts true Range rows = refl
 result_texts true Text rows = refl
 
-result_codes : (instant : Bool) (kind : Kind) (rows : List MatrixRow) → code_in (result_body instant kind rows) ≡ 200
+pub result_codes : (instant : Bool) (kind : Kind) (rows : List MatrixRow) → code_in (result_body instant kind rows) ≡ 200
 result_codes false kind rows = refl
 result_codes true Scalar rows = refl
 result_codes true Instant rows = refl

@@ -26,9 +26,10 @@ use Rattle.pf_model.specs.declared.matchers.Matchers.{Matchers}
 use Rattle.pf_types.specs.declared.bound.BoundQuery.{BoundQuery}
 use Rattle.std.specs.declared.alloc.Global.{Global}
 use Rattle.pf_top.specs.Asks.{wanted_by}
-use Rattle.pf_top.specs.Files.{Contents, IsKept, IsShort}
+use Rattle.pf_top.specs.Clients.{IsFileRead}
+use Rattle.pf_top.specs.Correct.{Held}
+use Rattle.pf_top.specs.declared.client.FileRead.{FileRead}
 use Rattle.pf_top.specs.Queries.{AreReadAs, IsQueryRead, IsSelectorRead, Queries, query_reading, reading_in, readings_in}
-use Rattle.pf_top.specs.declared.loaded.Content.{Content}
 use Rattle.pf_top.specs.declared.queries.QueryRead.TheVariants as query
 use Rattle.pf_top.specs.declared.queries.SelectorRead.TheVariants as chosen
 use Rattle.pf_top.specs.declared.queries.TextRead.{TextRead}
@@ -59,12 +60,9 @@ pub stops_held : (bytes : List ℕ) (time line : ℕ) (fault : Fault) → length
     → Stops time (file_lines bytes) line fault → IsRefusedAs bytes time (at_line fault line)
 stops_held bytes time line fault short g = (short, g)
 
-pub kept_short : (kept : Contents) (name : List ℕ) (content : Content) → IsKept kept name → get_by_text kept name ≡ Some content → IsShort content
-kept_short kept name content k g =
-    let there = k.there in
-    let both : Some k.content ≡ Some content = sym there ∙ g in
-    let same : k.content ≡ content = cc in
-    subst IsShort same k.short
+-- what a file of the same name is read as
+pub read_named : (files : Held) (name given : List ℕ) (time : ℕ) (r : FileRead) → given ≡ name → IsFileRead (files given) time r → IsFileRead (files name) time r
+read_named files name given time r same h = subst (λ (n : List ℕ). IsFileRead (files n) time r) same h
 
 -- ---- ranges and selectors
 

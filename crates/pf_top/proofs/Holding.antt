@@ -1,5 +1,6 @@
 -- One reading of each file that gave what is told and what was read.
-use Rattle.std.proofs.Common.{◌≡◌, ℕ, zero, suc, ◌<◌, cond, Option, Some, None, List, [], ◌∷◌, length, refl, sym, arith, subst, inl, inr}
+use Rattle.std.proofs.Common.{◌≡◌, ℕ, zero, suc, ◌<◌, cond, Option, Some, None, List, [], ◌∷◌, length, refl, sym, ap, arith, subst, inl, inr}
+use Rattle.std.specs.Option.{option_map}
 use Rattle.std.specs.BTreeMap.{get_by_text}
 use Rattle.std.specs.Str.{bytes_eq}
 use Rattle.std.proofs.lemmas.Slice.Eq.{bytes_eq-Decides}
@@ -9,6 +10,7 @@ use Rattle.pf_top.specs.Correct.{Agree, Held}
 use Rattle.pf_top.specs.Files.{AreHeld, AreTold, Contents, HoldsContent, TellsContent}
 use Rattle.pf_top.specs.declared.loaded.Content.{Content}
 use Rattle.pf_top.specs.declared.loaded.Content.TheVariants.{Bytes, TooLong}
+use Rattle.pf_top.specs.declared.loaded.ReadFile.{ReadFile}
 use Rattle.pf_top.proofs.Lists.{some_is}
 use Rattle.pf_top.proofs.Cases.{bool_cases}
 
@@ -40,12 +42,19 @@ same_at (Some TooLong) None h c e = subst (HoldsContent (longer most_bytes).0) (
 same_at None told h c e = cc
 
 -- of what is kept
+abbrev content_of : Option ReadFile → Option Content
+content_of = option_map (λ (f : ReadFile). f.content)
+
+of_content : (P : Content → Type 0) (o : Option ReadFile) → ((f : ReadFile) → o ≡ Some f → P f.content) → (c : Content) → content_of o ≡ Some c → P c
+of_content P None h c e = cc
+of_content P (Some f) h c e = subst P (some_is f.content c e) (h f refl)
+
 pub holding : (told : List ℕ → Option (List ℕ)) (kept : Contents) → AreTold told kept → (held : Held) × (Agree told held × AreHeld held kept)
 holding told kept h = (
-  λ name. held_at (get_by_text kept name) (told name),
+  λ name. held_at (content_of (get_by_text kept name)) (told name),
   (
-    λ name. agree_at (get_by_text kept name) (told name) (h name),
-    λ name content e. same_at (get_by_text kept name) (told name) (h name) content e,
+    λ name. agree_at (content_of (get_by_text kept name)) (told name) (of_content (TellsContent (told name)) (get_by_text kept name) (h name)),
+    λ name file e. same_at (content_of (get_by_text kept name)) (told name) (of_content (TellsContent (told name)) (get_by_text kept name) (h name)) file.content (ap content_of e),
   ),
 )
 

@@ -6,7 +6,12 @@ pub mod Cases
 pub mod DirectAnswers
 pub mod Driving
 pub mod FileReads
+pub mod Gone
+pub mod HandLines
+pub mod Hands
 pub mod Holding
+pub mod KeepLines
+pub mod Lines
 pub mod Lists
 pub mod Onward
 pub mod OutputLaws
@@ -15,7 +20,11 @@ pub mod RangeSteps
 pub mod Reports
 pub mod Runs
 pub mod SlotLaws
+pub mod StepLines
 pub mod Steps
 pub mod TextReads
 pub mod Texts
+pub mod WordLaws
 mod WorkedReads
+mod WorkedWords
+pub mod Works

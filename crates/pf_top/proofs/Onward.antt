@@ -10,13 +10,13 @@ use Rattle.pf_journal.specs.Legal.{Moment, machine_after, moments}
 use Rattle.pf_journal.specs.Machine.{Entry, Machine, What, next, started}
 use Rattle.pf_journal.specs.Replies.{reply_of}
 use Rattle.pf_journal.specs.Report.{client_text}
-use Rattle.pf_journal.specs.Rest.{Known, Told, nothing, refused_file, no_memory, journal_full, waiting, failed_five, of_plan, of_take, of_done, of_keep, at_end}
+use Rattle.pf_journal.specs.Rest.{Known, Told, at_end}
 use Rattle.pf_journal.specs.Scripts.{Numbered}
-use Rattle.pf_journal.specs.Turns.{Hand, Ran, Turn, asked_by, asking_line, entered_above, moment_of, own_moments, ran_lines, turn_of}
+use Rattle.pf_journal.specs.Turns.{Hand, Ran, Turn, entered_above, moment_of, own_moments, ran_lines, turn_of}
 use Rattle.pf_journal.specs.Weave.{FoundRoom, IsLineOf, IsMatched, IsWoven, Woven}
 use Rattle.pf_model.specs.Lists.{Each, first_with}
 use Rattle.pf_top.proofs.Cases.{bool_cases}
-use Rattle.pf_top.specs.Clients.{IsPlain, entries_by, entry_by, moment_by, moment_with, naming, turn_by}
+use Rattle.pf_top.specs.Clients.{entries_by, entry_by, moment_by, moment_with, naming, turn_by}
 
 -- ---- lists
 
@@ -83,40 +83,26 @@ machine-snoc m (x ∷ journal) e = machine-snoc (next m x.what) journal e
 
 -- ---- turns
 
--- what is told beside entries is no job that is taken
-plain_asked : (a : Option ℕ) (told : Told) (own : List Moment) → IsPlain told → asked_by a told own ≡ asked_by a nothing own
-plain_asked (Some line) told own h = refl
-plain_asked None nothing own h = refl
-plain_asked None (refused_file refusal) own h = refl
-plain_asked None journal_full own h = refl
-plain_asked None no_memory own h = absurd h
-plain_asked None (waiting jobs) own h = absurd h
-plain_asked None (failed_five job) own h = absurd h
-plain_asked None (of_plan p) own h = absurd h
-plain_asked None (of_take t) own h = absurd h
-plain_asked None (of_done d) own h = absurd h
-plain_asked None (of_keep k) own h = absurd h
-
 pub unmade : (own : List Moment) (n : ℕ) → Each (λ x. x.entry.line < n) own → moment_of n own ≡ None
 unmade own n h = none_with _ own (each_so _ _ (λ x low. ne_eqb x.entry.line n (λ e. omega (arith, e, low))) own h)
 
 -- a turn without an entry
 pub turn_stayed : (own : List Moment) (above : List Ran) (hands : List Hand) (l : Numbered) (told : Told)
-    → Each (λ x. x.entry.line < l.number) own → IsPlain told
-    → turn_of own above hands (record { line = l; told = told }) ≡ turn_by (naming own above hands l.line) l told None
-turn_stayed own above hands l told low plain =
-    rw (all_above l.number own low) (rw (unmade own l.number low) (rw (plain_asked (asking_line l.line) told own plain) refl))
+    → Each (λ x. x.entry.line < l.number) own
+    → turn_of own above hands (record { line = l; told = told }) ≡ turn_by (naming own above hands l.line told) l told None
+turn_stayed own above hands l told low =
+    rw (all_above l.number own low) (rw (unmade own l.number low) refl)
 
 -- a turn with one
 pub turn_entered : (own : List Moment) (x : Moment) (above : List Ran) (hands : List Hand) (l : Numbered) (told : Told)
-    → Each (λ y. y.entry.line < l.number) own → x.entry.line ≡ l.number → IsPlain told
-    → turn_of (own ++ x ∷ []) above hands (record { line = l; told = told }) ≡ turn_by (naming own above hands l.line) l told (Some x)
-turn_entered own x above hands l told low here plain =
+    → Each (λ y. y.entry.line < l.number) own → x.entry.line ≡ l.number
+    → turn_of (own ++ x ∷ []) above hands (record { line = l; told = told }) ≡ turn_by (naming own above hands l.line told) l told (Some x)
+turn_entered own x above hands l told low here =
     let above_it : entered_above l.number (own ++ x ∷ []) ≡ own =
     filter-append _ own (x ∷ []) ∙ rw (le-ltb x.entry.line l.number (omega (arith, here))) (append-nil _ ∙ all_above l.number own low) in
     let made : moment_of l.number (own ++ x ∷ []) ≡ Some x =
     last_with _ own x (unmade own l.number low) (grind (arith, nat_tests, here)) in
-    rw above_it (rw made (rw (plain_asked (asking_line l.line) told own plain) refl))
+    rw above_it (rw made refl)
 
 -- ---- what was told
 
@@ -133,38 +119,38 @@ own_on journal n (Some what) = own-snoc journal n what
 -- a woven client with its next line
 pub woven_on : (known : Known) (own : List Moment) (m : Machine) (lines : List Numbered) (told : List Told) (l : Numbered) (t : Told) (entered : Option What)
     → Woven known own lines (record { told = told; why = at_end }) → slice_get lines (length told) ≡ Some l
-    → 0 < l.number → Each (λ b. b.number < l.number) (take (length told) lines) → IsPlain t
-    → IsMatched known (turn_by (naming own (lines_behind [] (ran_lines lines told)) (hands_behind [] (ran_lines lines told)) l.line) l t (moment_with m l.number entered)) (moment_with m l.number entered)
+    → 0 < l.number → Each (λ b. b.number < l.number) (take (length told) lines)
+    → IsMatched known (turn_by (naming own (lines_behind [] (ran_lines lines told)) (hands_behind [] (ran_lines lines told)) l.line t) l t (moment_with m l.number entered)) (moment_with m l.number entered)
     → FoundRoom known.limits l.line (moment_with m l.number entered)
     → Woven known (own_with own m l.number entered) lines (going told t at_end)
-woven_on known own m lines told l t None w there first low plain matched roomy =
+woven_on known own m lines told l t None w there first low matched roomy =
     woven_stays known own lines told at_end l t w there
     (subst (IsWoven known) (sym (turn_stayed own (lines_behind [] (ran_lines lines told)) (hands_behind [] (ran_lines lines told)) l t
-    (own_below own (take (length told) lines) l.number low w.lined) plain)) (record { matched = matched; roomy = roomy }))
-woven_on known own m lines told l t (Some what) w there first low plain matched roomy =
+    (own_below own (take (length told) lines) l.number low w.lined))) (record { matched = matched; roomy = roomy }))
+woven_on known own m lines told l t (Some what) w there first low matched roomy =
     woven_enters known own (moment_by m l.number what) lines told at_end l t w there first refl
     (own_below own (take (length told) lines) l.number low w.lined) (ran_below lines told l.number low)
     (subst (IsWoven known) (sym (turn_entered own (moment_by m l.number what) (lines_behind [] (ran_lines lines told)) (hands_behind [] (ran_lines lines told)) l t
-    (own_below own (take (length told) lines) l.number low w.lined) refl plain)) (record { matched = matched; roomy = roomy }))
+    (own_below own (take (length told) lines) l.number low w.lined) refl)) (record { matched = matched; roomy = roomy }))
 
 -- and its text
 pub text_on : (known : Known) (own : List Moment) (m : Machine) (lines : List Numbered) (told : List Told) (l : Numbered) (t : Told) (entered : Option What) (out out' : List ℕ)
     → Woven known own lines (record { told = told; why = at_end }) → slice_get lines (length told) ≡ Some l
-    → Each (λ b. b.number < l.number) (take (length told) lines) → IsPlain t
+    → Each (λ b. b.number < l.number) (take (length told) lines)
     → out ≡ client_text known own 0 lines (record { told = told; why = at_end })
-    → out' ≡ out ++ reply_of known (turn_by (naming own (lines_behind [] (ran_lines lines told)) (hands_behind [] (ran_lines lines told)) l.line) l t (moment_with m l.number entered))
+    → out' ≡ out ++ reply_of known (turn_by (naming own (lines_behind [] (ran_lines lines told)) (hands_behind [] (ran_lines lines told)) l.line t) l t (moment_with m l.number entered))
     → out' ≡ client_text known (own_with own m l.number entered) 0 lines (going told t at_end)
-text_on known own m lines told l t None out out' w there low plain said more =
+text_on known own m lines told l t None out out' w there low said more =
     let turn = turn_stayed own (lines_behind [] (ran_lines lines told)) (hands_behind [] (ran_lines lines told)) l t
-    (own_below own (take (length told) lines) l.number low w.lined) plain in
-    more ∙ ap (λ (bytes : List ℕ). bytes ++ reply_of known (turn_by (naming own (lines_behind [] (ran_lines lines told)) (hands_behind [] (ran_lines lines told)) l.line) l t None)) said
+    (own_below own (take (length told) lines) l.number low w.lined) in
+    more ∙ ap (λ (bytes : List ℕ). bytes ++ reply_of known (turn_by (naming own (lines_behind [] (ran_lines lines told)) (hands_behind [] (ran_lines lines told)) l.line t) l t None)) said
     ∙ ap (λ (turn : Turn). client_text known own 0 lines (record { told = told; why = at_end }) ++ reply_of known turn) (sym turn)
     ∙ sym (text_grows known own 0 lines told at_end l t there)
-text_on known own m lines told l t (Some what) out out' w there low plain said more =
+text_on known own m lines told l t (Some what) out out' w there low said more =
     let x : Moment = moment_by m l.number what in
     let turn = turn_entered own x (lines_behind [] (ran_lines lines told)) (hands_behind [] (ran_lines lines told)) l t
-    (own_below own (take (length told) lines) l.number low w.lined) refl plain in
-    more ∙ ap (λ (bytes : List ℕ). bytes ++ reply_of known (turn_by (naming own (lines_behind [] (ran_lines lines told)) (hands_behind [] (ran_lines lines told)) l.line) l t (Some x))) said
+    (own_below own (take (length told) lines) l.number low w.lined) refl in
+    more ∙ ap (λ (bytes : List ℕ). bytes ++ reply_of known (turn_by (naming own (lines_behind [] (ran_lines lines told)) (hands_behind [] (ran_lines lines told)) l.line t) l t (Some x))) said
     ∙ ap (λ (turn : Turn). client_text known own 0 lines (record { told = told; why = at_end }) ++ reply_of known turn) (sym turn)
     ∙ ap (λ (bytes : List ℕ). bytes ++ reply_of known (turn_behind (own ++ x ∷ []) (ran_lines lines told) (record { line = l; told = t })))
     (sym (text_stays known own x 0 lines (record { told = told; why = at_end }) (ran_below lines told l.number low)))

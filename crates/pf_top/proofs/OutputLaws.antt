@@ -4,56 +4,57 @@ use Rattle.std.specs.BTreeMap.{get_by_text}
 use Rattle.std.proofs.lemmas.Bool.Decides.{nat_tests}
 use Rattle.pf_base.specs.declared.plain.Limits.{Limits}
 use Rattle.pf_io.specs.Outside.{Rose, Holds, Grows, LongerThan, StayKnown}
-use Rattle.pf_model.specs.Lists.{Each}
 use Rattle.pf_model.specs.Exposition.{file_lines}
-use Rattle.pf_journal.specs.Scripts.{Numbered, is_stepped, lines_from, most_bytes, script_of}
-use Rattle.pf_script.specs.Lines.{AllFollow, IsRead, lines_of}
-use Rattle.pf_script.specs.declared.script.Script.{Script}
-use Rattle.pf_top.specs.Correct.{Agree, AllRead, AreScripts, Correct, EndsWell, FilesSeen, HasFailed, Held, IsOutput, IsUnbuilt, Outside, Reaches, Reported, files_of, needed, needed_by, script_files}
-use Rattle.pf_top.specs.Drives.{AreShort, CanRun, IsReport}
-use Rattle.pf_top.specs.Files.{AreHeld, AreLoaded, Contents, IsKept, NamesFile, TellsContent}
-use Rattle.pf_top.specs.Queries.{AreReadAs, IsKeptFor}
+use Rattle.pf_journal.specs.Scripts.{Numbered, lines_from, most_bytes, script_of}
+use Rattle.pf_script.specs.Lines.{AllFollow}
+use Rattle.pf_top.specs.Correct.{Agree, AllRead, Correct, EndsWell, FilesSeen, HasFailed, Held, IsOutput, IsUnbuilt, Outside, Reaches, Reported, files_of, has_keep, needed, needed_by, script_files}
+use Rattle.pf_top.specs.Drives.{IsReport}
+use Rattle.pf_top.specs.Files.{AreHeld, AreLoaded, Contents, HasContent, IsKept, LetsGo, NamesFile, TellsContent}
 use Rattle.pf_top.specs.Outputs.{IsPrinted, IsReplay, IsRun, IsScriptOutput, IsWordsOutput}
 use Rattle.pf_top.specs.Refusals.{refused_not_built, refused_read, refused_script}
-use Rattle.pf_top.specs.Words.{evaluation_words, script_word}
+use Rattle.pf_top.specs.Words.{Replay, evaluation_words, limits_with, replay_words}
 use Rattle.std.specs.declared.vec.Vec.{Vec}
 use Rattle.std.specs.declared.alloc.Global.{Global}
 use Rattle.pf_top.specs.declared.loaded.Content.{Content}
 use Rattle.pf_top.specs.declared.loaded.Content.TheVariants.{Bytes, TooLong}
-use Rattle.pf_top.specs.declared.loaded.Loaded.{Loaded}
 use Rattle.pf_top.proofs.Holding.{holding, holding_bytes, holding_none, holding_one}
-use Rattle.pf_top.proofs.Texts.{each_file, failed_since, held_short, read_there}
+use Rattle.pf_top.proofs.Gone.{left_held, left_there}
+use Rattle.pf_top.proofs.Lines.{all_first, last_behind}
+use Rattle.pf_top.proofs.Texts.{each_file, failed_since, read_there}
 
 -- ---- once the script is read
 
--- contents that were loaded are short
-pub loaded_short : (told : List ℕ → Option (List ℕ)) (lost : List ℕ → Bool) (first : Contents) (lines : List Numbered) (kept : Contents) → AreLoaded told lost first lines kept → AreShort kept
-loaded_short told lost first lines kept l name content g = held_short told kept name content l.held g
-
 -- the bytes of the script are kept as they are held
 script_held : (held : Held) (kept : Contents) (script : List ℕ) (bytes : Vec ℕ Global) → AreHeld held kept
-    → get_by_text kept script ≡ Some (Bytes bytes) → held script ≡ bytes.items
-script_held held kept script bytes h g = (h script (Bytes bytes) g).0
+    → HasContent kept script (Bytes bytes) → held script ≡ bytes.items
+script_held held kept script bytes h has = (h script (record { content = Bytes bytes; last = has.last }) has.there).0
 
 -- what a run gives, over one reading of each file
-pub replayed : (limits : Limits) (files : FilesSeen) (script : List ℕ) (bytes : Vec ℕ Global) (lines : List Numbered) (first kept : Contents) (status : ℕ) (text : List ℕ)
-    → AreLoaded files.told files.lost first lines kept → get_by_text first script ≡ Some (Bytes bytes) → files.after ≡ files.before
-    → ((held : Held) → AreHeld held kept → IsRun limits held lines status text)
+pub replayed : (limits : Limits) (files : FilesSeen) (script : List ℕ) (bytes : Vec ℕ Global) (lines : List Numbered) (first kept left : Contents) (status : ℕ) (text : List ℕ)
+    → AreLoaded files.told files.lost first lines kept → get_by_text first script ≡ Some (record { content = Bytes bytes; last = 0 }) → files.after ≡ files.before
+    → LetsGo kept script 0 left → ((held : Held) → AreHeld held left → IsRun limits held lines status text)
     → IsReplay limits files script bytes.items lines status text
-replayed limits files script bytes lines first kept status text loaded at_hand steady run =
+replayed limits files script bytes lines first kept left status text loaded at_hand steady go run =
     let h = holding files.told kept loaded.held in
     record {
       held = h.0;
       agree = h.1.0;
-      same = script_held h.0 kept script bytes h.1.1 (loaded.still script (Bytes bytes) at_hand);
+      same = script_held h.0 kept script bytes h.1.1 (loaded.still script (record { content = Bytes bytes; last = 0 }) at_hand);
       output = inl (
         record {
           there = each_file (λ name. files.lost name ≡ false) lines (read_there files.told files.lost first kept lines loaded);
           steady = steady;
         },
-        run h.0 h.1.1,
+        run h.0 (left_held h.0 kept script 0 left go h.1.1),
       );
     }
+
+-- the files that lines name are left where the script is let go
+pub left_files : (told : List ℕ → Option (List ℕ)) (lost : List ℕ → Bool) (first : Contents) (lines : List Numbered) (kept : Contents) (script : List ℕ) (left : Contents)
+    → AllFollow [] lines → AreLoaded told lost first lines kept → LetsGo kept script 0 left → (name : List ℕ) → NamesFile lines name → IsKept left name
+left_files told lost first lines kept script left following loaded go name named =
+    let k = loaded.there name named in
+    left_there kept (Some script) 0 left go name k (last_behind lines 0 k.file.last name named (all_first [] lines following) (loaded.lasts name k.file k.there))
 
 -- a file of the script was not read
 pub replay_failed : (limits : Limits) (files : FilesSeen) (script bytes name given : List ℕ) (lines : List Numbered) (status : ℕ) (text : List ℕ)
@@ -64,13 +65,6 @@ replay_failed limits files script bytes name given lines status text holds reach
     let h = holding_bytes files.told script bytes holds in
     record { held = h.0; agree = h.1.0; same = h.1.1; output = inr (p.0, (name, (reached, (fault, p.1 ∙ ap refused_read e)))) }
 
-pub can_run : (script : Script) (loaded : Loaded) → AreShort loaded.files
-    → ((name : List ℕ) → NamesFile (lines_of script) name → IsKept loaded.files name)
-    → AreReadAs loaded.queries × Each (λ l. IsKeptFor loaded.queries l.line) (lines_of script)
-    → Each IsRead script.lines.items → AllFollow [] (lines_of script) → is_stepped (lines_of script) ≡ false → CanRun script loaded
-can_run script loaded short there queries read following unstepped =
-    record { short = short; files = there; right = queries.0; texts = queries.1; read = read; following = following; unstepped = unstepped }
-
 -- what a run gives, once the script and the files are read, by its report
 pub run_ended : (limits : Limits) (held : Held) (lines : List Numbered) (full : Bool) (status : ℕ) (text : List ℕ)
     → status ≡ cond full 8 0 → IsReport limits held lines full text → IsRun limits held lines status text
@@ -79,104 +73,97 @@ run_ended limits held lines true status text is r = inr (is, r)
 
 -- ---- by the words
 
--- the script that was read is the one that the words name
-scripts_are : (held : Held) (word : Option (List ℕ)) (name : List ℕ) (lines : List Numbered)
-    → word ≡ Some name → script_of true (held name) ≡ Ok lines → is_stepped lines ≡ false → AreScripts held word (lines ∷ [])
-scripts_are held word name lines p read unstepped =
-    let P : Option (List ℕ) → Type 0 = λ w. AreScripts held w (lines ∷ []) in
-    subst P (sym p) (lines, (refl, (read, unstepped)))
+module _ (held : Held) (words : List (List ℕ)) (replay : Replay) (is : replay_words words ≡ Some replay) where
+  needed_script : needed held words ≡ replay.script ∷ script_files (script_of true (held replay.script))
+  needed_script = ap (λ (w : Option Replay). needed_by held w (evaluation_words words)) is
 
-module _ (held : Held) (words : List (List ℕ)) (name : List ℕ) (is : script_word words ≡ Some name) where
-  needed_script : needed held words ≡ name ∷ script_files (script_of true (held name))
-  needed_script = ap (λ (w : Option (List ℕ)). needed_by held w (evaluation_words words)) is
+  -- what is needed of a script by whether it has a `keep` line, and of one that is refused
+  needed_lines : (lines : List Numbered) (keeps : Bool) → script_of true (held replay.script) ≡ Ok lines → has_keep lines ≡ keeps
+      → needed held words ≡ replay.script ∷ cond keeps [] (files_of lines)
+  needed_lines lines keeps read is_so =
+      needed_script ∙ ap (λ (s : Result (List Numbered) ℕ). replay.script ∷ script_files s) read
+      ∙ ap (λ (b : Bool). replay.script ∷ cond b [] (files_of lines)) is_so
 
-  -- what is needed of a script by whether it has step lines, and of one that is refused
-  needed_lines : (lines : List Numbered) (stepped : Bool) → script_of true (held name) ≡ Ok lines → is_stepped lines ≡ stepped
-      → needed held words ≡ name ∷ cond stepped [] (files_of lines)
-  needed_lines lines stepped read is_so =
-      needed_script ∙ ap (λ (s : Result (List Numbered) ℕ). name ∷ script_files s) read
-      ∙ ap (λ (b : Bool). name ∷ cond b [] (files_of lines)) is_so
+  needed_alone : (line : ℕ) → script_of true (held replay.script) ≡ Err line → needed held words ≡ replay.script ∷ []
+  needed_alone line bad = needed_script ∙ ap (λ (s : Result (List Numbered) ℕ). replay.script ∷ script_files s) bad
 
-  needed_alone : (line : ℕ) → script_of true (held name) ≡ Err line → needed held words ≡ name ∷ []
-  needed_alone line bad = needed_script ∙ ap (λ (s : Result (List Numbered) ℕ). name ∷ script_files s) bad
-
-  all_read : (files : FilesSeen) (names : List (List ℕ)) → needed held words ≡ name ∷ names → files.lost name ≡ false
+  all_read : (files : FilesSeen) (names : List (List ℕ)) → needed held words ≡ replay.script ∷ names → files.lost replay.script ≡ false
       → AllRead files names → AllRead files (needed held words)
   all_read files names is_so found a = subst (AllRead files) (sym is_so) (record { there = (found, a.there); steady = a.steady })
 
   -- the report of the script is that of the words
   reported_by : (limits : Limits) (files : FilesSeen) (lines : List Numbered) (full : Bool) (text : List ℕ)
-      → script_of true (held name) ≡ Ok lines → is_stepped lines ≡ false → AllRead files (needed held words)
-      → IsReport limits held lines full text → Reported limits files held words full text
-  reported_by limits files lines full text read unstepped a r = record {
+      → script_of true (held replay.script) ≡ Ok lines → has_keep lines ≡ false → AllRead files (needed held words)
+      → IsReport (limits_with limits replay) held lines full text → Reported limits files held words full text
+  reported_by limits files lines full text read unkept a r = record {
     all = a;
+    replay = replay;
+    by_words = is;
     scripts = lines ∷ [];
     journal = r.journal;
     names = r.names;
     readings = r.readings;
     rest = r.rest;
-    read = scripts_are held (script_word words) name lines is read unstepped;
+    read = (lines, (refl, (read, unkept)));
     legal = r.legal;
     named = r.named;
     woven = r.woven;
     uncached = r.uncached;
-    fed = r.fed;
-    untried = r.untried;
     met = r.met;
     whole = r.whole;
   }
 
   -- what comes once the script is read is what comes by the words
   module _ (limits : Limits) (files : FilesSeen) (lines : List Numbered) (status : ℕ) (text : List ℕ)
-      (read : script_of true (held name) ≡ Ok lines) (unstepped : is_stepped lines ≡ false) (found : files.lost name ≡ false) where
-    printed_by : IsScriptOutput limits files held lines status text → IsPrinted limits files held words status text
+      (read : script_of true (held replay.script) ≡ Ok lines) (unkept : has_keep lines ≡ false) (found : files.lost replay.script ≡ false) where
+    printed_by : IsScriptOutput (limits_with limits replay) files held lines status text → IsPrinted limits files held words status text
     printed_by (inl (a, inl (zero, r))) =
         inl (
           zero,
-          inl (reported_by limits files lines false text read unstepped
-              (all_read files (files_of lines) (needed_lines lines false read unstepped) found a) r),
+          inl (reported_by limits files lines false text read unkept
+              (all_read files (files_of lines) (needed_lines lines false read unkept) found a) r),
         )
     printed_by (inl (a, inr (eight, r))) =
         inr (inl (
           eight,
-          reported_by limits files lines true text read unstepped
-              (all_read files (files_of lines) (needed_lines lines false read unstepped) found a) r,
+          reported_by limits files lines true text read unkept
+              (all_read files (files_of lines) (needed_lines lines false read unkept) found a) r,
         ))
     printed_by (inr (four, (file, (reached, (fault, whole))))) =
         inr (inr (inl (
           four,
           record {
             name = file;
-            reached = subst (λ (ns : List (List ℕ)). Reaches files.lost ns file) (sym (needed_lines lines false read unstepped)) (inr (found, reached));
+            reached = subst (λ (ns : List (List ℕ)). Reaches files.lost ns file) (sym (needed_lines lines false read unkept)) (inr (found, reached));
             fault = fault;
             whole = whole;
           },
         )))
 
-  -- a script with step lines
+  -- a script with a `keep` line
   unbuilt_by : (limits : Limits) (files : FilesSeen) (lines : List Numbered) (status : ℕ) (text : List ℕ)
-      → script_of true (held name) ≡ Ok lines → is_stepped lines ≡ true → files.lost name ≡ false → files.after ≡ files.before
+      → script_of true (held replay.script) ≡ Ok lines → has_keep lines ≡ true → files.lost replay.script ≡ false → files.after ≡ files.before
       → (status ≡ 9) × (text ≡ refused_not_built) → IsPrinted limits files held words status text
-  unbuilt_by limits files lines status text read stepped found steady p =
+  unbuilt_by limits files lines status text read keeps found steady p =
       inr (inr (inr (inl (
         p.0,
         record {
-          all = all_read files [] (needed_lines lines true read stepped) found (record { there = tt; steady = steady });
-          unbuilt = subst (λ (w : Option (List ℕ)). IsUnbuilt held w (evaluation_words words)) (sym is) (lines, (read, stepped));
+          all = all_read files [] (needed_lines lines true read keeps) found (record { there = tt; steady = steady });
+          unbuilt = subst (λ (w : Option Replay). IsUnbuilt held w (evaluation_words words)) (sym is) (lines, (read, keeps));
           whole = p.1;
         },
       ))))
 
   -- a script that is refused
   refused_by : (limits : Limits) (files : FilesSeen) (line status : ℕ) (text : List ℕ)
-      → script_of true (held name) ≡ Err line → files.lost name ≡ false → files.after ≡ files.before
+      → script_of true (held replay.script) ≡ Err line → files.lost replay.script ≡ false → files.after ≡ files.before
       → (status ≡ 3) × (text ≡ refused_script 0 line) → IsPrinted limits files held words status text
   refused_by limits files line status text bad found steady p =
       inr (inr (inr (inr (
         p.0,
         inr (record {
           all = all_read files [] (needed_alone line bad) found (record { there = tt; steady = steady });
-          name = name;
+          replay = replay;
           by_words = is;
           line = line;
           refused = bad;
@@ -203,44 +190,44 @@ same_seen limits old resure relost again middle script bytes lines status text t
     subst (λ (t : List ℕ → Option (List ℕ)). IsReplay limits (record { told = t; sure = resure; lost = old.lost; before = middle; after = old.after; failed = old.failed }) script bytes lines status text) all_told
     (subst (λ (l : List ℕ → Bool). IsReplay limits (record { told = again; sure = resure; lost = l; before = middle; after = old.after; failed = old.failed }) script bytes lines status text) all_lost r)
 
-pub words_output : (limits : Limits) (old : FilesSeen) (resure relost : List ℕ → Bool) (again : List ℕ → Option (List ℕ)) (middle : ℕ) (words : List (List ℕ)) (name bytes given : List ℕ) (lines : List Numbered) (status : ℕ) (text : List ℕ)
-    → script_word words ≡ Some name → given ≡ bytes → script_of true given ≡ Ok lines → is_stepped lines ≡ false → old.lost name ≡ false
+pub words_output : (limits chosen : Limits) (old : FilesSeen) (resure relost : List ℕ → Bool) (again : List ℕ → Option (List ℕ)) (middle : ℕ) (words : List (List ℕ)) (replay : Replay) (bytes given : List ℕ) (lines : List Numbered) (status : ℕ) (text : List ℕ)
+    → replay_words words ≡ Some replay → chosen ≡ limits_with limits replay → given ≡ bytes → script_of true given ≡ Ok lines → has_keep lines ≡ false → old.lost replay.script ≡ false
     → ((other : List ℕ) → again other ≡ old.told other) → ((other : List ℕ) → relost other ≡ old.lost other) → StayKnown old.sure resure → middle ≡ old.before
-    → IsReplay limits (record { told = again; sure = resure; lost = relost; before = middle; after = old.after; failed = old.failed }) name bytes lines status text
+    → IsReplay chosen (record { told = again; sure = resure; lost = relost; before = middle; after = old.after; failed = old.failed }) replay.script bytes lines status text
     → IsWordsOutput limits old words status text
-words_output limits old resure relost again middle words name bytes given lines status text word e read unstepped found told lost sure m o =
-    let r = same_seen limits old resure relost again middle name bytes lines status text told lost o in
+words_output limits chosen old resure relost again middle words replay bytes given lines status text word by_words e read unkept found told lost sure m o =
+    let r = same_seen chosen old resure relost again middle replay.script bytes lines status text told lost o in
     record {
       held = r.held;
       agree = r.agree;
-      printed = printed_by r.held words name word limits old lines status text (ap (script_of true) (r.same ∙ sym e) ∙ read) unstepped found
-          (seen_since limits old resure middle r.held lines status text sure m r.output);
+      printed = printed_by r.held words replay word limits old lines status text (ap (script_of true) (r.same ∙ sym e) ∙ read) unkept found
+          (subst (λ (l : Limits). IsScriptOutput l old r.held lines status text) by_words (seen_since chosen old resure middle r.held lines status text sure m r.output));
     }
 
--- a script with step lines
-pub unbuilt_output : (limits : Limits) (files : FilesSeen) (words : List (List ℕ)) (name bytes given : List ℕ) (lines : List Numbered) (status : ℕ) (text : List ℕ)
-    → script_word words ≡ Some name → Holds (files.told name) bytes → given ≡ bytes → script_of true given ≡ Ok lines → is_stepped lines ≡ true
-    → files.lost name ≡ false → files.after ≡ files.before → (status ≡ 9) × (text ≡ refused_not_built)
+-- a script with a `keep` line
+pub unbuilt_output : (limits : Limits) (files : FilesSeen) (words : List (List ℕ)) (replay : Replay) (bytes given : List ℕ) (lines : List Numbered) (status : ℕ) (text : List ℕ)
+    → replay_words words ≡ Some replay → Holds (files.told replay.script) bytes → given ≡ bytes → script_of true given ≡ Ok lines → has_keep lines ≡ true
+    → files.lost replay.script ≡ false → files.after ≡ files.before → (status ≡ 9) × (text ≡ refused_not_built)
     → IsWordsOutput limits files words status text
-unbuilt_output limits files words name bytes given lines status text word holds e read stepped found steady p =
-    let h = holding_bytes files.told name bytes holds in
+unbuilt_output limits files words replay bytes given lines status text word holds e read keeps found steady p =
+    let h = holding_bytes files.told replay.script bytes holds in
     record {
       held = h.0;
       agree = h.1.0;
-      printed = unbuilt_by h.0 words name word limits files lines status text (ap (script_of true) (h.1.1 ∙ sym e) ∙ read) stepped found steady p;
+      printed = unbuilt_by h.0 words replay word limits files lines status text (ap (script_of true) (h.1.1 ∙ sym e) ∙ read) keeps found steady p;
     }
 
 -- a script that is refused
-pub refused_output : (limits : Limits) (files : FilesSeen) (words : List (List ℕ)) (name bytes given : List ℕ) (line printed status : ℕ) (text : List ℕ)
-    → script_word words ≡ Some name → Holds (files.told name) bytes → given ≡ bytes → script_of true given ≡ Err line
-    → files.lost name ≡ false → files.after ≡ files.before → (status ≡ 3) × (text ≡ refused_script 0 printed) → printed ≡ line
+pub refused_output : (limits : Limits) (files : FilesSeen) (words : List (List ℕ)) (replay : Replay) (bytes given : List ℕ) (line printed status : ℕ) (text : List ℕ)
+    → replay_words words ≡ Some replay → Holds (files.told replay.script) bytes → given ≡ bytes → script_of true given ≡ Err line
+    → files.lost replay.script ≡ false → files.after ≡ files.before → (status ≡ 3) × (text ≡ refused_script 0 printed) → printed ≡ line
     → IsWordsOutput limits files words status text
-refused_output limits files words name bytes given line printed status text word holds e bad found steady p same =
-    let h = holding_bytes files.told name bytes holds in
+refused_output limits files words replay bytes given line printed status text word holds e bad found steady p same =
+    let h = holding_bytes files.told replay.script bytes holds in
     record {
       held = h.0;
       agree = h.1.0;
-      printed = refused_by h.0 words name word limits files line status text (ap (script_of true) (h.1.1 ∙ sym e) ∙ bad) found steady
+      printed = refused_by h.0 words replay word limits files line status text (ap (script_of true) (h.1.1 ∙ sym e) ∙ bad) found steady
           (p.0, p.1 ∙ ap (refused_script 0) same);
     }
 
@@ -252,18 +239,18 @@ unfolding script_of
 long_script bytes h = ap (λ (b : Bool). cond b (lines_from true 1 [] (file_lines bytes)) (Err 0)) (past (length bytes) most_bytes h)
 
 -- a script that is too long
-pub long_output : (limits : Limits) (files : FilesSeen) (words : List (List ℕ)) (name : List ℕ) (status : ℕ) (text : List ℕ)
-    → script_word words ≡ Some name → LongerThan (files.told name) most_bytes → files.lost name ≡ false → files.after ≡ files.before
+pub long_output : (limits : Limits) (files : FilesSeen) (words : List (List ℕ)) (replay : Replay) (status : ℕ) (text : List ℕ)
+    → replay_words words ≡ Some replay → LongerThan (files.told replay.script) most_bytes → files.lost replay.script ≡ false → files.after ≡ files.before
     → (status ≡ 3) × (text ≡ refused_script 0 0) → IsWordsOutput limits files words status text
-long_output limits files words name status text word long found steady p =
-    let h = holding_one (files.told name) TooLong long in
-    refused_output limits files words name h.0 h.0 0 0 status text word h.1.0 refl (long_script h.0 h.1.1) found steady p refl
+long_output limits files words replay status text word long found steady p =
+    let h = holding_one (files.told replay.script) TooLong long in
+    refused_output limits files words replay h.0 h.0 0 0 status text word h.1.0 refl (long_script h.0 h.1.1) found steady p refl
 
 -- a script that was not read
-pub unread_output : (limits : Limits) (files : FilesSeen) (words : List (List ℕ)) (name : List ℕ) (status : ℕ) (text : List ℕ)
-    → script_word words ≡ Some name → HasFailed files.sure files.before files.after files.failed name → (status ≡ 4) × (text ≡ refused_read name)
-    → IsWordsOutput limits files words status text
-unread_output limits files words name status text word fault p =
+pub unread_output : (limits : Limits) (files : FilesSeen) (words : List (List ℕ)) (replay : Replay) (status : ℕ) (text : List ℕ)
+    → replay_words words ≡ Some replay → HasFailed files.sure files.before files.after files.failed replay.script
+    → (status ≡ 4) × (text ≡ refused_read replay.script) → IsWordsOutput limits files words status text
+unread_output limits files words replay status text word fault p =
     let h = holding_none files.told in
     record {
       held = h.0;
@@ -271,8 +258,8 @@ unread_output limits files words name status text word fault p =
       printed = inr (inr (inl (
         p.0,
         record {
-          name = name;
-          reached = subst (λ (ns : List (List ℕ)). Reaches files.lost ns name) (sym (needed_script h.0 words name word)) (inl refl);
+          name = replay.script;
+          reached = subst (λ (ns : List (List ℕ)). Reaches files.lost ns replay.script) (sym (needed_script h.0 words replay word)) (inl refl);
           fault = fault;
           whole = p.1;
         },

@@ -29,7 +29,7 @@ use Rattle.pf_top.specs.Files.{HoldsContent, TellsContent}
 use Rattle.pf_top.specs.Outputs.{IsPrinted, IsWordsOutput}
 use Rattle.pf_top.specs.Queries.{IsQueryRead}
 use Rattle.pf_top.specs.Refusals.{refused_not_built}
-use Rattle.pf_top.specs.Words.{Evaluation, evaluation_words, script_word}
+use Rattle.pf_top.specs.Words.{Evaluation, Replay, evaluation_words, replay_words}
 use Rattle.pf_types.specs.declared.bound.BoundQuery.{BoundQuery}
 use Rattle.pf_top.specs.declared.loaded.Content.{Content}
 use Rattle.pf_top.specs.declared.queries.QueryRead.{QueryRead}
@@ -85,17 +85,17 @@ times_printed batch words start end step error (query.Refused e) text told h gri
 
 -- ---- by the words
 
-unbuilt_words : (held : Held) (w w' : Option (List ℕ)) (e e' : Option Evaluation) → w ≡ w' → e ≡ e' → IsUnbuilt held w' e' → IsUnbuilt held w e
-unbuilt_words held w w' e e' p q h = subst (λ (x : Option (List ℕ)). IsUnbuilt held x e) (sym p) (subst (IsUnbuilt held w') (sym q) h)
+unbuilt_words : (held : Held) (w w' : Option Replay) (e e' : Option Evaluation) → w ≡ w' → e ≡ e' → IsUnbuilt held w' e' → IsUnbuilt held w e
+unbuilt_words held w w' e e' p q h = subst (λ (x : Option Replay). IsUnbuilt held x e) (sym p) (subst (IsUnbuilt held w') (sym q) h)
 
-needed_words : (held : Held) (words : List (List ℕ)) (e : Option Evaluation) → script_word words ≡ None → evaluation_words words ≡ e
+needed_words : (held : Held) (words : List (List ℕ)) (e : Option Evaluation) → replay_words words ≡ None → evaluation_words words ≡ e
     → needed held words ≡ needed_by held None e
 needed_words held words e none is =
-    ap (λ (w : Option (List ℕ)). needed_by held w (evaluation_words words)) none ∙ ap (needed_by held None) is
+    ap (λ (w : Option Replay). needed_by held w (evaluation_words words)) none ∙ ap (needed_by held None) is
 
 -- the words are of no form
 pub other_words : (limits : Limits) (files : FilesSeen) (words : List (List ℕ)) (status : ℕ) (text : List ℕ)
-    → script_word words ≡ None → evaluation_words words ≡ None → files.after ≡ files.before → (status ≡ 9) × (text ≡ refused_not_built)
+    → replay_words words ≡ None → evaluation_words words ≡ None → files.after ≡ files.before → (status ≡ 9) × (text ≡ refused_not_built)
     → IsWordsOutput limits files words status text
 other_words limits files words status text none neither steady p =
     let h = holding_none files.told in
@@ -106,7 +106,7 @@ other_words limits files words status text none neither steady p =
         p.0,
         record {
           all = subst (AllRead files) (sym (needed_words h.0 words None none neither)) (record { there = tt; steady = steady });
-          unbuilt = unbuilt_words h.0 (script_word words) None (evaluation_words words) None none neither tt;
+          unbuilt = unbuilt_words h.0 (replay_words words) None (evaluation_words words) None none neither tt;
           whole = p.1;
         },
       ))));
@@ -131,7 +131,7 @@ file_printed limits files held words named status text is a (inr (three, (refusa
 
 -- an evaluation, whose file may not be read
 pub named_printed : (limits : Limits) (files : FilesSeen) (words : List (List ℕ)) (named : Evaluation) (status : ℕ) (text : List ℕ)
-    → script_word words ≡ None → evaluation_words words ≡ Some named → IsNamedOutput files named status text
+    → replay_words words ≡ None → evaluation_words words ≡ Some named → IsNamedOutput files named status text
     → IsWordsOutput limits files words status text
 named_printed limits files words named status text none is (inl (bytes, (holds, (output, a)))) =
     let h = holding_bytes files.told named.file bytes holds in

@@ -1,84 +1,81 @@
 -- A script is run line by line.
-use Rattle.std.proofs.Common.{◌≡◌, ℕ, zero, suc, ◌<◌, Bool, true, false, cond, Some, List, [], ◌∷◌, ◌++◌, get_or, length, map, take, drop, slice_get, refl, sym, ap, ◌∙◌, arith, subst, append-nil, append_assoc, inl, inr}
+use Rattle.std.proofs.Common.{◌≡◌, ℕ, ◌+◌, ◌<◌, ◌≤◌, Bool, true, false, cond, Option, Some, List, [], ◌∷◌, get_or, length, take, drop, slice_get, refl, sym, ap, ◌∙◌, subst}
 use Rattle.pf_base.specs.declared.plain.Limits.{Limits}
 use Rattle.pf_journal.proofs.Going.{runs_to_end}
 use Rattle.pf_journal.specs.Rest.{at_end}
-use Rattle.pf_journal.specs.Scripts.{Numbered, is_step, is_stepped}
+use Rattle.pf_journal.specs.Scripts.{Numbered}
 use Rattle.pf_journal.specs.Turns.{ran_lines}
 use Rattle.pf_journal.specs.Weave.{RunsTo}
 use Rattle.pf_model.specs.Lists.{Each}
-use Rattle.pf_script.specs.Lines.{AllFollow, Follows, IsRead, lines_of, numbered_of}
+use Rattle.pf_script.specs.Lines.{Follows, IsRead, lines_of, numbered_of}
 use Rattle.pf_script.specs.declared.script.NumberedLine.{NumberedLine}
 use Rattle.pf_script.specs.declared.script.Script.{Script}
 use Rattle.pf_top.specs.Drives.{CanRun}
-use Rattle.pf_top.specs.Files.{LineNames, NamesFile}
+use Rattle.pf_top.proofs.Gone.{left_there, part_kept}
+use Rattle.pf_top.proofs.Lines.{each_drop, each_get, follows_at, found, inside_lines, last_behind, map_length, names_at, names_behind, numbered_is, rising_behind}
+use Rattle.pf_top.specs.Correct.{file_of, has_keep, is_keep}
+use Rattle.pf_top.specs.Files.{LetsGoOf, LineNames}
 use Rattle.pf_top.specs.Going.{HasStopped, IsGoing, IsReady}
-use Rattle.pf_top.specs.Queries.{IsKeptFor}
+use Rattle.pf_top.specs.Queries.{AreReadAs, IsKeptFor, IsPart, Queries, readings_in}
 use Rattle.pf_top.specs.declared.client.Client.{Client}
 use Rattle.pf_top.specs.declared.loaded.Loaded.{Loaded}
 
-each_get : {X : Type 0} (P : X → Type 0) (xs : List X) (i : ℕ) (d : X) → i < length xs → Each P xs → P (get_or xs i d)
-each_get P [] i d p h = absurd (omega (arith, p))
-each_get P (x ∷ xs) zero d p h = h.0
-each_get P (x ∷ xs) (suc i) d p h = each_get P xs i d (omega (arith, p)) h.1
+keep_none : (b c : Bool) → cond b true c ≡ false → (b ≡ false) × (c ≡ false)
+keep_none true c h = cc
+keep_none false c h = (refl, h)
 
-follows_at : (before ls : List Numbered) (i : ℕ) (d : Numbered) → i < length ls → AllFollow before ls → Follows (before ++ take i ls) (get_or ls i d)
-follows_at before [] i d p h = absurd (omega (arith, p))
-follows_at before (l ∷ ls) zero d p h = subst (λ (b : List Numbered). Follows b l) (sym (append-nil before)) h.0
-follows_at before (l ∷ ls) (suc i) d p h =
-    subst (λ (b : List Numbered). Follows b (get_or ls i d)) (append_assoc before (l ∷ []) (take i ls))
-    (follows_at (before ++ l ∷ []) ls i d (omega (arith, p)) h.1)
+no_keep : (ls : List Numbered) → has_keep ls ≡ false → Each (λ (l : Numbered). is_keep l.line ≡ false) ls
+no_keep [] h = tt
+no_keep (l ∷ ls) h = ((keep_none (is_keep l.line) (has_keep ls) h).0, no_keep ls (keep_none (is_keep l.line) (has_keep ls) h).1)
 
-map_get : (ls : List NumberedLine) (i : ℕ) (d : NumberedLine) → i < length ls → get_or (map numbered_of ls) i (numbered_of d) ≡ numbered_of (get_or ls i d)
-map_get [] i d p = absurd (omega (arith, p))
-map_get (l ∷ ls) zero d p = refl
-map_get (l ∷ ls) (suc i) d p = map_get ls i d (omega (arith, p))
+module _ (script : Script) (loaded : Loaded) (i : ℕ) (l : NumberedLine) (inside : i < length script.lines.items) (is : l ≡ get_or script.lines.items i l) (can : CanRun script i loaded) where
+  line_is : get_or (lines_of script) i (numbered_of l) ≡ numbered_of l
+  line_is = numbered_is script.lines.items i l inside is
 
-map_length : (ls : List NumberedLine) → length (map numbered_of ls) ≡ length ls
-map_length [] = refl
-map_length (l ∷ ls) = ap suc (map_length ls)
-
-names_at : (ls : List Numbered) (i : ℕ) (d : Numbered) (name : List ℕ) → i < length ls → LineNames (get_or ls i d).line name → NamesFile ls name
-names_at [] i d name p h = absurd (omega (arith, p))
-names_at (l ∷ ls) zero d name p h = inl h
-names_at (l ∷ ls) (suc i) d name p h = inr (names_at ls i d name (omega (arith, p)) h)
-
-found : (ls : List Numbered) (j : ℕ) (d : Numbered) → j < length ls → slice_get ls j ≡ Some (get_or ls j d)
-found [] j d p = absurd (omega (arith, p))
-found (x ∷ ls) zero d p = refl
-found (x ∷ ls) (suc j) d p = found ls j d (omega (arith, p))
-
-step_none : (b c : Bool) → cond b true c ≡ false → (b ≡ false) × (c ≡ false)
-step_none true c h = cc
-step_none false c h = (refl, h)
-
-no_step : (ls : List Numbered) → is_stepped ls ≡ false → Each (λ (l : Numbered). is_step l.line ≡ false) ls
-no_step [] h = tt
-no_step (l ∷ ls) h = ((step_none (is_step l.line) (is_stepped ls) h).0, no_step ls (step_none (is_step l.line) (is_stepped ls) h).1)
-
-module _ (script : Script) (loaded : Loaded) (i : ℕ) (l : NumberedLine) (inside : i < length script.lines.items) (is : l ≡ get_or script.lines.items i l) (can : CanRun script loaded) where
-  numbered_is : get_or (lines_of script) i (numbered_of l) ≡ numbered_of l
-  numbered_is = map_get script.lines.items i l inside ∙ ap numbered_of (sym is)
-
-  inside_lines : i < length (lines_of script)
-  inside_lines = let long = map_length script.lines.items in omega (arith, inside, long)
+  within : i < length (lines_of script)
+  within = inside_lines script.lines.items i l inside is
 
   pub follows : Follows (take i (lines_of script)) (numbered_of l)
-  follows = subst (λ (x : Numbered). Follows (take i (lines_of script)) x) numbered_is (follows_at [] (lines_of script) i (numbered_of l) inside_lines can.following)
+  follows = follows_at script.lines.items i l inside is can.following
 
   pub there : slice_get (lines_of script) i ≡ Some (numbered_of l)
-  there = found (lines_of script) i (numbered_of l) inside_lines ∙ ap (λ (x : Numbered). Some x) numbered_is
+  there = found (lines_of script) i (numbered_of l) within ∙ ap (λ (x : Numbered). Some x) line_is
 
   pub ready : IsReady loaded l
   ready = record {
     read = subst IsRead (sym is) (each_get IsRead script.lines.items i l inside can.read);
-    files = λ name h. can.files name (names_at (lines_of script) i (numbered_of l) name inside_lines (subst (λ (x : Numbered). LineNames x.line name) (sym numbered_is) h));
+    files = λ name h. can.files name (names_at (lines_of script) i (numbered_of l) name within (subst (λ (x : Numbered). LineNames x.line name) (sym line_is) h));
     right = can.right;
-    text = subst (λ (x : Numbered). IsKeptFor loaded.queries x.line) numbered_is
-        (each_get (λ (x : Numbered). IsKeptFor loaded.queries x.line) (lines_of script) i (numbered_of l) inside_lines can.texts);
-    unstepped = subst (λ (x : Numbered). is_step x.line ≡ false) numbered_is
-        (each_get (λ (x : Numbered). is_step x.line ≡ false) (lines_of script) i (numbered_of l) inside_lines (no_step (lines_of script) can.unstepped));
+    text = subst (λ (x : Numbered). IsKeptFor loaded.queries x.line) line_is
+        (each_get (λ (x : Numbered). IsKeptFor loaded.queries x.line) (lines_of script) i (numbered_of l) within can.texts);
+    unkept = subst (λ (x : Numbered). is_keep x.line ≡ false) line_is
+        (each_get (λ (x : Numbered). is_keep x.line ≡ false) (lines_of script) i (numbered_of l) within (no_keep (lines_of script) can.unkept));
   }
+
+  -- the lines behind it can run with what it leaves
+  pub runs_on : (new : Loaded) → LetsGoOf loaded.files (file_of (numbered_of l).line) l.number new.files → new.queries ≡ loaded.queries → CanRun script (i + 1) new
+  runs_on new go same = record {
+    files = λ name named.
+        let kept = can.files name (names_behind (lines_of script) i name named) in
+        left_there loaded.files (file_of (numbered_of l).line) l.number new.files go name kept
+        (last_behind (drop (i + 1) (lines_of script)) l.number kept.file.last name named (rising_behind script.lines.items i l inside is can.following)
+        (each_drop (λ x. LineNames x.line name → x.number ≤ kept.file.last) (lines_of script) (i + 1) (can.lasts name kept.file kept.there)));
+    lasts = λ name file g. can.lasts name file (part_kept loaded.files (file_of (numbered_of l).line) l.number new.files go name file g);
+    right = subst AreReadAs (sym same) can.right;
+    texts = subst (λ (q : Queries). Each (λ x. IsKeptFor q x.line) (lines_of script)) (sym same) can.texts;
+    read = can.read;
+    following = can.following;
+    unkept = can.unkept;
+  }
+
+-- what is left is part of what was loaded first
+pub part_on : (first old new : Loaded) (named : Option (List ℕ)) (number : ℕ) → LetsGoOf old.files named number new.files → new.queries ≡ old.queries
+    → IsPart first old → IsPart first new
+part_on first old new named number go same part known told =
+    let t = part known told in record {
+      held = λ name file g. t.held name file (part_kept old.files named number new.files go name file g);
+      readings = t.readings ∙ ap readings_in (sym same);
+    }
 
 drop_past : {X : Type 0} (xs : List X) → drop (length xs) xs ≡ []
 drop_past [] = refl

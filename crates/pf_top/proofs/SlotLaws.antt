@@ -95,6 +95,12 @@ slot_stays known above r own m n entered k (Some slot.Full) other apart leaves h
     subst (λ (x : Option Moment). IsFullWhat (what_of x)) (sym (moment_other k own m n entered apart)) h
 slot_stays known above r own m n entered k (Some slot.TooManyTenants) other apart leaves h =
     subst (λ (x : Option Moment). IsNoTenantWhat (what_of x)) (sym (moment_other k own m n entered apart)) h
+slot_stays known above r own m n entered k (Some slot.NoMemory) other apart leaves h = record {
+  none = moment_other k own m n entered apart ∙ h.none;
+  ran = h.ran;
+  there = ran_other k above r other ∙ h.there;
+  told = h.told;
+}
 
 -- ---- the query of an ask
 
@@ -348,6 +354,17 @@ slots_answered known above r own m done l j entered count slots slots' low same 
   ];
 }
 
+-- the same of what is kept in another way
+pub slots_as : (known : Known) (above : List Ran) (own : List Moment) (count : ℕ) (done : List Numbered) (slots slots' : Slots)
+    → ((k : ℕ) → get nat_cmp slots' k ≡ get nat_cmp slots k) → HaveSlots known above own count done slots → HaveSlots known above own count done slots'
+slots_as known above own count done slots slots' same h = record {
+  right = λ k id a. subst (SlotRight known above own k) (sym (same k)) (h.right k id a);
+  kept = λ k id a un none. h.kept k id a un (sym (same k) ∙ none);
+  only = λ k s g. h.only k s (sym (same k) ∙ g);
+  apart = λ k j q g f. h.apart k j q (sym (same k) ∙ g) (sym (same j) ∙ f);
+  below = λ k q g. h.below k q (sym (same k) ∙ g);
+}
+
 -- an ask that was refused opened no query
 pub full_shut : (w : Option What) → IsFullWhat w → HasQuery w → ⊥
 full_shut (Some (ask u a pin generation floor)) f q = f
@@ -395,3 +412,5 @@ slot_shut known above above' own m n j entered slot.Full apart closes h = λ a f
     full_shut (what_of (moment_of j own)) h (subst (λ (x : Option Moment). HasQuery (what_of x)) (moment_other j own m n entered apart) a)
 slot_shut known above above' own m n j entered slot.TooManyTenants apart closes h = λ a f.
     stranger_shut (what_of (moment_of j own)) h (subst (λ (x : Option Moment). HasQuery (what_of x)) (moment_other j own m n entered apart) a)
+slot_shut known above above' own m n j entered slot.NoMemory apart closes h = λ a f.
+    subst (λ (x : Option Moment). HasQuery (what_of x)) (moment_other j own m n entered apart ∙ h.none) a

@@ -1,29 +1,35 @@
 -- What became of asks: this project's own.
-use Rattle.std.specs.Prelude.{◌≡◌, ℕ, ◌<◌, Bool, Option, Some, None, Result, cond, false, nat_eq, slice_get, List}
+use Rattle.std.specs.Prelude.{◌≡◌, ℕ, ◌<◌, Bool, true, Option, Some, None, Result, cond, false, nat_eq, slice_get, List}
 use Rattle.std.specs.BTreeMap.{BTreeMap, get}
 use Rattle.std.specs.Ordering.{nat_cmp}
 use Rattle.pf_base.specs.declared.plain.Limits.{Limits}
 use Rattle.pf_core.specs.Cores.{CoreData, Stands, machine_of}
+use Rattle.pf_front.specs.declared.outcome.Outcome.{Outcome}
+use Rattle.pf_front.specs.declared.outcome.Outcome.TheVariants as outcome
 use Rattle.pf_journal.specs.Asking.{Asked, ranged, at_once}
 use Rattle.pf_journal.specs.Entered.{what_of}
 use Rattle.pf_journal.specs.Legal.{Moment}
 use Rattle.pf_journal.specs.Machine.{What, ask, full, no_tenant, IsCode, Open, open_at}
-use Rattle.pf_journal.specs.Bodies.{full_body, refused_body, tenants_body}
+use Rattle.pf_journal.specs.Bodies.{full_body, memory_body, refused_body, tenants_body}
 use Rattle.pf_journal.specs.Replies.{body_of, refusal_of}
-use Rattle.pf_journal.specs.Rest.{Known, nothing, Told}
+use Rattle.pf_journal.specs.Rest.{Known, Told, failed_five, nothing, no_memory}
 use Rattle.pf_journal.specs.Scripts as script
 use Rattle.pf_journal.specs.Scripts.{Line, Numbered}
 use Rattle.pf_journal.specs.Unentered.{HasQuery}
 use Rattle.pf_journal.specs.Turns.{Ran, answer_of, is_answer_of, asker_of, moment_of, place_of, ran_at}
+use Rattle.pf_journal.specs.Weave.{ToldOfCode}
 use Rattle.pf_model.specs.ErrorTexts.{grid_text}
-use Rattle.pf_report.specs.Bodies.{code_in, text_of}
+use Rattle.pf_model.specs.declared.expr.Kind.{Kind}
+use Rattle.pf_report.specs.Bodies.{code_in, result_body, text_of}
 use Rattle.pf_report.specs.declared.bodies.Body.{Body}
-use Rattle.pf_script.specs.Lines.{IsAsk, IsUnanswered, line_at}
+use Rattle.pf_report.specs.declared.bodies.Body.TheVariants as body
+use Rattle.pf_script.specs.Lines as lines
+use Rattle.pf_script.specs.Lines.{IsAsk, line_at}
 use Rattle.pf_types.specs.Errors.{words_of_error}
 use Rattle.pf_top.specs.Clients.{IsKnown, IsStep, Naming}
 use Rattle.pf_top.specs.declared.client.Client.{Client}
 use Rattle.pf_top.specs.declared.client.LineRun.{LineRun}
-use Rattle.pf_top.specs.declared.client.LineRun.TheVariants.{On, Full}
+use Rattle.pf_top.specs.declared.client.LineRun.TheVariants.{On, Full, Starved}
 use Rattle.pf_top.specs.declared.slots.Slot.{Slot}
 use Rattle.pf_top.specs.declared.slots.Slot.TheVariants as slot
 
@@ -65,6 +71,13 @@ pub record IsUnaskedAt (known : Known) (above : List Ran) (own : List Moment) (k
   pub told : ran.told ≡ nothing
   pub text : refusal_of (wanted_by known ran.line.line) ≡ says
 
+-- the ask has no entry, since there was no memory
+pub record IsStarvedAt (above : List Ran) (own : List Moment) (k : ℕ) : Type 0 where
+  pub none : moment_of k own ≡ None
+  pub ran : Ran
+  pub there : ran_at k above ≡ Some ran
+  pub told : ran.told ≡ no_memory
+
 -- the tenant had as many open queries as it may
 abbrev pub IsFullWhat : Option What → Type 0
 IsFullWhat (Some (full u outstanding)) = Unit {0}
@@ -83,6 +96,7 @@ SlotRight known above own k (Some (slot.BadGrid e)) = IsUnaskedAt known above ow
 SlotRight known above own k (Some (slot.BadQuery e)) = IsUnaskedAt known above own k (words_of_error e)
 SlotRight known above own k (Some slot.Full) = IsFullWhat (what_of (moment_of k own))
 SlotRight known above own k (Some slot.TooManyTenants) = IsNoTenantWhat (what_of (moment_of k own))
+SlotRight known above own k (Some slot.NoMemory) = IsStarvedAt above own k
 
 -- ---- the asks of the lines that ran
 
@@ -92,11 +106,15 @@ Slots = BTreeMap ℕ Slot
 
 pub record HaveSlots (known : Known) (above : List Ran) (own : List Moment) (count : ℕ) (done : List Numbered) (slots : Slots) : Type 0 where
   pub right : (k : ℕ) (id : List ℕ) → IsAsk id (line_at k done) → SlotRight known above own k (get nat_cmp slots k)
-  pub kept : (k : ℕ) (id : List ℕ) → IsAsk id (line_at k done) → IsUnanswered done k → get nat_cmp slots k ≡ None → ⊥
+  pub kept : (k : ℕ) (id : List ℕ) → IsAsk id (line_at k done) → lines.IsUnanswered done k → get nat_cmp slots k ≡ None → ⊥
   -- nothing is kept of other lines
   pub only : (k : ℕ) (s : Slot) → get nat_cmp slots k ≡ Some s → (id : List ℕ) × IsAsk id (line_at k done)
   pub apart : (k j q : ℕ) → get nat_cmp slots k ≡ Some (slot.Asked q) → get nat_cmp slots j ≡ Some (slot.Asked q) → k ≡ j
   pub below : (k q : ℕ) → get nat_cmp slots k ≡ Some (slot.Asked q) → q < count
+
+-- each open query is kept
+abbrev pub AreKept : CoreData → Slots → Type 0
+AreKept c slots = (q : ℕ) (o : Open) → open_at q (machine_of c).queries ≡ Some o → (k : ℕ) × (get nat_cmp slots k ≡ Some (slot.Asked q))
 
 -- ---- an ask that was run
 
@@ -117,6 +135,7 @@ IsSlot known l old new told entered (slot.BadQuery e) =
     (entered ≡ None) × ((told ≡ nothing) × (refusal_of (wanted_by known l) ≡ words_of_error e))
 IsSlot known l old new told entered slot.Full = IsFullWhat entered
 IsSlot known l old new told entered slot.TooManyTenants = IsNoTenantWhat entered
+IsSlot known l old new told entered slot.NoMemory = (entered ≡ None) × (told ≡ no_memory)
 
 -- what became of an ask is kept
 pub record IsKeptSlot (known : Known) (l : Numbered) (old new : Client) (told : Told) (entered : Option What) : Type 0 where
@@ -124,17 +143,18 @@ pub record IsKeptSlot (known : Known) (l : Numbered) (old new : Client) (told : 
   pub is : IsSlot known l.line old.core new.core told entered kept
   pub slots : (k : ℕ) → get nat_cmp new.slots k ≡ cond (nat_eq l.number k) (Some kept) (get nat_cmp old.slots k)
 
--- of a line that asks; one that met the full journal keeps nothing
+-- of a line that asks; one that stops its client keeps nothing
 abbrev pub KeepsSlot : Known → Numbered → (old new : Client) → Told → Option What → LineRun → Type 0
 KeepsSlot known l old new told entered On = IsKeptSlot known l old new told entered
 KeepsSlot known l old new told entered Full = Unit {0}
+KeepsSlot known l old new told entered Starved = Unit {0}
 
-pub record IsAskStep (known : Known) (n : Naming) (old : Client) (l : Numbered) (run : LineRun) (new : Client) : Type 0 where
+pub record IsAskStep (known : Known) (n : Told → Naming) (old : Client) (l : Numbered) (run : LineRun) (new : Client) : Type 0 where
   pub step : IsStep known n old l run new
   pub keeps : KeepsSlot known l old new step.told step.entered run
 
 abbrev pub AskRuns : Known → Client → Numbered → LineRun → Client → Type 0
-AskRuns known old l run new = (n : Naming) → IsKnown known new.core → IsAskStep known n old l run new
+AskRuns known old l run new = (n : Told → Naming) → IsKnown known new.core → IsAskStep known n old l run new
 
 -- no open query is kept
 abbrev pub IsNoQuery : Option Slot → Type 0
@@ -143,12 +163,16 @@ IsNoQuery _ = Unit {0}
 
 -- ---- answers
 
+-- what is told beside an answer with this body
+abbrev pub told_with : Body → Told
+told_with (body.JobFailed job) = failed_five job
+told_with _ = nothing
+
 -- a body is the answer of an open query, by its code
 pub record IsBody (limits : Limits) (o : Open) (b : Body) : Type 0 where
   pub coded : IsCode limits o o.cancelled (code_in b)
-  pub text : body_of limits nothing (code_in b) (Some o) ≡ text_of b
-  pub tried : nat_eq (code_in b) 500 ≡ false
-  pub fed : nat_eq (code_in b) 507 ≡ false
+  pub text : body_of limits (told_with b) (code_in b) (Some o) ≡ text_of b
+  pub told : ToldOfCode (nat_eq (code_in b) 500) (told_with b)
 
 -- a body is the answer of a refused ask
 abbrev pub IsRefusedBody : Slot → Body → Type 0
@@ -157,6 +181,7 @@ IsRefusedBody (slot.BadGrid e) b = (code_in b ≡ 400) × (text_of b ≡ refused
 IsRefusedBody (slot.BadQuery e) b = (code_in b ≡ 400) × (text_of b ≡ refused_body (words_of_error e))
 IsRefusedBody slot.Full b = (code_in b ≡ 429) × (text_of b ≡ full_body)
 IsRefusedBody slot.TooManyTenants b = (code_in b ≡ 503) × (text_of b ≡ tenants_body)
+IsRefusedBody slot.NoMemory b = (code_in b ≡ 507) × (text_of b ≡ memory_body)
 
 -- an entry answers a query
 abbrev pub answers : ℕ → Option What → Bool
@@ -168,7 +193,32 @@ abbrev pub is_query : ℕ → Option Slot → Bool
 is_query q (Some (slot.Asked query)) = nat_eq query q
 is_query q _ = false
 
--- the ask of which this is kept was answered
-pub record IsAnswerStep (known : Known) (n : Naming) (old : Client) (l : Numbered) (kept : Option Slot) (new : Client) : Type 0 where
+-- what comes out of a query, as a body
+abbrev pub outcome_body : (instant : Bool) → Kind → Outcome → Body
+outcome_body instant kind (outcome.Matrix rows) = result_body instant kind rows
+outcome_body instant kind (outcome.Failed step error) = body.Failed step error
+outcome_body instant kind outcome.Cancelled = body.Cancelled
+outcome_body instant kind (outcome.Exhausted job) = body.JobFailed job
+outcome_body instant kind outcome.Starved = body.OutOfMemory
+
+-- an open query was answered, or waits
+pub record IsQueryAnswer (known : Known) (n : Told → Naming) (old : Client) (l : Numbered) (query : ℕ) (answered : Bool) (new : Client) : Type 0 where
   pub step : IsStep known n old l On new
-  pub closes : (q : ℕ) → answers q step.entered ≡ is_query q kept
+  pub closes : (q : ℕ) → answers q step.entered ≡ cond answered (nat_eq query q) false
+
+-- a refused ask was answered
+pub record IsUnanswered (known : Known) (n : Told → Naming) (old : Client) (l : Numbered) (new : Client) : Type 0 where
+  pub step : IsStep known n old l On new
+  pub none : step.entered ≡ None
+
+-- what was kept of an ask is kept no more once it was answered
+abbrev pub left_of : (answered : Bool) → Option Slot → Option Slot
+left_of true kept = None
+left_of false kept = kept
+
+-- the ask of a line was answered, or its query waits
+pub record IsAnswerStep (known : Known) (n : Told → Naming) (old : Client) (l : Numbered) (line : ℕ) (new : Client) : Type 0 where
+  pub answered : Bool
+  pub step : IsStep known n old l On new
+  pub closes : (q : ℕ) → answers q step.entered ≡ cond answered (is_query q (get nat_cmp old.slots line)) false
+  pub slots : (k : ℕ) → get nat_cmp new.slots k ≡ cond (nat_eq line k) (left_of answered (get nat_cmp old.slots line)) (get nat_cmp old.slots k)

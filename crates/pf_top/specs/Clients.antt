@@ -7,17 +7,19 @@ use Rattle.pf_journal.specs.Files.{Gives, IsRefusedAs}
 use Rattle.pf_journal.specs.Legal.{Moment}
 use Rattle.pf_journal.specs.Machine.{Entry, Machine, What}
 use Rattle.pf_journal.specs.Replies.{reply_to}
-use Rattle.pf_journal.specs.Rest.{Known, Told, nothing, refused_file, journal_full, at_full}
+use Rattle.pf_journal.specs.Rest.{Known, Told, at_full, at_memory}
 use Rattle.pf_journal.specs.Scripts.{Line, Numbered}
 use Rattle.pf_journal.specs.Turns.{Hand, Ran, Turn, answer_of, asked_by, asking_line, asking_ran, cancel_of}
-use Rattle.pf_journal.specs.Weave.{FoundRoom, IsMatched, is_500, stops_at}
+use Rattle.pf_journal.specs.Weave.{FoundRoom, IsMatched, stops_at}
 use Rattle.pf_report.specs.Replies.{fault_of}
-use Rattle.pf_top.specs.Correct.{IsFed, IsUncached}
+use Rattle.pf_front.specs.Works.{IsIdle}
+use Rattle.pf_top.specs.Correct.{IsUncached}
+use Rattle.pf_top.specs.Hands.{CountsTries, HandsAfter}
 use Rattle.pf_top.specs.declared.client.Client.{Client}
 use Rattle.pf_top.specs.declared.client.FileRead.{FileRead}
 use Rattle.pf_top.specs.declared.client.FileRead.TheVariants.{Batch, Refused}
 use Rattle.pf_top.specs.declared.client.LineRun.{LineRun}
-use Rattle.pf_top.specs.declared.client.LineRun.TheVariants.{On, Full}
+use Rattle.pf_top.specs.declared.client.LineRun.TheVariants.{On, Full, Starved}
 
 -- ---- what a line is judged by
 
@@ -35,14 +37,14 @@ pub record Naming : Type 0 where
   pub cancelled : Option Moment
   pub answered : Option Moment
 
--- what a line names, behind own entries and lines above
-abbrev pub naming : (own : List Moment) → (above : List Ran) → List Hand → Line → Naming
-naming own above hands line = record {
+-- what a line names by what was told of it, behind own entries and lines above
+abbrev pub naming : (own : List Moment) → (above : List Ran) → List Hand → Line → Told → Naming
+naming own above hands line told = record {
   hands = hands;
-  asking = asking_ran (asking_line line) (asked_by (asking_line line) nothing own) above;
-  asked = asked_by (asking_line line) nothing own;
-  cancelled = cancel_of (asked_by (asking_line line) nothing own) own;
-  answered = answer_of (asked_by (asking_line line) nothing own) own;
+  asking = asking_ran (asking_line line) (asked_by (asking_line line) told own) above;
+  asked = asked_by (asking_line line) told own;
+  cancelled = cancel_of (asked_by (asking_line line) told own) own;
+  answered = answer_of (asked_by (asking_line line) told own) own;
 }
 
 -- its turn
@@ -75,54 +77,49 @@ abbrev pub moment_with : Machine → ℕ → Option What → Option Moment
 moment_with m n None = None
 moment_with m n (Some what) = Some (moment_by m n what)
 
--- of no answer a step came from a cache, and none was for want of memory or for a job that failed
-abbrev pub IsUnfailed : What → Type 0
-IsUnfailed what = IsUncached what × (IsFed what × (is_500 what ≡ 0))
-
-abbrev pub IsUnfailedBy : Option What → Type 0
-IsUnfailedBy None = Unit {0}
-IsUnfailedBy (Some what) = IsUnfailed what
-
--- what may be told beside entries
-abbrev pub IsPlain : Told → Type 0
-IsPlain nothing = Unit {0}
-IsPlain (refused_file refusal) = Unit {0}
-IsPlain journal_full = Unit {0}
-IsPlain _ = ⊥
+-- of an answer no step came from a cache
+abbrev pub IsUncachedBy : Option What → Type 0
+IsUncachedBy None = Unit {0}
+IsUncachedBy (Some what) = IsUncached what
 
 -- ---- a line that was run
 
--- the client goes on, or the line met the full journal
+-- the client goes on, or the line met the full journal, or lacked memory
 abbrev pub Ends : CoreData → Line → Told → Option What → LineRun → Type 0
 Ends old l told entered On = stops_at l told ≡ None
 Ends old l told entered Full = (stops_at l told ≡ Some at_full) × ((entered ≡ None) × IsFull old (room_of l))
+Ends old l told entered Starved = stops_at l told ≡ Some at_memory
 
 -- a line was run: it entered at most one entry, which fits it and found room, and its reply was said
-pub record IsStep (known : Known) (n : Naming) (old : Client) (l : Numbered) (run : LineRun) (new : Client) : Type 0 where
+pub record IsStep (known : Known) (n : Told → Naming) (old : Client) (l : Numbered) (run : LineRun) (new : Client) : Type 0 where
   pub told : Told
   pub entered : Option What
-  pub plain : IsPlain told
   pub ends : Ends old.core l.line told entered run
   pub limits : new.core.limits ≡ old.core.limits
   pub journal : new.core.journal ≡ old.core.journal ++ entries_by l.number entered
   pub more : List (List ℕ)
   pub grown : new.core.names ≡ old.core.names ++ more
-  pub matched : IsMatched known (turn_by n l told (moment_with (machine_of old.core) l.number entered))
+  pub matched : IsMatched known (turn_by (n told) l told (moment_with (machine_of old.core) l.number entered))
       (moment_with (machine_of old.core) l.number entered)
   pub roomy : FoundRoom known.limits l.line (moment_with (machine_of old.core) l.number entered)
-  pub unfailed : IsUnfailedBy entered
+  pub uncached : IsUncachedBy entered
+  pub tried : CountsTries old.core told new.core
+  pub hands : HandsAfter l.line told old new
   pub said : new.out.items
-      ≡ old.out.items ++ reply_to known (turn_by n l told (moment_with (machine_of old.core) l.number entered)) l.number l.line
+      ≡ old.out.items ++ reply_to known (turn_by (n told) l told (moment_with (machine_of old.core) l.number entered)) l.number l.line
 
--- the limits stay, and names are only added
+-- the limits stay, names and entries are only added, and the client itself has no more jobs in its hand than before
 pub record Grows (old new : CoreData) : Type 0 where
   pub limits : new.limits ≡ old.limits
   pub more : List (List ℕ)
   pub names : new.names ≡ old.names ++ more
+  pub entries : List Entry
+  pub journal : new.journal ≡ old.journal ++ entries
+  pub idle : IsIdle old 0 → IsIdle new 0
 
 -- the same of a line that names no query
 abbrev pub Runs : Known → Client → Numbered → LineRun → Client → Type 0
-Runs known old l run new = (n : Naming) → IsKnown known new.core → IsStep known n old l run new
+Runs known old l run new = (n : Told → Naming) → IsKnown known new.core → IsStep known n old l run new
 
 -- ---- files
 

@@ -14,11 +14,11 @@ use Rattle.pf_journal.specs.Legal.{Legal, AreNames}
 use Rattle.pf_journal.specs.Machine.{Entry, What}
 use Rattle.pf_journal.specs.Machine as entry
 use Rattle.pf_journal.specs.Report.{report}
-use Rattle.pf_journal.specs.Rest.{Client, Rest, at_full, no_memory}
-use Rattle.pf_journal.specs.Scripts.{Line, Numbered, ingest, is_stepped, script_of}
+use Rattle.pf_journal.specs.Rest.{Client, Rest, at_full}
+use Rattle.pf_journal.specs.Scripts.{Line, Numbered, ingest, keep, script_of}
 use Rattle.pf_journal.specs.Weave.{Weave}
 use Rattle.pf_top.specs.Refusals.{refused_file, refused_not_built, refused_read, refused_script}
-use Rattle.pf_top.specs.Words.{Evaluation, evaluation_words, script_word}
+use Rattle.pf_top.specs.Words.{Evaluation, Replay, evaluation_words, limits_with, replay_words}
 
 -- ---- what a run sees of its outside
 
@@ -54,11 +54,19 @@ Held = List ℕ → List ℕ
 abbrev pub Agree : (List ℕ → Option (List ℕ)) → Held → Type 0
 Agree told held = (name : List ℕ) → Holds (told name) (held name)
 
--- the scripts are those that the words name: one that is not refused and has no step lines
-abbrev pub AreScripts : Held → Option (List ℕ) → List (List Numbered) → Type 0
-AreScripts held None scripts = ⊥
-AreScripts held (Some name) scripts =
-    (lines : List Numbered) × ((scripts ≡ lines ∷ []) × ((script_of true (held name) ≡ Ok lines) × (is_stepped lines ≡ false)))
+-- a script with a `keep` line is of no form that is built
+abbrev pub is_keep : Line → Bool
+is_keep (keep id asked) = true
+is_keep _ = false
+
+abbrev pub has_keep : List Numbered → Bool
+has_keep [] = false
+has_keep (l ∷ ls) = cond (is_keep l.line) true (has_keep ls)
+
+-- the scripts are those that the words name: one that is not refused and has no `keep` line
+abbrev pub AreScripts : Held → Replay → List (List Numbered) → Type 0
+AreScripts held replay scripts =
+    (lines : List Numbered) × ((scripts ≡ lines ∷ []) × ((script_of true (held replay.script) ≡ Ok lines) × (has_keep lines ≡ false)))
 
 -- the file that a line names, and those that lines name, in the order of the lines
 abbrev pub file_of : Line → Option (List ℕ)
@@ -75,17 +83,17 @@ files_of (l ∷ ls) = with_file (file_of l.line) (files_of ls)
 
 abbrev pub script_files : Result (List Numbered) ℕ → List (List ℕ)
 script_files (Err line) = []
-script_files (Ok lines) = cond (is_stepped lines) [] (files_of lines)
+script_files (Ok lines) = cond (has_keep lines) [] (files_of lines)
 
 -- the files that are needed, in the order in which they are read: a script, and what it names if it runs; or the file of an
 -- evaluation
-abbrev pub needed_by : Held → Option (List ℕ) → Option Evaluation → List (List ℕ)
-needed_by held (Some name) _ = name ∷ script_files (script_of true (held name))
+abbrev pub needed_by : Held → Option Replay → Option Evaluation → List (List ℕ)
+needed_by held (Some replay) _ = replay.script ∷ script_files (script_of true (held replay.script))
 needed_by held None (Some named) = named.file ∷ []
 needed_by held None None = []
 
 abbrev pub needed : Held → List (List ℕ) → List (List ℕ)
-needed held words = needed_by held (script_word words) (evaluation_words words)
+needed held words = needed_by held (replay_words words) (evaluation_words words)
 
 -- all of these files were read: none of them is lost, and the count of faults did not rise
 pub record AllRead (files : FilesSeen) (names : List (List ℕ)) : Type 0 where
@@ -115,33 +123,23 @@ abbrev pub IsUncached : What → Type 0
 IsUncached (entry.answer query code cached evaluated) = cached ≡ 0
 IsUncached _ = Unit {0}
 
--- no answer was given for want of memory, and no line lacked it
-abbrev pub IsFed : What → Type 0
-IsFed (entry.answer query code cached evaluated) = code ≡ 507 → ⊥
-IsFed _ = Unit {0}
-
-pub record AreFed (journal : List Entry) (rest : Rest) : Type 0 where
-  pub answers : Each (λ e. IsFed e.what) journal
-  pub lines : Each (λ c. Each (λ t. t ≡ no_memory → ⊥) c.told) rest.clients
-
--- text is the report of a legal journal that is woven from the scripts
+-- text is the report of a legal journal that is woven from the scripts, within the limits that the words choose
 pub record Reported (limits : Limits) (files : FilesSeen) (held : Held) (words : List (List ℕ)) (full : Bool) (text : List ℕ) : Type 0 where
   pub all : AllRead files (needed held words)
+  pub replay : Replay
+  pub by_words : replay_words words ≡ Some replay
   pub scripts : List (List Numbered)
   pub journal : List Entry
   pub names : List (List ℕ)
   pub readings : Readings
   pub rest : Rest
-  pub read : AreScripts held (script_word words) scripts
-  pub legal : Legal limits names journal
+  pub read : AreScripts held replay scripts
+  pub legal : Legal (limits_with limits replay) names journal
   pub named : AreNames names journal
-  pub woven : Weave (record { limits = limits; names = names; files = held; readings = readings }) journal scripts rest
+  pub woven : Weave (record { limits = limits_with limits replay; names = names; files = held; readings = readings }) journal scripts rest
   pub uncached : Each (λ e. IsUncached e.what) journal
-  pub fed : AreFed journal rest
-  -- no work on a query failed
-  pub untried : rest.failed ≡ []
   pub met : HaveMetFull full rest.clients
-  pub whole : text ≡ report (record { limits = limits; names = names; files = held; readings = readings }) journal scripts rest
+  pub whole : text ≡ report (record { limits = limits_with limits replay; names = names; files = held; readings = readings }) journal scripts rest
 
 -- text is what the evaluation of a query prints over the samples of one file
 pub record Evaluated (files : FilesSeen) (held : Held) (words : List (List ℕ)) (text : List ℕ) : Type 0 where
@@ -166,10 +164,10 @@ pub record FileRefused (files : FilesSeen) (held : Held) (words : List (List ℕ
 -- text says at which line a script is refused: its first that is none, or 0 where it is too long
 pub record ScriptRefused (files : FilesSeen) (held : Held) (words : List (List ℕ)) (text : List ℕ) : Type 0 where
   pub all : AllRead files (needed held words)
-  pub name : List ℕ
-  pub by_words : script_word words ≡ Some name
+  pub replay : Replay
+  pub by_words : replay_words words ≡ Some replay
   pub line : ℕ
-  pub refused : script_of true (held name) ≡ Err line
+  pub refused : script_of true (held replay.script) ≡ Err line
   pub whole : text ≡ refused_script 0 line
 
 abbrev pub Refused : FilesSeen → Held → List (List ℕ) → List ℕ → Type 0
@@ -186,15 +184,15 @@ pub record Unread (files : FilesSeen) (held : Held) (words : List (List ℕ)) (t
   pub fault : HasFailed files.sure files.before files.after files.failed name
   pub whole : text ≡ refused_read name
 
--- the words are of no form that is built, or the script that they name has step lines
-abbrev pub IsUnbuilt : Held → Option (List ℕ) → Option Evaluation → Type 0
+-- the words are of no form that is built, or the script that they name has a `keep` line
+abbrev pub IsUnbuilt : Held → Option Replay → Option Evaluation → Type 0
 IsUnbuilt held None None = Unit {0}
 IsUnbuilt held None (Some named) = ⊥
-IsUnbuilt held (Some name) _ = (lines : List Numbered) × ((script_of true (held name) ≡ Ok lines) × (is_stepped lines ≡ true))
+IsUnbuilt held (Some replay) _ = (lines : List Numbered) × ((script_of true (held replay.script) ≡ Ok lines) × (has_keep lines ≡ true))
 
 pub record Unbuilt (files : FilesSeen) (held : Held) (words : List (List ℕ)) (text : List ℕ) : Type 0 where
   pub all : AllRead files (needed held words)
-  pub unbuilt : IsUnbuilt held (script_word words) (evaluation_words words)
+  pub unbuilt : IsUnbuilt held (replay_words words) (evaluation_words words)
   pub whole : text ≡ refused_not_built
 
 -- what a run may print
@@ -217,7 +215,7 @@ WritesPart IsText old new = (text : List ℕ) × (IsText text × ((n : ℕ) × G
 abbrev pub EndsWell : ℕ → Type 0
 EndsWell status = (status ≡ 0) ⊎ ((status ≡ 3) ⊎ ((status ≡ 8) ⊎ (status ≡ 9)))
 
--- the claim, status by status
+-- the claim, status by status, with the limits of a run without options
 pub record Correct (limits : Limits) (o : Outside) (words : List (List ℕ)) (status : ℕ) : Type 0 where
   -- all that follows is over one reading of each file, which gave what is told
   pub held : Held

@@ -95,3 +95,7 @@ pub record IsLineRead (old : Queries) (line : Line) (new : Queries) : Type 0 whe
 pub record IsTold (known : Known) (loaded : Loaded) : Type 0 where
   pub held : AreHeld known.files loaded.files
   pub readings : known.readings ≡ readings_in loaded.queries
+
+-- what was loaded first is told of what is left of it
+abbrev pub IsPart : Loaded → Loaded → Type 0
+IsPart first loaded = (known : Known) → IsTold known first → IsTold known loaded

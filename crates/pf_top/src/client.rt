@@ -3,64 +3,70 @@
 ghost use Rattle.std.specs.Arc.{arc_value};
 ghost use Rattle.std.specs.BTreeMap.{get};
 ghost use Rattle.std.specs.Ordering.{nat_cmp};
-ghost use Rattle.std.specs.Prelude.{◌≡◌, ◌≤◌, ◌++◌, ◌∷◌, [], ℕ, codes, decimal, slice_get, IfOk, List, None, Ok, OnOk, Some, cond, length, nat_eq, nat_lt, ◌||◌, true};
+ghost use Rattle.std.specs.Prelude.{◌≡◌, ◌≤◌, ◌++◌, ◌∷◌, [], ℕ, codes, decimal, slice_get, IfOk, IfSome, IsSome, List, None, Ok, OnOk, Some, cond, length, nat_eq, nat_lt, ◌||◌, true};
 ghost use Rattle.pf_block.specs.Snaps.{are_timed};
-ghost use Rattle.pf_journal.specs.Asking.{asked_with};
+ghost use Rattle.pf_core.specs.Cores.{Stands, machine_of};
+ghost use Rattle.pf_front.specs.Works.{WorksOn};
+ghost use Rattle.pf_journal.specs.Asking.{asked_over, asked_with};
 ghost use Rattle.pf_journal.specs.Files.{Gives};
+ghost use Rattle.pf_journal.specs.Machine.{open_at};
 ghost use Rattle.pf_journal.specs.Rest.{Known};
 ghost use Rattle.pf_journal.specs.Scripts as script;
 ghost use Rattle.pf_journal.specs.Scripts.{most_bytes};
 ghost use Rattle.pf_journal.specs.Turns.{Hand, Ran};
-ghost use Rattle.pf_journal.specs.Machine.{Open};
 ghost use Rattle.pf_base.specs.Grids.{maxt};
-ghost use Rattle.pf_base.specs.declared.plain.Limits.{Limits};
 ghost use Rattle.pf_model.specs.Queries.{IsSelector};
 ghost use Rattle.pf_script.specs.Lines.{numbered_of};
-ghost use Rattle.pf_store.specs.Standing.{IsPin};
-ghost use Rattle.pf_top.specs.Asks.{AskRuns, AsksAs, IsAnswerStep, IsAskAt, IsBody, IsRefusedBody, SlotRight, wanted_by};
+ghost use Rattle.pf_top.specs.Asks.{AskRuns, AsksAs, IsAskAt, SlotRight, wanted_by};
 ghost use Rattle.pf_top.specs.declared.slots.Slot.TheVariants as slot;
-ghost use Rattle.pf_report.specs.Bodies.{code_in, text_of};
-ghost use Rattle.pf_journal.specs.Replies.{refused_words, reply_line, unanswered};
+ghost use Rattle.pf_journal.specs.Replies.{memory_words, refused_words, reply_line};
 ghost use Rattle.pf_model.specs.Lists.{Each};
 ghost use Rattle.pf_top.specs.Clients.{Grows, IsFileRead, IsKnown, IsStep, IsTimed, Runs, naming};
-ghost use Rattle.pf_top.specs.Files.{AreHeld, HoldsContent, IsKept, IsShort};
-ghost use Rattle.pf_top.specs.Going.{GoesOn, IsReady, own_of};
+ghost use Rattle.pf_top.specs.Correct.{file_of};
+ghost use Rattle.pf_top.specs.Files.{AreHeld, HoldsContent, IsKept, IsShort, LetsGo, LetsGoOf};
+ghost use Rattle.pf_top.specs.Going.{GoesOnWith, IsReady, own_of};
+ghost use Rattle.pf_top.specs.Hands.{HoldsJobs};
 ghost use Rattle.pf_top.specs.Queries.{AreReadAs, IsTextKept, readings_in};
 ghost use Rattle.pf_types.specs.Asking.{IsWhen, grid_in, is_instant};
-ghost use Rattle.pf_top.specs.declared.client.LineRun.TheVariants.{On};
+ghost use Rattle.pf_top.specs.declared.client.LineRun.TheVariants.{On, Starved};
 
-use crate::evaluate::evaluate;
-use crate::loaded::{Content, Contents, Loaded, content_of};
+use crate::loaded::{Content, Contents, Loaded, let_go};
 use crate::queries::{Queries, QueryRead, SelectorRead, query_of as read_of};
-use crate::slots::{Slot, Slots, keep, query_of, take};
+use crate::slots::{Slot, Slots, keep, query_of};
 use pf_base::{Batch, By, Grid, MAXT, OutOfMemory, Tenant, Text};
-use pf_core::{AskError, CancelAnswer, Core, CoreError, Opened};
+use pf_core::{AskError, CancelAnswer, Core, CoreError};
 use pf_expo::{ExpoError, read_exposition};
+use pf_front::plan;
+use pf_io::{Gate, Hop};
 use pf_model::Matchers;
-use pf_query::Asked;
+use pf_query::{Asked, Held};
 use pf_report::{
-    AskReply, Body, CancelReply, DeleteReply, FileFault, IngestReply, push_answered,
-    push_ask_reply, push_cancel_reply, push_delete_reply, push_ingest_reply,
+    AskReply, CancelReply, DeleteReply, FileFault, IngestReply, push_ask_reply, push_cancel_reply,
+    push_delete_reply, push_ingest_reply,
 };
 use pf_script::{Line, NumberedLine};
-use pf_types::{When, error_text, grid_text};
+use pf_types::{BoundQuery, When};
 use std::alloc::Global;
 use std::sync::Arc;
 
-/// A client: the core that it works on, what became of its asks by line, and its part of the report so far.
+/// A client: the core that it works on, whether its script has step lines, what became of its asks by line, the job that each of
+/// 16 workers has in its hand, and its part of the report so far.
 #[derive(Drop)]
 pub struct Client {
     pub alloc: Global,
     pub core: Core,
+    pub stepped: bool,
     pub slots: Slots,
+    pub hands: Vec<Option<Held>>,
     pub out: Vec<u8>,
 }
 
-/// Whether the client goes on behind a line, or the line met the full journal.
+/// Whether the client goes on behind a line, the line met the full journal, or there was no memory for its samples or its deletion.
 #[derive(Clone, Copy)]
 pub enum LineRun {
     On,
     Full,
+    Starved,
 }
 
 /// What a file is read as.
@@ -102,12 +108,51 @@ pub fn read_content(alloc: Global, content: &Content, time: u64) -> Result<FileR
     }
 }
 
+/// Reads a file for the line of a number, and lets it go, unless a line behind names it. Samples without a time have this one.
+fn read_for(
+    alloc: Global,
+    files: &mut Contents,
+    name: &str,
+    number: u32,
+    time: u64,
+) -> Result<FileRead, OutOfMemory>
+    requires kept { IsKept files.old name.now }
+    requires within { time ≤ 4398046511103 }
+    ensures read { IfOk result (λ r. (held : List ℕ → List ℕ) → AreHeld held files.old → IsFileRead (held name.now) time r) }
+    ensures timed { IfOk result IsTimed }
+    ensures left { LetsGo files.old name.now number files.new }
+{
+    let file = &files[name];
+    let read = read_content(alloc, &file.content, time);
+    let_go(files, name, number);
+    read
+}
+
 /// The only client's line.
-fn by(line: u32) -> By
+pub fn by(line: u32) -> By
     ensures client { result.client ≡ 0 }
     ensures line { result.line ≡ line }
 {
     By { client: 0, line }
+}
+
+/// What a query that was read asks over a grid, or at one time.
+fn asked_over(alloc: Global, query: &BoundQuery, when: When) -> Result<Arc<Asked>, OutOfMemory>
+    requires { IsWhen when }
+    ensures { IfOk result (λ a. arc_value a ≡ asked_over (is_instant when) (grid_in when) query.now) }
+{
+    let asked = query.asked(alloc, when)?;
+    Ok(Arc::new(alloc, asked)?)
+}
+
+/// A batch that may be shared, unless there is no memory.
+fn shared(alloc: Global, batch: Batch) -> Option<Arc<Batch>>
+    ensures { IfSome result (λ b. arc_value b ≡ batch) }
+{
+    match Arc::new(alloc, batch) {
+        Ok(batch) => Some(batch),
+        Err(_) => None,
+    }
 }
 
 /// Whether no sample has a time from one to the other.
@@ -117,30 +162,24 @@ fn is_no_range(from: u64, to: u64) -> bool
     to < from || MAXT < to
 }
 
-/// The body of an open query's answer: that of its evaluation, unless it was cancelled.
-fn body_of(alloc: Global, opened: Opened<'_>) -> Result<Body, OutOfMemory>
-    ensures { IfOk result (λ b. (limits : Limits) (o : Open) → o.asked ≡ arc_value opened.entry.asked.now → o.cancelled ≡ opened.entry.cancelled → IsPin opened.entry.pin.now limits.window o.log → IsBody limits o b) }
-{
-    if opened.cancelled.is_some() {
-        return Ok(Body::Cancelled);
-    }
-    let pin = opened.pin;
-    evaluate(alloc, opened.asked, &pin.snap)
-}
-
-/// The body of the answer of an ask that was refused, and `full` for a query that was opened.
-fn refused_body(alloc: Global, slot: Slot) -> Result<Body, OutOfMemory>
-    ensures { IfOk result (IsRefusedBody slot) }
-{
-    match slot {
-        Slot::Asked { .. } | Slot::Full => Ok(Body::Full),
-        Slot::BadGrid(error) => Ok(Body::Refused(grid_text(alloc, error)?)),
-        Slot::BadQuery(error) => Ok(Body::Refused(error_text(alloc, &error)?)),
-        Slot::TooManyTenants => Ok(Body::TooManyTenants),
-    }
-}
-
 impl Client {
+    /// Replies to an `ingest` for which there was no memory.
+    fn starve_ingest(&mut self, number: u32, tenant: &Tenant) -> Result<LineRun, OutOfMemory>
+        ensures starved { IfOk result (λ r. r ≡ Starved) }
+        ensures said { OnOk result (self.new.out.items ≡ self.old.out.items ++ reply_line number (codes "ingest") tenant.now memory_words) }
+        ensures core { self.new.core ≡ self.old.core }
+        ensures slots { self.new.slots ≡ self.old.slots }
+        ensures hands { self.new.hands ≡ self.old.hands }
+    {
+        push_ingest_reply(
+            &mut self.out,
+            number,
+            tenant.as_str(),
+            &IngestReply::OutOfMemory,
+        )?;
+        Ok(LineRun::Starved)
+    }
+
     /// Takes in a batch for a tenant.
     fn take_in(
         &mut self,
@@ -152,10 +191,14 @@ impl Client {
     ) -> Result<LineRun, OutOfMemory>
         requires timed { are_timed batch.rows ≡ true }
         ensures runs { IfOk result (λ r. (known : Known) → Gives (known.files file.now) time batch → Runs known self.old (record { number = number; line = script.ingest tenant.now file.now time }) r self.new) }
+        ensures grows { OnOk result (Grows self.old.core self.new.core) }
         ensures slots { OnOk result (self.new.slots ≡ self.old.slots) }
+        ensures hands { OnOk result (self.new.hands ≡ self.old.hands) }
     {
         let skipped = batch.skipped;
-        let batch = Arc::new(self.alloc, batch)?;
+        let Some(batch) = shared(self.alloc, batch) else {
+            return self.starve_ingest(number, tenant);
+        };
         let name = tenant.as_str();
         match self.core.append(by(number), tenant, batch) {
             Ok(verdicts) => {
@@ -174,28 +217,31 @@ impl Client {
                 push_ingest_reply(&mut self.out, number, name, &IngestReply::JournalFull)?;
                 Ok(LineRun::Full)
             }
-            Err(CoreError::OutOfMemory) => Err(OutOfMemory),
+            Err(CoreError::OutOfMemory) => self.starve_ingest(number, tenant),
         }
     }
 
     /// Runs an `ingest`.
     pub fn ingest(
         &mut self,
-        files: &Contents,
+        files: &mut Contents,
         number: u32,
         tenant: &Tenant,
         file: &Text,
         time: u64,
     ) -> Result<LineRun, OutOfMemory>
-        requires kept { IsKept files.now file.now }
+        requires kept { IsKept files.old file.now }
         requires within { time ≤ 4398046511103 }
-        ensures runs { IfOk result (λ r. (known : Known) → AreHeld known.files files.now → Runs known self.old (record { number = number; line = script.ingest tenant.now file.now time }) r self.new) }
+        ensures runs { IfOk result (λ r. (known : Known) → AreHeld known.files files.old → Runs known self.old (record { number = number; line = script.ingest tenant.now file.now time }) r self.new) }
+        ensures grows { OnOk result (Grows self.old.core self.new.core) }
         ensures slots { OnOk result (self.new.slots ≡ self.old.slots) }
+        ensures hands { OnOk result (self.new.hands ≡ self.old.hands) }
+        ensures left { LetsGo files.old file.now number files.new }
     {
-        let Some(content) = content_of(files, file.as_str()) else {
-            return Ok(LineRun::On);
+        let Ok(read) = read_for(self.alloc, files, file.as_str(), number, time) else {
+            return self.starve_ingest(number, tenant);
         };
-        match read_content(self.alloc, content, time)? {
+        match read {
             FileRead::Batch(batch) => self.take_in(number, tenant, file, time, batch),
             FileRead::Refused(fault) => {
                 let reply = IngestReply::Refused(fault);
@@ -203,6 +249,23 @@ impl Client {
                 Ok(LineRun::On)
             }
         }
+    }
+
+    /// Replies to a `delete` for which there was no memory.
+    fn starve_delete(&mut self, number: u32, tenant: &Tenant) -> Result<LineRun, OutOfMemory>
+        ensures starved { IfOk result (λ r. r ≡ Starved) }
+        ensures said { OnOk result (self.new.out.items ≡ self.old.out.items ++ reply_line number (codes "delete") tenant.now memory_words) }
+        ensures core { self.new.core ≡ self.old.core }
+        ensures slots { self.new.slots ≡ self.old.slots }
+        ensures hands { self.new.hands ≡ self.old.hands }
+    {
+        push_delete_reply(
+            &mut self.out,
+            number,
+            tenant.as_str(),
+            &DeleteReply::OutOfMemory,
+        )?;
+        Ok(LineRun::Starved)
     }
 
     /// Deletes the samples of a tenant that a selector accepts.
@@ -217,7 +280,9 @@ impl Client {
         requires range { from ≤ to }
         requires within { to ≤ 4398046511103 }
         ensures runs { IfOk result (λ r. (known : Known) (selector : List ℕ) → IsSelector selector (arc_value matchers) → Runs known self.old (record { number = number; line = script.delete tenant.now from to selector }) r self.new) }
+        ensures grows { OnOk result (Grows self.old.core self.new.core) }
         ensures slots { OnOk result (self.new.slots ≡ self.old.slots) }
+        ensures hands { OnOk result (self.new.hands ≡ self.old.hands) }
     {
         let name = tenant.as_str();
         match self.core.delete(by(number), tenant, matchers, from, to) {
@@ -237,7 +302,7 @@ impl Client {
                 push_delete_reply(&mut self.out, number, name, &DeleteReply::JournalFull)?;
                 Ok(LineRun::Full)
             }
-            Err(CoreError::OutOfMemory) => Err(OutOfMemory),
+            Err(CoreError::OutOfMemory) => self.starve_delete(number, tenant),
         }
     }
 
@@ -254,7 +319,9 @@ impl Client {
         requires right { AreReadAs queries.now }
         requires kept { IsTextKept queries.now selector.now }
         ensures runs { IfOk result (λ r. (known : Known) → Runs known self.old (record { number = number; line = script.delete tenant.now from to selector.now }) r self.new) }
+        ensures grows { OnOk result (Grows self.old.core self.new.core) }
         ensures slots { OnOk result (self.new.slots ≡ self.old.slots) }
+        ensures hands { OnOk result (self.new.hands ≡ self.old.hands) }
     {
         if is_no_range(from, to) {
             push_delete_reply(
@@ -269,9 +336,10 @@ impl Client {
             return Ok(LineRun::On);
         };
         match &read.selector {
-            SelectorRead::Built(matchers) => {
-                self.delete_selected(number, tenant, from, to, Arc::try_clone(matchers)?)
-            }
+            SelectorRead::Built(matchers) => match Arc::try_clone(matchers) {
+                Ok(matchers) => self.delete_selected(number, tenant, from, to, matchers),
+                Err(_) => self.starve_delete(number, tenant),
+            },
             SelectorRead::Refused => {
                 push_delete_reply(
                     &mut self.out,
@@ -295,6 +363,7 @@ impl Client {
         ensures said { OnOk result (self.new.out.items ≡ self.old.out.items ++ reply_line number (codes "ask") id.now (refused_words (decimal code))) }
         ensures kept { OnOk result ((k : ℕ) → get nat_cmp self.new.slots k ≡ cond (nat_eq number k) (Some slot) (get nat_cmp self.old.slots k)) }
         ensures core { self.new.core ≡ self.old.core }
+        ensures hands { self.new.hands ≡ self.old.hands }
     {
         push_ask_reply(&mut self.out, number, id, &AskReply::Refused { code })?;
         keep(&mut self.slots, number, slot)
@@ -305,9 +374,36 @@ impl Client {
         ensures said { OnOk result (self.new.out.items ≡ self.old.out.items ++ reply_line number (codes "ask") id.now (codes "pin" ∷ decimal pin ∷ codes "place" ∷ decimal place ∷ [])) }
         ensures kept { OnOk result ((k : ℕ) → get nat_cmp self.new.slots k ≡ cond (nat_eq number k) (Some (slot.Asked place)) (get nat_cmp self.old.slots k)) }
         ensures core { self.new.core ≡ self.old.core }
+        ensures hands { self.new.hands ≡ self.old.hands }
     {
         push_ask_reply(&mut self.out, number, id, &AskReply::Asked { pin, place })?;
         keep(&mut self.slots, number, Slot::Asked { query: place })
+    }
+
+    /// Refuses an ask for which there was no memory.
+    fn starve_ask(&mut self, number: u32, id: &Text) -> Result<LineRun, OutOfMemory>
+        ensures on { IfOk result (λ r. r ≡ On) }
+        ensures said { OnOk result (self.new.out.items ≡ self.old.out.items ++ reply_line number (codes "ask") id.now (refused_words (decimal 507))) }
+        ensures kept { OnOk result ((k : ℕ) → get nat_cmp self.new.slots k ≡ cond (nat_eq number k) (Some slot.NoMemory) (get nat_cmp self.old.slots k)) }
+        ensures core { self.new.core ≡ self.old.core }
+        ensures hands { self.new.hands ≡ self.old.hands }
+    {
+        self.refuse_ask(number, id.as_str(), 507, Slot::NoMemory)?;
+        Ok(LineRun::On)
+    }
+
+    /// Plans a query that was just asked, unless the script has step lines. Where there is no memory for that, the query is stopped.
+    fn plan_asked(&mut self, query: u64)
+        requires { IsSome (open_at query (machine_of self.old.core).queries) }
+        ensures works { WorksOn self.old.core self.new.core }
+        ensures stands { Stands self.old.core → Stands self.new.core }
+        ensures out { self.new.out ≡ self.old.out }
+        ensures slots { self.new.slots ≡ self.old.slots }
+        ensures hands { self.new.hands ≡ self.old.hands }
+    {
+        if !self.stepped {
+            let _planned = plan(self.alloc, &mut self.core, query);
+        }
     }
 
     /// Asks a query over its grid.
@@ -319,10 +415,13 @@ impl Client {
         asked: Arc<Asked>,
     ) -> Result<LineRun, OutOfMemory>
         ensures runs { IfOk result (λ r. (known : Known) (line : script.Line) → AsksAs id.now tenant.now line → wanted_by known line ≡ Some (Ok (arc_value asked)) → AskRuns known self.old (record { number = number; line = line }) r self.new) }
+        ensures grows { OnOk result (Grows self.old.core self.new.core) }
+        ensures hands { OnOk result (self.new.hands ≡ self.old.hands) }
     {
         let name = id.as_str();
         match self.core.ask(by(number), tenant, asked) {
             Ok(admitted) => {
+                self.plan_asked(admitted.query);
                 self.open_query(number, name, admitted.pin.number, admitted.query)?;
                 Ok(LineRun::On)
             }
@@ -342,7 +441,7 @@ impl Client {
                 push_ask_reply(&mut self.out, number, name, &AskReply::JournalFull)?;
                 Ok(LineRun::Full)
             }
-            Err(AskError::OutOfMemory) => Err(OutOfMemory),
+            Err(AskError::OutOfMemory) => self.starve_ask(number, id),
         }
     }
 
@@ -360,14 +459,18 @@ impl Client {
         requires kept { IsTextKept queries.now query.now }
         requires lawful { IsWhen when }
         ensures runs { IfOk result (λ r. (known : Known) (line : script.Line) → AsksAs id.now tenant.now line → known.readings ≡ readings_in queries.now → wanted_by known line ≡ asked_with (is_instant when) (Ok (grid_in when)) (known.readings query.now) → AskRuns known self.old (record { number = number; line = line }) r self.new) }
+        ensures grows { OnOk result (Grows self.old.core self.new.core) }
+        ensures hands { OnOk result (self.new.hands ≡ self.old.hands) }
     {
         let Some(read) = read_of(queries, query.as_str()) else {
             return Ok(LineRun::On);
         };
         match &read.query {
             QueryRead::Lawful(query) => {
-                let asked = Arc::new(self.alloc, query.asked(self.alloc, when)?)?;
-                self.ask_over(number, id, tenant, asked)
+                match asked_over(self.alloc, query, when) {
+                    Ok(asked) => self.ask_over(number, id, tenant, asked),
+                    Err(OutOfMemory) => self.starve_ask(number, id),
+                }
             }
             QueryRead::Refused(error) => {
                 self.refuse_ask(number, id.as_str(), 400, Slot::BadQuery(*error))?;
@@ -392,6 +495,8 @@ impl Client {
         requires right { AreReadAs queries.now }
         requires kept { IsTextKept queries.now query.now }
         ensures runs { IfOk result (λ r. (known : Known) → known.readings ≡ readings_in queries.now → AskRuns known self.old (record { number = number; line = script.ask id.now tenant.now start end step query.now }) r self.new) }
+        ensures grows { OnOk result (Grows self.old.core self.new.core) }
+        ensures hands { OnOk result (self.new.hands ≡ self.old.hands) }
     {
         match Grid::aligned(start, end, step) {
             Ok(grid) => self.ask_read(queries, number, id, tenant, query, When::Range(grid)),
@@ -415,6 +520,8 @@ impl Client {
         requires right { AreReadAs queries.now }
         requires kept { IsTextKept queries.now query.now }
         ensures runs { IfOk result (λ r. (known : Known) → known.readings ≡ readings_in queries.now → AskRuns known self.old (record { number = number; line = script.instant id.now tenant.now time query.now }) r self.new) }
+        ensures grows { OnOk result (Grows self.old.core self.new.core) }
+        ensures hands { OnOk result (self.new.hands ≡ self.old.hands) }
     {
         match Grid::single(time) {
             Ok(grid) => self.ask_read(queries, number, id, tenant, query, When::Instant(grid)),
@@ -430,6 +537,7 @@ impl Client {
         ensures said { OnOk result ((name : List ℕ) → slice_get self.old.core.names owner ≡ Some name → self.new.out.items ≡ self.old.out.items ++ reply_line number (codes "cancel") id.now (codes "other" ∷ codes "tenant" ∷ name ∷ [])) }
         ensures core { self.new.core ≡ self.old.core }
         ensures slots { self.new.slots ≡ self.old.slots }
+        ensures hands { self.new.hands ≡ self.old.hands }
     {
         let Some(name) = self.core.tenant_name(owner) else {
             return Ok(());
@@ -450,6 +558,7 @@ impl Client {
         ensures grows { OnOk result (Grows self.old.core self.new.core) }
         ensures step { OnOk result ((known : Known) (above : List Ran) (hands : List Hand) (line : ℕ) → IsKnown known self.new.core → Each (λ e. e.client ≡ 0) self.old.core.journal → IsAskAt known above (own_of self.old.core) line query → IsStep known (naming (own_of self.old.core) above hands (script.cancel id.now line tenant.now)) self.old (record { number = number; line = script.cancel id.now line tenant.now }) On self.new) }
         ensures slots { OnOk result (self.new.slots ≡ self.old.slots) }
+        ensures hands { OnOk result (self.new.hands ≡ self.old.hands) }
     {
         let name = id.as_str();
         match self.core.cancel(by(number), query, tenant) {
@@ -480,6 +589,7 @@ impl Client {
         ensures grows { OnOk result (Grows self.old.core self.new.core) }
         ensures step { OnOk result ((known : Known) (above : List Ran) (hands : List Hand) → IsKnown known self.new.core → Each (λ e. e.client ≡ 0) self.old.core.journal → SlotRight known above (own_of self.old.core) asked (get nat_cmp self.old.slots asked) → IsStep known (naming (own_of self.old.core) above hands (script.cancel id.now asked tenant.now)) self.old (record { number = number; line = script.cancel id.now asked tenant.now }) On self.new) }
         ensures slots { OnOk result (self.new.slots ≡ self.old.slots) }
+        ensures hands { OnOk result (self.new.hands ≡ self.old.hands) }
     {
         match query_of(&self.slots, asked) {
             Some(query) => {
@@ -494,78 +604,27 @@ impl Client {
         }
     }
 
-    /// Answers an open query.
-    fn answer_query(&mut self, number: u32, id: &Text, query: u64) -> Result<(), OutOfMemory>
-        ensures grows { OnOk result (Grows self.old.core self.new.core) }
-        ensures step { OnOk result ((known : Known) (above : List Ran) (hands : List Hand) (line : ℕ) → IsKnown known self.new.core → Each (λ e. e.client ≡ 0) self.old.core.journal → IsAskAt known above (own_of self.old.core) line query → IsAnswerStep known (naming (own_of self.old.core) above hands (script.answer id.now line)) self.old (record { number = number; line = script.answer id.now line }) (Some (slot.Asked query)) self.new) }
-        ensures slots { OnOk result (self.new.slots ≡ self.old.slots) }
-    {
-        let Some(opened) = self.core.look(query) else {
-            return Ok(());
-        };
-        let asked: &Asked = opened.asked;
-        let evaluated = asked.grid.len();
-        let body = body_of(self.alloc, opened)?;
-        let code = body.code();
-        self.core.answer(by(number), query, code, 0, evaluated);
-        push_answered(
-            self.alloc,
-            &mut self.out,
-            number,
-            id.as_str(),
-            code,
-            0,
-            evaluated,
-            &body,
-        )?;
-        Ok(())
-    }
-
-    /// Replies to the answer of an ask that was refused.
-    fn answer_refused(&mut self, number: u32, id: &Text, body: &Body) -> Result<(), OutOfMemory>
-        ensures said { OnOk result (self.new.out.items ≡ self.old.out.items ++ unanswered number id.now (decimal (code_in body.now)) (text_of body.now)) }
-        ensures core { self.new.core ≡ self.old.core }
-        ensures slots { self.new.slots ≡ self.old.slots }
-    {
-        push_answered(
-            self.alloc,
-            &mut self.out,
-            number,
-            id.as_str(),
-            body.code(),
-            0,
-            0,
-            body,
-        )
-    }
-
-    /// Runs the `answer` of the ask of a line.
-    pub fn answer(&mut self, number: u32, id: &Text, asked: u32) -> Result<(), OutOfMemory>
-        ensures grows { OnOk result (Grows self.old.core self.new.core) }
-        ensures step { OnOk result ((known : Known) (above : List Ran) (hands : List Hand) → IsKnown known self.new.core → Each (λ e. e.client ≡ 0) self.old.core.journal → SlotRight known above (own_of self.old.core) asked (get nat_cmp self.old.slots asked) → (get nat_cmp self.old.slots asked ≡ None → ⊥) → IsAnswerStep known (naming (own_of self.old.core) above hands (script.answer id.now asked)) self.old (record { number = number; line = script.answer id.now asked }) (get nat_cmp self.old.slots asked) self.new) }
-        ensures left { OnOk result ((k : ℕ) → get nat_cmp self.new.slots k ≡ cond (nat_eq asked k) None (get nat_cmp self.old.slots k)) }
-    {
-        let Some(slot) = take(&mut self.slots, asked) else {
-            return Ok(());
-        };
-        if let Slot::Asked { query } = slot {
-            self.answer_query(number, id, query)?;
-            return Ok(());
-        }
-        let body = refused_body(self.alloc, slot)?;
-        self.answer_refused(number, id, &body)?;
-        Ok(())
-    }
-
-    /// Runs a line.
-    pub fn run_line(&mut self, loaded: &Loaded, line: &NumberedLine) -> Result<LineRun, OutOfMemory>
-        requires { IsReady loaded.now line.now }
-        ensures { IfOk result (λ r. GoesOn loaded.now self.old (numbered_of line.now) r self.new) }
+    /// Runs a line. The file that it names is let go, unless a line behind names it.
+    pub fn run_line<H: Hop, G: Gate>(
+        &mut self,
+        loaded: &mut Loaded,
+        line: &NumberedLine,
+        hops: &mut [H],
+        gate: &G,
+    ) -> Result<LineRun, OutOfMemory>
+        requires ready { IsReady loaded.old line.now }
+        requires actors { length hops.old ≡ 32 }
+        requires holds { HoldsJobs self.old }
+        ensures holds { OnOk result (HoldsJobs self.new) }
+        ensures runs { IfOk result (λ r. GoesOnWith loaded.old self.old (numbered_of line.now) r self.new) }
+        ensures files { OnOk result (LetsGoOf loaded.old.files (file_of (numbered_of line.now).line) line.now.number loaded.new.files) }
+        ensures queries { loaded.new.queries ≡ loaded.old.queries }
+        ensures actors { length hops.new ≡ 32 }
     {
         let number = line.number;
         match &line.line {
             Line::Ingest { tenant, file, time } => {
-                self.ingest(&loaded.files, number, tenant, file, *time)
+                self.ingest(&mut loaded.files, number, tenant, file, *time)
             }
             Line::Delete {
                 tenant,
@@ -595,12 +654,22 @@ impl Client {
                 Ok(LineRun::On)
             }
             Line::Answer { id, asked } => {
-                self.answer(number, id, *asked)?;
+                self.answer(number, id, *asked, &mut hops[0], gate)?;
                 Ok(LineRun::On)
             }
-            Line::Plan { .. } | Line::Keep { .. } | Line::Take { .. } | Line::Done { .. } => {
-                unreachable!()
+            Line::Plan { id, asked } => {
+                self.plan(number, id, *asked)?;
+                Ok(LineRun::On)
             }
+            Line::Take { worker } => {
+                self.take(number, *worker)?;
+                Ok(LineRun::On)
+            }
+            Line::Done { worker } => {
+                self.done(number, *worker, &mut hops[16 + *worker as usize], gate)?;
+                Ok(LineRun::On)
+            }
+            Line::Keep { .. } => unreachable!(),
         }
     }
 }

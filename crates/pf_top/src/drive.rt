@@ -1,14 +1,15 @@
 //! The run of a script.
 
-ghost use Rattle.std.specs.Prelude.{◌≡◌, ◌≤◌, ◌++◌, ℕ, IfOk, List};
+ghost use Rattle.std.specs.Prelude.{◌≡◌, ◌≤◌, ◌++◌, ℕ, IfOk, List, None, length, replicate};
 ghost use Rattle.pf_base.specs.declared.plain.Limits.{Limits as LimitsData};
 ghost use Rattle.pf_core.specs.Cores.{Stands};
-ghost use Rattle.pf_journal.specs.Report.{journal_text};
+ghost use Rattle.pf_journal.specs.Report.{actors_from, journal_text};
 ghost use Rattle.pf_journal.specs.Scripts.{Numbered};
 ghost use Rattle.pf_script.specs.Lines.{lines_of};
-ghost use Rattle.pf_top.specs.Drives.{CanRun, IsReport, why_of};
+ghost use Rattle.pf_top.specs.Drives.{CanRun, IsReport, is_full, why_of};
 ghost use Rattle.pf_top.specs.Files.{AreHeld};
 ghost use Rattle.pf_top.specs.Going.{HasStopped, IsGoing};
+ghost use Rattle.pf_top.specs.Hands.{HoldsJobs};
 ghost use Rattle.pf_top.specs.declared.loaded.Loaded.{Loaded as LoadedData};
 
 use crate::client::{Client, LineRun};
@@ -16,40 +17,78 @@ use crate::journal::push_journal;
 use crate::loaded::Loaded;
 use pf_base::{Limits, OutOfMemory};
 use pf_core::Core;
-use pf_report::push_client;
+use pf_io::{Gate, Hop};
+use pf_query::Held;
+use pf_report::{push_actors, push_client};
 use pf_script::Script;
 use std::alloc::Global;
 use std::collections::BTreeMap;
 
-/// A client that has run no line.
-fn client_of(alloc: Global, limits: Limits) -> Result<Client, OutOfMemory>
+/// Sixteen workers without a job.
+fn no_hands(alloc: Global) -> Result<Vec<Option<Held>>, OutOfMemory>
+    ensures { IfOk result (λ hands. hands.items ≡ replicate 16 None) }
+{
+    let mut hands = Vec::new(alloc);
+    for _worker in 0u32..16 {
+        hands.push(None)?;
+    }
+    Ok(hands)
+}
+
+/// A client that has run no line of a script that has step lines, or has none.
+fn client_of(alloc: Global, limits: Limits, stepped: bool) -> Result<Client, OutOfMemory>
     requires journal { limits.journal ≤ 4000000 }
     requires some { 1 ≤ limits.outstanding }
-    ensures { IfOk result (λ c. (loaded : LoadedData) (lines : List Numbered) → IsGoing loaded limits lines 0 c) }
+    requires interval { 1000 ≤ limits.interval }
+    ensures going { IfOk result (λ c. (loaded : LoadedData) (lines : List Numbered) → IsGoing loaded limits lines 0 c) }
+    ensures holds { IfOk result HoldsJobs }
 {
     let mut out = Vec::new(alloc);
     push_client(&mut out, 0)?;
     let core = Core::open(alloc, limits)?;
+    let hands = no_hands(alloc)?;
     Ok(Client {
         alloc,
         core,
+        stepped,
         slots: BTreeMap::new(alloc),
+        hands,
         out,
     })
 }
 
-/// Runs the lines of a script, up to the one that meets the full journal: whether one did.
-fn run_lines(client: &mut Client, script: &Script, loaded: &Loaded) -> Result<bool, OutOfMemory>
-    requires can_run { CanRun script.now loaded.now }
-    ensures { IfOk result (λ full. (limits : LimitsData) → IsGoing loaded.now limits (lines_of script.now) 0 client.old → HasStopped loaded.now limits (lines_of script.now) (why_of full) client.new) }
+/// Runs the lines of a script, up to the one that stops the client: how the last line ran. Each file is let go behind the
+/// last line that names it.
+fn run_lines<H: Hop, G: Gate>(
+    client: &mut Client,
+    script: &Script,
+    loaded: &mut Loaded,
+    hops: &mut [H],
+    gate: &G,
+) -> Result<LineRun, OutOfMemory>
+    requires can_run { CanRun script.now 0 loaded.old }
+    requires actors { length hops.old ≡ 32 }
+    requires holds { HoldsJobs client.old }
+    ensures { IfOk result (λ r. (limits : LimitsData) → IsGoing loaded.old limits (lines_of script.now) 0 client.old → HasStopped loaded.old limits (lines_of script.now) (why_of r) client.new) }
 {
     for line in &script.lines {
-        match client.run_line(loaded, line)? {
+        match client.run_line(loaded, line, hops, gate)? {
             LineRun::On => {}
-            LineRun::Full => return Ok(true),
+            LineRun::Full => return Ok(LineRun::Full),
+            LineRun::Starved => return Ok(LineRun::Starved),
         }
     }
-    Ok(false)
+    Ok(LineRun::On)
+}
+
+/// Whether the last line met the full journal.
+fn is_full(stopped: LineRun) -> bool
+    ensures { result ≡ is_full stopped }
+{
+    match stopped {
+        LineRun::On | LineRun::Starved => false,
+        LineRun::Full => true,
+    }
 }
 
 /// What a run prints, and whether the client met the full journal.
@@ -59,31 +98,55 @@ pub struct Report {
     pub full: bool,
 }
 
+/// The failed tries of each of the 32 actors.
+fn failures(alloc: Global, core: &Core) -> Result<Vec<u64>, OutOfMemory>
+    ensures { IfOk result (λ failed. Stands core.now → failed.items ≡ core.now.failed) }
+{
+    let mut failed = Vec::new(alloc);
+    for actor in 0..32 {
+        failed.push(core.failed(actor))?;
+    }
+    Ok(failed)
+}
+
 /// The report of a client that stopped.
 fn report_of(client: Client) -> Result<Vec<u8>, OutOfMemory>
-    ensures text { IfOk result (λ t. t.items ≡ client.out.items ++ journal_text client.core.names client.core.journal) }
+    ensures text { IfOk result (λ t. Stands client.core → t.items ≡ client.out.items ++ (journal_text client.core.names client.core.journal ++ actors_from 0 client.core.failed)) }
     ensures stands { IfOk result (λ _. Stands client.core) }
 {
-    let Client { core, mut out, .. } = client;
+    let Client {
+        alloc,
+        core,
+        mut out,
+        ..
+    } = client;
     push_journal(&mut out, &core)?;
     let _entries = core.journal();
+    let failed = failures(alloc, &core)?;
+    push_actors(&mut out, &failed)?;
     Ok(out)
 }
 
 /// Runs a script over what the files that it names hold: the report.
-pub fn run_script(
+pub fn run_script<H: Hop, G: Gate>(
     alloc: Global,
     limits: Limits,
     script: &Script,
-    loaded: &Loaded,
+    mut loaded: Loaded,
+    hops: &mut [H],
+    gate: &G,
 ) -> Result<Report, OutOfMemory>
     requires journal { limits.journal ≤ 4000000 }
     requires some { 1 ≤ limits.outstanding }
-    requires can_run { CanRun script.now loaded.now }
-    ensures { IfOk result (λ r. (held : List ℕ → List ℕ) → AreHeld held loaded.now.files → IsReport limits held (lines_of script.now) r.full r.text.items) }
+    requires interval { 1000 ≤ limits.interval }
+    requires actors { length hops.old ≡ 32 }
+    requires can_run { CanRun script.now 0 loaded }
+    ensures { IfOk result (λ r. (held : List ℕ → List ℕ) → AreHeld held loaded.files → IsReport limits held (lines_of script.now) r.full r.text.items) }
 {
-    let mut client = client_of(alloc, limits)?;
-    let full = run_lines(&mut client, script, loaded)?;
+    let _lines = script.lines.len();
+    let mut client = client_of(alloc, limits, script.is_stepped())?;
+    let stopped = run_lines(&mut client, script, &mut loaded, hops, gate)?;
+    let full = is_full(stopped);
     let text = report_of(client)?;
     Ok(Report { text, full })
 }

@@ -4,23 +4,23 @@ ghost use Rattle.std.specs.Prelude.{◌≡◌, ◌≢◌, ◌≤◌, ℕ, List, 
 ghost use Rattle.pf_block.specs.Snaps.{are_timed};
 ghost use Rattle.pf_model.specs.Lists.{Each};
 ghost use Rattle.pf_script.specs.Lines.{AllFollow, IsRead, lines_of};
-ghost use Rattle.pf_top.specs.Correct.{Correct, FilesSeen, Held, Outside};
-ghost use Rattle.pf_top.specs.Drives.{AreShort};
+ghost use Rattle.pf_top.specs.Correct.{Correct, FilesSeen, Held, Outside, has_keep};
 ghost use Rattle.pf_io.specs.Outside.{Holds};
-ghost use Rattle.pf_journal.specs.Scripts.{is_stepped, most_bytes};
+ghost use Rattle.pf_journal.specs.Scripts.{most_bytes};
 ghost use Rattle.pf_report.specs.Replies.{fault_of};
 ghost use Rattle.pf_top.specs.Evaluations.{IsBatchOutput, IsFileOutput, IsNamedOutput, evaluation_in};
-ghost use Rattle.pf_top.specs.Files.{AreHeld, HoldsContent, IsKept, IsShort, NamesFile};
+ghost use Rattle.pf_top.specs.Files.{AreHeld, HaveLast, HoldsContent, IsKept, IsShort, NamesFile};
 ghost use Rattle.pf_top.specs.Outputs.{IsReplay, IsRun, IsWordsOutput, default_limits};
 ghost use Rattle.pf_top.specs.Refusals.{refused_file, refused_line, refused_not_built, refused_read, refused_script};
-ghost use Rattle.pf_top.specs.Words.{evaluation_words, script_word};
+ghost use Rattle.pf_top.specs.Words.{evaluation_words, replay_words};
 
 use crate::client::{FileRead, read_content};
 use crate::drive::run_script;
 use crate::evaluation::evaluation_of;
-use crate::loaded::{Content, Contents, LoadError, Loaded, load_all, only, read_file};
+use crate::loaded::{Content, Contents, LoadError, Loaded, let_go, load_all, only, read_file};
 use crate::queries::read_queries;
-use crate::words::{Evaluation, evaluation_words, script_name};
+use crate::unbuilt::has_keep;
+use crate::words::{Evaluation, evaluation_words, limits_with, replay_words};
 use pf_base::{Batch, Limits, OutOfMemory, Text};
 use pf_io::{Doors, Files, Gate, Hop, ReadError, Sink, put_all};
 use pf_report::{FileFault, Word, push_line};
@@ -90,24 +90,28 @@ fn script_refused(alloc: Global, line: u32) -> Result<Output, OutOfMemory>
 }
 
 /// Reads the queries of a script whose files are read, and runs it.
-fn run_loaded(
+fn run_loaded<H: Hop, G: Gate>(
     alloc: Global,
     limits: Limits,
     script: &Script,
     files: Contents,
+    hops: &mut [H],
+    gate: &G,
 ) -> Result<Output, OutOfMemory>
     requires journal { limits.journal ≤ 4000000 }
     requires some { 1 ≤ limits.outstanding }
-    requires short { AreShort files }
+    requires interval { 1000 ≤ limits.interval }
+    requires actors { length hops.old ≡ 32 }
     requires there { (name : List ℕ) → NamesFile (lines_of script.now) name → IsKept files name }
+    requires lasts { HaveLast (lines_of script.now) files }
     requires read { Each IsRead script.now.lines.items }
     requires following { AllFollow [] (lines_of script.now) }
-    requires unstepped { is_stepped (lines_of script.now) ≡ false }
+    requires unkept { has_keep (lines_of script.now) ≡ false }
     ensures { IfOk result (λ o. (held : Held) → AreHeld held files → IsRun limits held (lines_of script.now) o.status o.text.items) }
 {
     let queries = read_queries(alloc, script)?;
     let loaded = Loaded { files, queries };
-    let report = run_script(alloc, limits, script, &loaded)?;
+    let report = run_script(alloc, limits, script, loaded, hops, gate)?;
     let status = if report.full { 8 } else { 0 };
     Ok(Output {
         status,
@@ -116,20 +120,24 @@ fn run_loaded(
 }
 
 /// Reads the other files that a script names, and then its queries, and runs it. These are its own name and bytes, which
-/// are not read again.
-fn replay_script<F: Files>(
+/// are not read again, and are let go before it runs, unless a line names them.
+fn replay_script<F: Files, H: Hop, G: Gate>(
     alloc: Global,
     limits: Limits,
     files: &mut F,
     script: &Script,
     name: &str,
     bytes: Vec<u8>,
+    hops: &mut [H],
+    gate: &G,
 ) -> Result<Output, OutOfMemory>
     requires journal { limits.journal ≤ 4000000 }
     requires some { 1 ≤ limits.outstanding }
+    requires interval { 1000 ≤ limits.interval }
+    requires actors { length hops.old ≡ 32 }
     requires read { Each IsRead script.now.lines.items }
     requires following { AllFollow [] (lines_of script.now) }
-    requires unstepped { is_stepped (lines_of script.now) ≡ false }
+    requires unkept { has_keep (lines_of script.now) ≡ false }
     requires held { Holds (F.told files.old name.now) bytes.items }
     requires short { length bytes.items ≤ most_bytes }
     requires there { F.lost files.old name.now ≡ false }
@@ -142,7 +150,10 @@ fn replay_script<F: Files>(
         return Err(OutOfMemory);
     };
     match load_all(alloc, files, &mut contents, script) {
-        Ok(()) => run_loaded(alloc, limits, script, contents),
+        Ok(()) => {
+            let_go(&mut contents, name, 0);
+            run_loaded(alloc, limits, script, contents, hops, gate)
+        }
         Err(LoadError::Unread { name: missing }) => unread(alloc, missing.as_str()),
         Err(LoadError::OutOfMemory) => Err(OutOfMemory),
     }
@@ -226,7 +237,7 @@ fn evaluate_words<F: Files>(
     words: &[Text],
     files: &mut F,
 ) -> Result<Output, OutOfMemory>
-    requires { script_word words.now ≡ None }
+    requires { replay_words words.now ≡ None }
     ensures output { let seen : FilesSeen = record { told = F.told files.old; sure = F.sure files.old; lost = F.lost files.old; before = F.faults files.old; after = F.faults files.new; failed = F.failed files.new } in
         IfOk result (λ o. (limits : Limits) → IsWordsOutput limits seen words.now o.status o.text.items) }
     ensures steady { IfOk result (λ o. o.status ≢ 4 → F.faults files.new ≡ F.faults files.old) }
@@ -240,35 +251,49 @@ fn evaluate_words<F: Files>(
 }
 
 /// Reads the script that the words name and replays it, or evaluates what they name.
-fn run_words<F: Files>(
+fn run_words<F: Files, H: Hop, G: Gate>(
     alloc: Global,
     limits: Limits,
     words: &[Text],
     files: &mut F,
+    hops: &mut [H],
+    gate: &G,
 ) -> Result<Output, OutOfMemory>
     requires journal { limits.journal ≤ 4000000 }
     requires some { 1 ≤ limits.outstanding }
+    requires interval { 1000 ≤ limits.interval }
+    requires actors { length hops.old ≡ 32 }
     ensures output { let seen : FilesSeen = record { told = F.told files.old; sure = F.sure files.old; lost = F.lost files.old; before = F.faults files.old; after = F.faults files.new; failed = F.failed files.new } in
         IfOk result (λ o. IsWordsOutput limits seen words.now o.status o.text.items) }
     ensures steady { IfOk result (λ o. o.status ≢ 4 → F.faults files.new ≡ F.faults files.old) }
     ensures counted { F.faults files.old ≤ F.faults files.new }
-    ensures untouched { script_word words.now ≡ None → evaluation_words words.now ≡ None → files.new ≡ files.old }
+    ensures untouched { replay_words words.now ≡ None → evaluation_words words.now ≡ None → files.new ≡ files.old }
 {
-    let Some(name) = script_name(words) else {
+    let Some(replay) = replay_words(words) else {
         return evaluate_words(alloc, words, files);
     };
-    let bytes = match read_file(alloc, files, name) {
+    let bytes = match read_file(alloc, files, replay.script) {
         Ok(Content::Bytes(bytes)) => bytes,
         Ok(Content::TooLong) => return script_refused(alloc, 0),
-        Err(ReadError::Failed) => return unread(alloc, name),
+        Err(ReadError::Failed) => return unread(alloc, replay.script),
         Err(_) => return Err(OutOfMemory),
     };
     match read_script(alloc, bytes.as_slice(), true) {
         Ok(script) => {
-            if script.is_stepped() {
+            if has_keep(&script) {
                 unbuilt(alloc)
             } else {
-                replay_script(alloc, limits, files, &script, name, bytes)
+                let limits = limits_with(limits, &replay);
+                replay_script(
+                    alloc,
+                    limits,
+                    files,
+                    &script,
+                    replay.script,
+                    bytes,
+                    hops,
+                    gate,
+                )
             }
         }
         Err(ScriptError::Line { line }) => script_refused(alloc, line),
@@ -276,22 +301,27 @@ fn run_words<F: Files>(
     }
 }
 
-/// What `run` does, within any limits: takes its words, reads the files, writes what it prints and answers its status.
-pub fn run_within<F: Files, O: Sink>(
+/// What `run` does, with any limits where the words choose none: takes its words, reads the files, writes what it prints and
+/// answers its status.
+pub fn run_within<F: Files, O: Sink, H: Hop + Drop, G: Gate>(
     alloc: Global,
     limits: Limits,
     words: &[Text],
     files: &mut F,
     out: &mut O,
+    mut hops: Vec<H>,
+    gate: &G,
 ) -> u8
     requires journal { limits.journal ≤ 4000000 }
     requires some { 1 ≤ limits.outstanding }
+    requires interval { 1000 ≤ limits.interval }
+    requires actors { vec_len hops ≡ 32 }
     ensures claim { let seen : FilesSeen = record { told = F.told files.old; sure = F.sure files.old; lost = F.lost files.old; before = F.faults files.old; after = F.faults files.new; failed = F.failed files.new } in
         let outside : Outside = record { files = seen; out_before = O.faults out.old; out_after = O.faults out.new; old = O.told out.old; new = O.told out.new } in
         Correct limits outside words.now result }
-    ensures untouched { script_word words.now ≡ None → evaluation_words words.now ≡ None → files.new ≡ files.old }
+    ensures untouched { replay_words words.now ≡ None → evaluation_words words.now ≡ None → files.new ≡ files.old }
 {
-    let Ok(output) = run_words(alloc, limits, words, files) else {
+    let Ok(output) = run_words(alloc, limits, words, files, hops.as_mut_slice(), gate) else {
         return 6;
     };
     match put_all(out, output.text.as_slice()) {
@@ -302,12 +332,12 @@ pub fn run_within<F: Files, O: Sink>(
 
 /// Does all that the program does: takes its words, reads the files, writes what it prints and answers its status.
 ///
-/// Built are the words `replay SCRIPT`, and scripts of `ingest`, `delete`, `ask`, `instant`, `cancel`, `answer`, empty and
-/// comment lines; and the words `eval FILE QUERY START END STEP`, which print the code and the body of a query over one file. Any
-/// text is read as a query or a selector, and one that is refused is answered so. The hops, the gate and the doors are of no use
+/// Built are the words `replay SCRIPT`, with the options `--limit N`, `--window DURATION`, `--interval DURATION` and `--journal N`,
+/// and all scripts without a `keep` line; and the words `eval FILE QUERY START END STEP`, which print the code and the body of a
+/// query over one file. Any text is read as a query or a selector, and one that is refused is answered so. The doors are of no use
 /// to these. The statuses are 0 for a report or an evaluation, 3 for a script with a line that is none, or an evaluation's file
 /// that is refused, 4 for a file that was not read, 5 for output that was not taken, 6 for want of memory, 8 for a report of a
-/// client that met the full journal, and 9 for words that are not built and scripts with step lines.
+/// client that met the full journal, and 9 for words that are not built and scripts with a `keep` line.
 pub fn run<R, F: Files, O: Sink, H: Hop + Send + Drop, G: Gate + Sync, D: Doors>(
     rt: &R,
     alloc: Global,
@@ -324,7 +354,7 @@ where
     ensures claim { let seen : FilesSeen = record { told = F.told files.old; sure = F.sure files.old; lost = F.lost files.old; before = F.faults files.old; after = F.faults files.new; failed = F.failed files.new } in
         let outside : Outside = record { files = seen; out_before = O.faults out.old; out_after = O.faults out.new; old = O.told out.old; new = O.told out.new } in
         Correct default_limits outside words.now result }
-    ensures untouched { script_word words.now ≡ None → evaluation_words words.now ≡ None → files.new ≡ files.old }
+    ensures untouched { replay_words words.now ≡ None → evaluation_words words.now ≡ None → files.new ≡ files.old }
 {
-    run_within(alloc, DEFAULT_LIMITS, words, files, out)
+    run_within(alloc, DEFAULT_LIMITS, words, files, out, hops, gate)
 }

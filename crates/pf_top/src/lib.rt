@@ -3,9 +3,10 @@
 //! What `prom_front` uses: `run` takes the words, files, output, hops, gate and doors that are handed in, and answers the
 //! status. Its contract is the program's whole promise, the record `Correct` of `specs/Correct.antt`: for example, with
 //! status 0 the bytes written are the report of a legal journal that is woven from the scripts which the words name. `run_within`
-//! does the same within any limits.
+//! does the same with any limits where the words choose none.
 #![tactic(auto)]
 
+mod answers;
 mod client;
 mod drive;
 mod driver;
@@ -13,8 +14,11 @@ mod evaluate;
 mod evaluation;
 mod journal;
 mod loaded;
+mod options;
 mod queries;
 mod slots;
+mod step_lines;
+mod unbuilt;
 mod words;
 
 pub use driver::{DEFAULT_LIMITS, run, run_within};

@@ -21,6 +21,7 @@ pub enum Slot {
     BadQuery(QueryError),
     Full,
     TooManyTenants,
+    NoMemory,
 }
 
 /// What became of asks, by the numbers of their lines.
@@ -34,12 +35,21 @@ pub fn keep(slots: &mut Slots, line: u32, slot: Slot) -> Result<(), OutOfMemory>
     Ok(())
 }
 
-/// Takes out what became of the ask of a line.
-pub fn take(slots: &mut Slots, line: u32) -> Option<Slot>
-    ensures taken { result ≡ get nat_cmp slots.old line }
-    ensures left { (k : ℕ) → get nat_cmp slots.new k ≡ cond (nat_eq line k) None (get nat_cmp slots.old k) }
+/// What became of the ask of a line.
+pub fn kept(slots: &Slots, line: u32) -> Option<Slot>
+    ensures { result ≡ get nat_cmp slots.now line }
 {
-    slots.remove(&line)
+    match slots.get(&line) {
+        Some(slot) => Some(*slot),
+        None => None,
+    }
+}
+
+/// Lets go what became of the ask of a line.
+pub fn forget(slots: &mut Slots, line: u32)
+    ensures { (k : ℕ) → get nat_cmp slots.new k ≡ cond (nat_eq line k) None (get nat_cmp slots.old k) }
+{
+    let _slot = slots.remove(&line);
 }
 
 /// The query that the ask of a line opened, unless it was answered.

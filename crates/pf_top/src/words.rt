@@ -1,31 +1,46 @@
 //! The words that the program is called with.
 
-ghost use Rattle.std.specs.Prelude.{◌≡◌, MatchOption, None, Some};
-ghost use Rattle.std.specs.Option.{option_map};
+ghost use Rattle.std.specs.Prelude.{◌≡◌, option_map};
 ghost use Rattle.pf_top.specs.Evaluations.{evaluation_in};
-ghost use Rattle.pf_top.specs.Words.{evaluation_words, is_script_word, script_word, with_times};
+ghost use Rattle.pf_top.specs.Words.{evaluation_words, limits_with, replay_words, with_times};
+ghost use Rattle.pf_top.specs.WordSteps.{replay_in};
 
-use pf_base::Text;
+use crate::options::{is_dashed, replay_behind};
+use pf_base::{Limits, Text};
 use pf_script::number_of;
 
-fn is_script_word(word: &str) -> bool
-    ensures { result ≡ is_script_word word.now }
+/// A script to be replayed, and the limits that are chosen. The window and the interval are in milliseconds.
+#[derive(Clone, Copy)]
+pub struct Replay<'a> {
+    pub limit: Option<u32>,
+    pub window: Option<u64>,
+    pub interval: Option<u64>,
+    pub journal: Option<u64>,
+    pub script: &'a str,
+}
+
+/// The replay in the words `replay [options] SCRIPT`.
+pub fn replay_words(words: &[Text]) -> Option<Replay<'_>>
+    ensures { option_map replay_in result ≡ replay_words words.now }
 {
-    match word.as_bytes().split_first() {
-        Some((first, _)) => *first != b'-',
-        None => true,
+    let (command, words) = words.split_first()?;
+    if command.as_str() == "replay" {
+        replay_behind(words)
+    } else {
+        None
     }
 }
 
-/// The script's name in the words `replay SCRIPT`, where it doesn't begin with `-`.
-pub fn script_name(words: &[Text]) -> Option<&str>
-    ensures { MatchOption result (script_word words.now ≡ None) (λ s. script_word words.now ≡ Some s.now) }
+/// The limits that a replay chooses, and these where it chooses none.
+pub fn limits_with(limits: Limits, replay: &Replay<'_>) -> Limits
+    ensures { result ≡ limits_with limits (replay_in replay.now) }
 {
-    let [command, name] = words else { return None };
-    if command.as_str() == "replay" && is_script_word(name.as_str()) {
-        Some(name.as_str())
-    } else {
-        None
+    Limits {
+        outstanding: replay.limit.unwrap_or(limits.outstanding),
+        window: replay.window.unwrap_or(limits.window),
+        interval: replay.interval.unwrap_or(limits.interval),
+        journal: replay.journal.unwrap_or(limits.journal),
+        ..limits
     }
 }
 
@@ -68,8 +83,8 @@ pub fn evaluation_words(words: &[Text]) -> Option<Evaluation<'_>>
         return None;
     };
     if command.as_str() == "eval"
-        && is_script_word(file.as_str())
-        && is_script_word(query.as_str())
+        && !is_dashed(file.as_str().as_bytes())
+        && !is_dashed(query.as_str().as_bytes())
     {
         with_times(
             file.as_str(),

@@ -2,6 +2,7 @@ use Rattle.std.proofs.Common.{rules, ◌≡◌, refl, subst, Some}
 use Rattle.std.specs.BTreeMap.{get}
 use Rattle.std.specs.Ordering.{nat_cmp}
 use Rattle.pf_top.proofs.Cancelling.{step_unfound}
+use Rattle.pf_top.proofs.Steps.{grows_same}
 use Rattle.pf_top.specs.Asks.{SlotRight}
 use Rattle.pf_top.specs.Going.{own_of}
 use Rattle.pf_top.specs.declared.slots.Slot.TheVariants as slot
@@ -16,4 +17,7 @@ returns-in_ok-cancel_query-in-Some-clause-step c known above hands k alone right
 pub returns-in_ok-push_cancel_reply-in-None-clause-step : goal.returns-in_ok-push_cancel_reply-in-None-clause-step
 returns-in_ok-push_cancel_reply-in-None-clause-step c known above hands k alone right =
     step_unfound known above hands c.args.self.now _ c.args.number c.args.id.now c.args.asked c.args.tenant.now (get nat_cmp c.args.self.now.slots c.args.asked)
-    refl (search rules) right (search rules)
+    refl refl (search rules) right (search rules)
+
+pub returns-in_ok-push_cancel_reply-in-None-clause-grows : goal.returns-in_ok-push_cancel_reply-in-None-clause-grows
+returns-in_ok-push_cancel_reply-in-None-clause-grows c = grows_same c.args.self.now.core _ refl
