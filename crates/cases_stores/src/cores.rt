@@ -1,18 +1,22 @@
 //! Rows of the state that clients share.
 
-ghost use Rattle.std.specs.Prelude.{◌≡◌, ◌≤◌, IfSome};
-ghost use Rattle.pf_core.specs.Cores.{AreLimits, machine_of};
-ghost use Rattle.pf_journal.specs.Machine.{AnswersOpen, open_at};
+ghost use Rattle.std.specs.Prelude.{◌≡◌, ◌<◌, ◌≤◌, IfSome};
+ghost use Rattle.pf_core.specs.Calls.{IsAnswerable};
+ghost use Rattle.pf_core.specs.Cores.{AreLimits};
+ghost use Rattle.pf_types.specs.Asking.{IsWhen};
 
 use crate::files::batch_of;
 use crate::logs::are_timed;
 use crate::matchers::matchers_of;
+use crate::tables::{push_collected, push_failed, push_head, push_planned, push_stop};
 use cases_rows::output::{Output, cut};
 use cases_rows::setting::Setting;
 use pf_base::{Batch, By, Grid, Limits, Tenant};
 use pf_core::{AskError, CancelAnswer, Core, CoreError};
+use pf_front::Worked;
+use pf_io::{OpenGate, SteadyHop};
 use pf_model::Matchers;
-use pf_query::Asked;
+use pf_query::{Asked, FailedTry, Stop};
 use pf_types::{When, read_asked};
 use std::sync::Arc;
 
@@ -46,10 +50,30 @@ fn moment() -> Option<Grid>
     }
 }
 
-/// What a query asks at one time, or a note that it asks nothing.
-fn asked_of(out: &mut Output, query: &str) -> Option<Arc<Asked>> {
-    let grid = moment()?;
-    let read = read_asked(out.alloc(), query, When::Instant(grid));
+/// The grid of three times, a day apart: each is a piece of its own.
+fn days() -> Option<Grid>
+    ensures { IfSome result (λ g. 0 < g.step) }
+{
+    match Grid::aligned(86_400_000, 259_200_000, 86_400_000) {
+        Ok(grid) if grid.step() > 0 => Some(grid),
+        _ => None,
+    }
+}
+
+/// When a query is asked: at one time, or over three days.
+fn when_of(verb: &str) -> Option<When>
+    ensures { IfSome result IsWhen }
+{
+    Some(match verb {
+        "range" => When::Range(days()?),
+        _ => When::Instant(moment()?),
+    })
+}
+
+/// What a query asks, or a note that it asks nothing.
+fn asked_of(out: &mut Output, verb: &str, query: &str) -> Option<Arc<Asked>> {
+    let when = when_of(verb)?;
+    let read = read_asked(out.alloc(), query, when);
     let asked = out.or_refuse(read)?;
     out.or_lose(Arc::new(out.alloc(), asked))
 }
@@ -142,8 +166,8 @@ fn delete(out: &mut Output, core: &mut Core, tenant: &Tenant, words: &str) {
     }
 }
 
-fn ask(out: &mut Output, core: &mut Core, tenant: &Tenant, query: &str) {
-    let Some(asked) = asked_of(out, query) else {
+fn ask(out: &mut Output, core: &mut Core, tenant: &Tenant, verb: &str, query: &str) {
+    let Some(asked) = asked_of(out, verb, query) else {
         return;
     };
     match core.ask(BY, tenant, asked) {
@@ -191,27 +215,103 @@ fn cancel(out: &mut Output, core: &mut Core, query: u64, tenant: &Tenant) {
     }
 }
 
-/// The code by which an open query may be answered that was not planned.
-#[tactic(auto, using(pf_core::proofs::Stopped::after_cancel, pf_core::proofs::Stopped::after_failure))]
+/// The code by which an open query may be answered that is stopped.
+#[tactic(auto, using(pf_core::proofs::Stopped::after_cancel, pf_core::proofs::Stopped::after_failure, pf_core::proofs::Stopped::after_want))]
 fn code_of(core: &Core, query: u64) -> Option<u16>
-    ensures { IfSome result (λ code. AnswersOpen core.now.limits (open_at query (machine_of core.now).queries) code 0 0) }
+    ensures { IfSome result (λ code. IsAnswerable core.now query code) }
 {
     let open = core.look(query)?;
-    match open.cancelled {
-        Some(_) => Some(503),
-        None => Some(500),
+    match open.stop? {
+        Stop::Cancelled { .. } => Some(503),
+        Stop::Exhausted { .. } => Some(500),
+        Stop::Starved => Some(507),
     }
 }
 
 fn answer(out: &mut Output, core: &mut Core, query: u64) {
     match code_of(core, query) {
         Some(code) => {
-            core.answer(BY, query, code, 0, 0);
+            core.answer(BY, query, code);
             out.text("answered ");
             out.show(code);
         }
         None => out.text("none"),
     }
+}
+
+/// A call on a query that takes no more than its place.
+fn call_on(out: &mut Output, core: &mut Core, verb: &str, query: u64) {
+    match verb {
+        "look" => look(out, core, query),
+        "answer" => answer(out, core, query),
+        "plan" => plan(out, core, query),
+        "starve" => {
+            core.lack_query(query);
+            out.text("starved");
+        }
+        _ => collect(out, core, query),
+    }
+}
+
+fn plan(out: &mut Output, core: &mut Core, query: u64) {
+    if core.look(query).is_none() {
+        return out.text("none");
+    }
+    push_planned(out, pf_front::plan(out.alloc(), core, query));
+}
+
+fn collect(out: &mut Output, core: &mut Core, query: u64) {
+    match core.collect(query) {
+        Some(collected) => push_collected(out, collected),
+        None => out.text("none"),
+    }
+}
+
+fn push_worked(out: &mut Output, worked: Worked) {
+    match worked {
+        Worked::Stored => out.text("stored"),
+        Worked::Again { tries } => push_failed(out, FailedTry::Again { tries }),
+        Worked::Exhausted { job } => push_failed(out, FailedTry::Exhausted { job }),
+        Worked::Lacked => out.lose(),
+        Worked::Gone { why } => push_stop(out, why),
+        Worked::NotHeld => out.text("not held"),
+    }
+}
+
+/// What an actor does with the first job: it keeps it in hand, fails, wants memory, or does it.
+fn take(out: &mut Output, core: &mut Core, verb: &str, actor: u32) {
+    if actor >= 32 {
+        return out.refuse();
+    }
+    let Some(held) = core.take(actor) else {
+        return out.text("none");
+    };
+    push_head(out, &held.head);
+    out.text(" ");
+    match verb {
+        "take" => out.text("in hand"),
+        "fail" => {
+            let failed = core.fail(held);
+            push_failed(out, failed);
+        }
+        "lack" => {
+            core.lack_job(held);
+            out.text("lacked");
+        }
+        _ => {
+            let worked = pf_front::work(out.alloc(), core, held, &mut SteadyHop, &OpenGate);
+            push_worked(out, worked);
+        }
+    }
+}
+
+fn failed(out: &mut Output, core: &Core, actor: u32) {
+    if actor >= 32 {
+        return out.refuse();
+    }
+    out.show(core.failed(actor));
+    out.text(" of ");
+    out.show(core.total());
 }
 
 fn tenant_of(out: &mut Output, name: &str) -> Option<Tenant> {
@@ -229,7 +329,7 @@ fn call_for(out: &mut Output, core: &mut Core, setting: &Setting, verb: &str, wo
     match verb {
         "append" => append(out, core, tenant, setting, rest),
         "delete" => delete(out, core, tenant, rest),
-        "ask" => ask(out, core, tenant, rest),
+        "ask" | "range" => ask(out, core, tenant, verb, rest),
         "cancel" => {
             let query = out.number(first);
             cancel(out, core, query, tenant);
@@ -244,13 +344,17 @@ fn call(out: &mut Output, core: &mut Core, setting: &Setting, given: &str) {
         out.text("; ");
     }
     match verb {
-        "look" => {
+        "look" | "answer" | "plan" | "starve" | "collect" => {
             let query = out.number(words);
-            look(out, core, query);
+            call_on(out, core, verb, query);
         }
-        "answer" => {
-            let query = out.number(words);
-            answer(out, core, query);
+        "take" | "fail" | "lack" | "work" => {
+            let actor = out.number(words);
+            take(out, core, verb, actor);
+        }
+        "failed" => {
+            let actor = out.number(words);
+            failed(out, core, actor);
         }
         _ => call_for(out, core, setting, verb, words),
     }

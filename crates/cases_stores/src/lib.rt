@@ -1,6 +1,6 @@
 //! Rows of what is stored, and of what is read of it: lines, matchers, exposition files, snapshots and logs, the functions of
-//! their windows, and selectors; of what serves queries: the pieces of grids, and a map in the order of recent use; and of the
-//! state that clients share.
+//! their windows, and selectors; of what serves queries: the pieces of grids, a map in the order of recent use, and the
+//! table of outstanding queries; and of the state that clients share.
 #![tactic(auto)]
 
 mod cores;
@@ -12,6 +12,7 @@ mod selection;
 pub mod selectors;
 mod serving;
 mod snapshots;
+mod tables;
 
 use cases_rows::output::Output;
 use cases_rows::setting::Setting;
@@ -46,6 +47,10 @@ pub enum Form {
     /// have so many open queries each and whose journal so many entries: `append TENANT LINE`, `delete TENANT FROM TO SELECTOR`,
     /// `ask TENANT QUERY` at one time, `look PLACE`, `cancel PLACE TENANT`, and `answer PLACE` of a query that is not planned.
     Core,
+    /// `table`: `CALL; CALL; .. => ANSWERS`, what the calls of a table of outstanding queries answer: `open QUERY TENANT`, `plan QUERY
+    /// RUNS SHARDS` with a job for each run and shard, `take ACTOR`, `finish ACTOR`, `fail ACTOR` and `lack ACTOR` of the job in the
+    /// actor's hand, `cancel QUERY PLACE`, `starve QUERY`, `collect QUERY`, `look QUERY`, `close QUERY`.
+    Table,
 }
 
 impl Form {
@@ -63,6 +68,7 @@ impl Form {
             "pieces" => Form::Pieces,
             "recent" => Form::Recent,
             "core" => Form::Core,
+            "table" => Form::Table,
             _ => return None,
         };
         Some(form)
@@ -91,6 +97,7 @@ impl Form {
             Form::Pieces => serving::pieces_of(out, given),
             Form::Recent => serving::recent(out, given),
             Form::Core => cores::core(out, setting, given),
+            Form::Table => tables::table(out, given),
             Form::Line | Form::Exposition => {}
         }
     }
