@@ -6,6 +6,7 @@
 mod evaluation;
 mod file;
 mod forms;
+mod hops;
 mod runs;
 
 use cases_rows::output::{Output, Trouble};

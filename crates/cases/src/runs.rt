@@ -1,22 +1,23 @@
 //! Whole runs, over files and outputs in memory.
 
-ghost use Rattle.std.specs.Prelude.{◌≤◌};
+ghost use Rattle.std.specs.Prelude.{◌≡◌, ◌≤◌, vec_len};
 
+use crate::hops::{ListedHop, hops_of};
 use cases_rows::base::texts_of;
 use cases_rows::output::{Output, cut};
 use cases_rows::outside::{failing, file_of, files_of};
 use cases_rows::setting::Setting;
 use pf_base::{Limits, Text};
-use pf_io::{DiskFiles, Files, MemFiles, MemSink};
+use pf_io::{DiskFiles, Files, MemFiles, MemSink, OpenGate};
 use pf_top::{DEFAULT_LIMITS, run_within};
 
 /// A form of rows.
 #[derive(Clone, Copy)]
 pub enum Form {
     /// `run`: `gives status NUMBER`, and the text that is written. The words are those of a part `words`, or `replay script`.
-    /// The files are the parts `script` and `file NAME`. `failing reads NUMBERS` and `failing writes NUMBERS` name calls that
-    /// fail, from 0, and `most NUMBER` is the most bytes that a write takes. `outstanding NUMBER` and `journal NUMBER` set
-    /// these limits.
+    /// The files are the parts `script` and `file NAME`. `failing reads NUMBERS`, `failing writes NUMBERS` and `failing hop ACTOR:
+    /// NUMBERS` name calls that fail, from 0; the client is actor 0, and worker W actor 16 + W. `most NUMBER` is the most bytes that
+    /// a write takes. `outstanding NUMBER` and `journal NUMBER` set these limits where the words choose none.
     Run,
     /// `example`: `FOLDER SCRIPT FILES => status NUMBER REPORT`, a run over files of the folder, which writes what the file
     /// REPORT there holds.
@@ -58,6 +59,7 @@ fn words_of(out: &mut Output, setting: &Setting) -> Vec<Text> {
 fn limits_of(out: &mut Output, setting: &Setting) -> Limits
     ensures journal { result.journal ≤ 4000000 }
     ensures some { 1 ≤ result.outstanding }
+    ensures interval { 1000 ≤ result.interval }
 {
     let outstanding = setting.number(out, "outstanding", 100).clamp(1, 1_000_000);
     let journal = setting.number(out, "journal", 4_000_000).min(4_000_000);
@@ -76,13 +78,30 @@ fn push_ended(out: &mut Output, status: u8, behind: &[u8]) {
 }
 
 fn run(out: &mut Output, setting: &Setting) {
+    match hops_of(out, setting) {
+        Ok(hops) => run_over(out, setting, hops),
+        Err(_) => out.lose(),
+    }
+}
+
+fn run_over(out: &mut Output, setting: &Setting, hops: Vec<ListedHop>)
+    requires { vec_len hops ≡ 32 }
+{
     let words = words_of(out, setting);
     let mut files = files_of(out, setting);
     let most = setting.number(out, "most", 0).min(1_000_000) as usize;
     let limits = limits_of(out, setting);
     let failing = failing(out, setting, "writes");
     let mut sink = MemSink::new(out.alloc(), failing, most);
-    let status = run_within(out.alloc(), limits, &words, &mut files, &mut sink);
+    let status = run_within(
+        out.alloc(),
+        limits,
+        &words,
+        &mut files,
+        &mut sink,
+        hops,
+        &OpenGate,
+    );
     push_ended(out, status, b"\n");
     out.bytes(sink.bytes());
 }
@@ -133,13 +152,32 @@ fn push_example(out: &mut Output, status: u8, written: &[u8], report: &[u8]) {
     }
 }
 
+/// Runs an example, without failing calls.
 fn example(out: &mut Output, rt: HostRuntime, given: &str) {
+    let setting = Setting::new(out.alloc());
+    match hops_of(out, &setting) {
+        Ok(hops) => example_over(out, rt, given, hops),
+        Err(_) => out.lose(),
+    }
+}
+
+fn example_over(out: &mut Output, rt: HostRuntime, given: &str, hops: Vec<ListedHop>)
+    requires { vec_len hops ≡ 32 }
+{
     let (folder, names) = cut(given);
     let (script, _) = cut(names);
     let words = replay_of(out, script);
     let mut files = folder_files(out, rt, folder, names);
     let mut sink = MemSink::new(out.alloc(), Vec::new(out.alloc()), 0);
-    let status = run_within(out.alloc(), DEFAULT_LIMITS, &words, &mut files, &mut sink);
+    let status = run_within(
+        out.alloc(),
+        DEFAULT_LIMITS,
+        &words,
+        &mut files,
+        &mut sink,
+        hops,
+        &OpenGate,
+    );
     let report = read_of(out, rt, folder, "report.txt");
     push_example(out, status, sink.bytes(), &report);
 }
