@@ -1,6 +1,7 @@
 mod LastHeld
 mod MomentErrors
 mod MomentSamples
+mod PassingSeries
 mod Places
 mod RangeCells
 mod ReadCells

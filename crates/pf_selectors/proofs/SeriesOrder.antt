@@ -245,7 +245,7 @@ next_found : (l m : Pairs) (i j : ℕ) (ms : List Pairs) (b : Bool) → cond b (
 next_found l m i j ms true e f = let is : i ≡ i + suc j = cc in absurd (omega (arith, is))
 next_found l m i j ms false e f = let is : i + suc j ≡ (i + 1) + j = omega arith in f (e ∙ ap Some is)
 
-labels_found : (l : Pairs) (i j : ℕ) (ls : List Pairs) → position_from (same_labels l) i ls ≡ Some (i + j) → get_or ls j [] ≡ l
+pub labels_found : (l : Pairs) (i j : ℕ) (ls : List Pairs) → position_from (same_labels l) i ls ≡ Some (i + j) → get_or ls j [] ≡ l
 labels_found l i j [] h = cc
 labels_found l i zero (m ∷ ms) h = first_found l m i ms (same_labels l m) refl h
 labels_found l i (suc j) (m ∷ ms) h = next_found l m i j ms (same_labels l m) h (labels_found l (i + 1) j ms)

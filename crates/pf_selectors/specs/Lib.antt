@@ -1,3 +1,4 @@
+pub mod Passing
 pub mod SeriesColumns
 pub mod Subqueries
 pub mod Times

@@ -1,8 +1,9 @@
 //! Instant selectors over a whole run.
 
-ghost use Rattle.std.specs.Prelude.{◌≡◌, ◌<◌, ◌≤◌, ℕ, int_le, true, Some, List, IfOk, length, map, option_map};
+ghost use Rattle.std.specs.Prelude.{◌≡◌, ◌<◌, ◌≤◌, ℕ, int_le, Bool, true, Some, List, IfOk, length, map, option_map};
 ghost use Rattle.std.specs.List.{All};
 ghost use Rattle.pf_base.specs.declared.plain.Row.{Row};
+ghost use Rattle.pf_base.specs.LabelSets.{Pairs};
 ghost use Rattle.pf_block.specs.Samples.{rises, until};
 ghost use Rattle.pf_block.specs.Snaps.{IsSnap};
 ghost use Rattle.pf_columns.specs.Columns.{cell_at};
@@ -16,6 +17,7 @@ ghost use Rattle.pf_model.specs.InstantFunctions.{each_value};
 ghost use Rattle.pf_model.specs.Micros.{seconds};
 ghost use Rattle.pf_range.specs.Windows.{IsTime};
 ghost use Rattle.pf_store.specs.Standing.{StandsFor};
+ghost use Rattle.pf_selectors.specs.Passing.{ids_passing, rows_passing};
 ghost use Rattle.pf_selectors.specs.SeriesColumns.{labels_read, read_at, read_column, value_read, values_read};
 ghost use Rattle.pf_selectors.specs.Times.{AreTimes, time_at};
 
@@ -165,7 +167,8 @@ fn read_cells(
 }
 
 /// What an instant selector is at each step, where `ids` are the series that its matchers accept, in label order: for
-/// each of them its last sample in the look-back of five minutes. Prometheus, Querying basics: Instant vector selectors.
+/// each of them its last sample in the look-back of five minutes. Where they are those of these series whose labels pass a
+/// test, it is the selector over the rows of such labels. Prometheus, Querying basics: Instant vector selectors.
 pub fn selected(
     alloc: Global,
     snap: &Snap,
@@ -174,16 +177,19 @@ pub fn selected(
 ) -> Result<StepCells, OutOfMemory>
     requires inside { All (λ id. id < length snap.now.labels) ids.now }
     requires times { AreTimes times.now }
-    ensures { IfOk result (λ s. (samples : List Row) (ms : List Matcher) → StandsFor snap.now samples → ids.now ≡ accepted_ids ms snap.now.labels → (k : ℕ) → k < times.now.len
+    ensures all { IfOk result (λ s. (samples : List Row) (ms : List Matcher) → StandsFor snap.now samples → ids.now ≡ accepted_ids ms snap.now.labels → (k : ℕ) → k < times.now.len
         → step_at s k ≡ Good (selected samples ms (time_at times.now k))) }
+    ensures passing { IfOk result (λ s. (samples : List Row) (ms : List Matcher) (passes : Pairs → Bool) → StandsFor snap.now samples
+        → ids.now ≡ ids_passing passes snap.now.labels (accepted_ids ms snap.now.labels) → (k : ℕ) → k < times.now.len
+        → step_at s k ≡ Good (selected (rows_passing passes samples) ms (time_at times.now k))) }
 {
     let found = read_cells(alloc, Reading::Value, snap, ids, times)?;
     Ok(found)
 }
 
 /// What the function `timestamp` of an instant selector is at each step, where `ids` are the series that its matchers
-/// accept, in label order: the times in seconds of the samples that are read, without the metric name. Prometheus, Query
-/// functions.
+/// accept, in label order: the times in seconds of the samples that are read, without the metric name. It is that over the
+/// rows of some labels where they are those of these series whose labels pass a test. Prometheus, Query functions.
 pub fn sample_times(
     alloc: Global,
     snap: &Snap,
@@ -192,8 +198,11 @@ pub fn sample_times(
 ) -> Result<StepCells, OutOfMemory>
     requires inside { All (λ id. id < length snap.now.labels) ids.now }
     requires times { AreTimes times.now }
-    ensures { IfOk result (λ s. (samples : List Row) (ms : List Matcher) → StandsFor snap.now samples → ids.now ≡ accepted_ids ms snap.now.labels → (k : ℕ) → k < times.now.len
+    ensures all { IfOk result (λ s. (samples : List Row) (ms : List Matcher) → StandsFor snap.now samples → ids.now ≡ accepted_ids ms snap.now.labels → (k : ℕ) → k < times.now.len
         → step_at s k ≡ cell_of (each_value Some (selected (map timed samples) ms (time_at times.now k)))) }
+    ensures passing { IfOk result (λ s. (samples : List Row) (ms : List Matcher) (passes : Pairs → Bool) → StandsFor snap.now samples
+        → ids.now ≡ ids_passing passes snap.now.labels (accepted_ids ms snap.now.labels) → (k : ℕ) → k < times.now.len
+        → step_at s k ≡ cell_of (each_value Some (selected (map timed (rows_passing passes samples)) ms (time_at times.now k)))) }
 {
     let found = read_cells(alloc, Reading::Time, snap, ids, times)?;
     Ok(found)

@@ -1,8 +1,9 @@
 //! Functions of range selectors over a whole run.
 
-ghost use Rattle.std.specs.Prelude.{◌≡◌, ◌<◌, ◌≤◌, ◌-ℤ◌, ◌≤ℤ◌, ℕ, pos, int_le, true, cond, is_some, None, Some, List, IfOk, OnOk, length, map};
+ghost use Rattle.std.specs.Prelude.{◌≡◌, ◌<◌, ◌≤◌, ◌-ℤ◌, ◌≤ℤ◌, ℕ, pos, int_le, Bool, true, cond, is_some, None, Some, List, IfOk, OnOk, length, map};
 ghost use Rattle.std.specs.List.{All, list_all};
 ghost use Rattle.pf_base.specs.declared.plain.Row.{Row};
+ghost use Rattle.pf_base.specs.LabelSets.{Pairs};
 ghost use Rattle.pf_block.specs.Samples.{is_within, rises, until, window_of};
 ghost use Rattle.pf_block.specs.Snaps.{samples_of};
 ghost use Rattle.pf_columns.specs.Columns.{cell_at, value_in};
@@ -16,6 +17,7 @@ ghost use Rattle.pf_model.specs.Micros.{one};
 ghost use Rattle.pf_model.specs.Outcomes.{of_series, ranged_labels};
 ghost use Rattle.pf_range.specs.Windows.{IsTime};
 ghost use Rattle.pf_store.specs.Standing.{StandsFor};
+ghost use Rattle.pf_selectors.specs.Passing.{ids_passing, rows_passing};
 ghost use Rattle.pf_selectors.specs.SeriesColumns.{range_column, unless_present, unless_some, values_over, window_at};
 ghost use Rattle.pf_selectors.specs.Times.{AreStarts, AreTimes, time_at};
 
@@ -260,7 +262,8 @@ fn over_each(
 /// What a function of a range selector is at each step, where `ids` are the series that its matchers accept, in label
 /// order: for each of them the function of its samples in the window of `range` milliseconds before the time, open at the
 /// left end. All functions but `last_over_time` drop the metric name. `absent_over_time` gives one element with the labels
-/// `absent` where no series has a sample. Prometheus, Query functions.
+/// `absent` where no series has a sample. Where `ids` are those of these series whose labels pass a test, it is that over the
+/// rows of such labels. Prometheus, Query functions.
 pub fn ranged(
     alloc: Global,
     f: RangeFn,
@@ -273,9 +276,13 @@ pub fn ranged(
     requires inside { All (λ id. id < length snap.now.labels) ids.now }
     requires times { AreTimes times.now }
     requires starts { AreStarts range times.now }
-    ensures { IfOk result (λ s. (samples : List Row) (ms : List Matcher) → StandsFor snap.now samples → AreApart samples → ids.now ≡ accepted_ids ms snap.now.labels → (k : ℕ) → k < times.now.len
+    ensures all { IfOk result (λ s. (samples : List Row) (ms : List Matcher) → StandsFor snap.now samples → AreApart samples → ids.now ≡ accepted_ids ms snap.now.labels → (k : ℕ) → k < times.now.len
         → step_at s k ≡ cell_of (of_series f absent.now (time_at times.now k -ℤ pos range) (time_at times.now k)
         (windows samples ms (time_at times.now k -ℤ pos range) (time_at times.now k)))) }
+    ensures passing { IfOk result (λ s. (samples : List Row) (ms : List Matcher) (passes : Pairs → Bool) → StandsFor snap.now samples → AreApart samples
+        → ids.now ≡ ids_passing passes snap.now.labels (accepted_ids ms snap.now.labels) → (k : ℕ) → k < times.now.len
+        → step_at s k ≡ cell_of (of_series f absent.now (time_at times.now k -ℤ pos range) (time_at times.now k)
+        (windows (rows_passing passes samples) ms (time_at times.now k -ℤ pos range) (time_at times.now k)))) }
 {
     let _count = snap.series_count();
     if times.len == 0 {
