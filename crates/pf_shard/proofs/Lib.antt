@@ -1,5 +1,10 @@
 pub mod AddingUp
 pub mod Crossing
+pub mod JoinedColumns
+pub mod KnownGroups
+pub mod KnownValues
 pub mod LawfulLegs
 pub mod MergedGroups
+pub mod MergedShards
+pub mod MergedTwice
 pub mod Numbering

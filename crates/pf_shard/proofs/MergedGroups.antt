@@ -39,25 +39,25 @@ merged_two a b = λ i. made (a.sum +ℤ nothing_more b.sum i) (a.count + none_mo
 
 -- ---- what is known of a key
 
-abbrev keys : List GroupPart → List Pairs
+abbrev pub keys : List GroupPart → List Pairs
 keys gs = map (λ (q : GroupPart). q.key) gs
 
-abbrev has : Pairs → GroupPart → Bool
+abbrev pub has : Pairs → GroupPart → Bool
 has k q = same_labels q.key k
 
-abbrev those : Pairs → List GroupPart → List GroupPart
+abbrev pub those : Pairs → List GroupPart → List GroupPart
 those k gs = filter (has k) gs
 
-abbrev partials_in : List GroupPart → List Partial
+abbrev pub partials_in : List GroupPart → List Partial
 partials_in gs = map (λ (q : GroupPart). q.partial) gs
 
-abbrev known : Pairs → List GroupPart → List Partial
+abbrev pub known : Pairs → List GroupPart → List Partial
 known k gs = partials_in (those k gs)
 
-abbrev merged_at : List GroupPart → Pairs → GroupPart
+abbrev pub merged_at : List GroupPart → Pairs → GroupPart
 merged_at gs k = record { key = k; partial = merged (known k gs) }
 
-known_append : (k : Pairs) (xs ys : List GroupPart) → known k (xs ++ ys) ≡ known k xs ++ known k ys
+pub known_append : (k : Pairs) (xs ys : List GroupPart) → known k (xs ++ ys) ≡ known k xs ++ known k ys
 known_append k xs ys = ap partials_in (filter-append (has k) xs ys) ∙ map-append (λ (q : GroupPart). q.partial) (those k xs) (those k ys)
 
 none_known : (k : Pairs) (gs : List GroupPart) → AllAbove k (keys gs) → known k gs ≡ []
@@ -103,7 +103,7 @@ module _ (k : Pairs) (gs hs : List GroupPart) (others : (l : Pairs) → same_lab
       ap (map (merged_at gs)) ks
       ∙ λ i. record { key = k; partial = m i } ∷ merged_behind (distinct (keys hs)) above i
 
-above_append : (k : Pairs) (xs ys : List GroupPart) → AllAbove k (keys xs) → AllAbove k (keys ys) → AllAbove k (keys (xs ++ ys))
+pub above_append : (k : Pairs) (xs ys : List GroupPart) → AllAbove k (keys xs) → AllAbove k (keys ys) → AllAbove k (keys (xs ++ ys))
 above_append k [] ys a b = b
 above_append k (x ∷ xs) ys a b = (a.0, above_append k xs ys a.1 b)
 
@@ -131,13 +131,13 @@ alone_in_middle xs g ys a b =
     ∙ known_same g ys ∙ ap (λ ps. g.partial ∷ ps) (none_known g.key ys b)
 
 -- the first list's group is below all others
-take_first : (g : GroupPart) (gs : List GroupPart) → AllAbove g.key (keys gs) → merged_groups (g ∷ gs) ≡ g ∷ merged_groups gs
+pub take_first : (g : GroupPart) (gs : List GroupPart) → AllAbove g.key (keys gs) → merged_groups (g ∷ gs) ≡ g ∷ merged_groups gs
 take_first g gs a =
     first_group g.key (g ∷ gs) gs (λ l h. known_other l g gs h) g.partial a (λ x. refl)
     (ap merged (alone_in_middle [] g gs tt a) ∙ merged_one g.partial)
 
 -- the second list's group is
-take_second : (xs : List GroupPart) (g : GroupPart) (ys : List GroupPart) → AllAbove g.key (keys xs) → AllAbove g.key (keys ys) → merged_groups (xs ++ (g ∷ ys)) ≡ g ∷ merged_groups (xs ++ ys)
+pub take_second : (xs : List GroupPart) (g : GroupPart) (ys : List GroupPart) → AllAbove g.key (keys xs) → AllAbove g.key (keys ys) → merged_groups (xs ++ (g ∷ ys)) ≡ g ∷ merged_groups (xs ++ ys)
 take_second xs g ys a b =
     first_group g.key (xs ++ (g ∷ ys)) (xs ++ ys) (λ l h. other_in_middle l xs g ys h) g.partial (above_append g.key xs ys a b) (λ x. in_middle x xs g ys)
     (ap merged (alone_in_middle xs g ys a b) ∙ merged_one g.partial)
@@ -146,7 +146,7 @@ abbrev group : Pairs → Partial → GroupPart
 group k a = record { key = k; partial = a }
 
 -- both lists have a group of this key, which is below all others
-take_both : (k : Pairs) (a b : Partial) (xs ys : List GroupPart) → AllAbove k (keys xs) → AllAbove k (keys ys)
+pub take_both : (k : Pairs) (a b : Partial) (xs ys : List GroupPart) → AllAbove k (keys xs) → AllAbove k (keys ys)
     → merged_groups ((group k a ∷ xs) ++ (group k b ∷ ys)) ≡ group k (merged (a ∷ b ∷ [])) ∷ merged_groups (xs ++ ys)
 take_both k a b xs ys h l =
     first_group k ((group k a ∷ xs) ++ (group k b ∷ ys)) (xs ++ ys)
@@ -155,7 +155,7 @@ take_both k a b xs ys h l =
     (λ x. ap (λ c. same_labels x k || c) (in_middle x xs (group k b) ys) ∙ or_same (same_labels x k) (stands_in x (keys (xs ++ ys))))
     (ap merged (known_same (group k a) (xs ++ (group k b ∷ ys)) ∙ ap (λ ps. a ∷ ps) (alone_in_middle xs (group k b) ys h l)))
 
-rising_merged : (gs : List GroupPart) → Ascends (keys gs) → merged_groups gs ≡ gs
+pub rising_merged : (gs : List GroupPart) → Ascends (keys gs) → merged_groups gs ≡ gs
 rising_merged [] a = refl
 rising_merged (g ∷ gs) a = take_first g gs a.0 ∙ ap (λ hs. g ∷ hs) (rising_merged gs a.1)
 

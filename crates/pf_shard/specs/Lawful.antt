@@ -21,15 +21,18 @@ resolved_code =
     code_by (Tree × (List (List ℕ) × List (List ℕ))) (coded× coded_tree (coded× lists_code lists_code))
     (λ r. (r.query, (r.series, r.patterns))) (λ p. record { query = p.0; series = p.1.0; patterns = p.1.1 }) (λ _. refl)
 
+-- legs with their query, and for each leg of a node the series that it reads
 pub record ResolvedLegs : Type 0 where
   pub resolved : ResolvedData
   pub nodes : List ℕ
   pub shards : ℕ
+  pub series : List (List ℕ)
 
 abbrev pub legs_code : Coded ResolvedLegs
 legs_code =
-    code_by (ResolvedData × (List ℕ × ℕ)) (coded× resolved_code (coded× (coded_list coded_ℕ) coded_ℕ))
-    (λ l. (l.resolved, (l.nodes, l.shards))) (λ p. record { resolved = p.0; nodes = p.1.0; shards = p.1.1 }) (λ _. refl)
+    code_by (ResolvedData × (List ℕ × (ℕ × List (List ℕ))))
+    (coded× resolved_code (coded× (coded_list coded_ℕ) (coded× coded_ℕ lists_code)))
+    (λ l. (l.resolved, (l.nodes, (l.shards, l.series)))) (λ p. record { resolved = p.0; nodes = p.1.0; shards = p.1.1.0; series = p.1.1.1 }) (λ _. refl)
 
 abbrev pub legs_data : ResolvedLegs → LegsData
 legs_data l = record { query = l.resolved.query; nodes = l.nodes; shards = l.shards }

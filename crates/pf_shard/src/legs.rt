@@ -1,6 +1,6 @@
 //! The legs of a query.
 
-ghost use Rattle.std.specs.Prelude.{◌≡◌, ◌≤◌, IfOk};
+ghost use Rattle.std.specs.Prelude.{◌≡◌, ◌≤◌, [], IfOk};
 ghost use Rattle.std.specs.Arc.{arc_value};
 ghost use Rattle.pf_model.specs.Sharding.{legs_over};
 ghost use Rattle.pf_shard.specs.Lawful.{IsLawful, leg_count, legs_data};
@@ -36,15 +36,18 @@ impl Model for Resolved {
 }
 
 /// The legs of a query: one for each of its nodes that are evaluated shard by shard and each shard, the shards of a node one
-/// after another, or where there is no such node one for the whole query. Nodes are numbered in preorder, from 0.
+/// after another, or where there is no such node one for the whole query. Nodes are numbered in preorder, from 0. `series` has
+/// for each leg of a node the ids of the series that it reads, in label order; there are none before a snapshot is at hand.
 #[derive(Drop)]
 pub struct Legs {
     pub resolved: Arc<Resolved>,
     pub nodes: Vec<u32>,
     pub shards: u32,
+    pub series: Vec<Vec<u32>>,
 }
 
 impl Model for Legs {
+    ghost use Rattle.std.specs.Prelude.{map};
     ghost use Rattle.std.specs.Arc.{arc_value};
     ghost use Rattle.pf_shard.specs.Lawful.{ResolvedLegs, legs_code};
 
@@ -52,17 +55,17 @@ impl Model for Legs {
 
     ghost coded = { legs_code };
 
-    ghost view = { λ l. record { resolved = arc_value l.resolved; nodes = l.nodes.items; shards = l.shards } };
+    ghost view = { λ l. record { resolved = arc_value l.resolved; nodes = l.nodes.items; shards = l.shards; series = map (λ v. v.items) l.series.items } };
 }
 
 /// The legs of a query over so many shards. A query is evaluated shard by shard where it has a selector, each selector stands in
 /// an aggregation whose shards can be merged, there is no subquery and there would be at most 256 legs; over one shard none is.
-/// This project's own, after Mimir's query sharding. It calls itself as deep as the tree is high. A tree of 2^32 nodes is told as
-/// want of memory.
+/// This project's own, after Mimir's query sharding. Which series the legs read is not found here. It calls itself as deep as the
+/// tree is high. A tree of 2^32 nodes is told as want of memory.
 #[tactic(auto, using(crate::proofs::LawfulLegs::rewritten_lawful))]
 pub fn rewrite(alloc: Global, resolved: Arc<Resolved>, n: u32) -> Result<Legs, OutOfMemory>
     requires { (1 ≤ n) × (n ≤ 64) }
-    ensures legs { IfOk result (λ l. l ≡ record { resolved = arc_value resolved; nodes = legs_over (arc_value resolved).query n; shards = n }) }
+    ensures legs { IfOk result (λ l. l ≡ record { resolved = arc_value resolved; nodes = legs_over (arc_value resolved).query n; shards = n; series = [] }) }
     ensures lawful { IfOk result (λ l. IsLawful (legs_data l)) }
 {
     let nodes = nodes_over(alloc, &resolved.expr, n)?;
@@ -70,6 +73,7 @@ pub fn rewrite(alloc: Global, resolved: Arc<Resolved>, n: u32) -> Result<Legs, O
         resolved,
         nodes,
         shards: n,
+        series: Vec::new(alloc),
     })
 }
 

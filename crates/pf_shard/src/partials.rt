@@ -25,7 +25,7 @@ fn greater(a: Value, b: Value) -> Value
 }
 
 /// What two shards know of one group, together.
-fn together(a: Partial, b: Partial) -> Partial
+pub(crate) fn together(a: Partial, b: Partial) -> Partial
     requires { Fit a b }
     ensures { result ≡ merged (a ∷ b ∷ []) }
 {
