@@ -15,7 +15,7 @@ use Rattle.pf_query.specs.contracts.job.Job as Job
 use Rattle.pf_query.specs.contracts.queues.Queues as Queues
 use Rattle.pf_query.specs.contracts.table.Table as Table
 use Rattle.pf_query.specs.contracts.work.Work as Work
-use Rattle.pf_shard.proofs.Crossing.{legs_cross}
+use Rattle.pf_shard.proofs.Crossing.{groups_cross, legs_cross}
 
 Expr-send : IsSend Expr.the_field.row
 Expr-send = search (crosses, knot.crosses, sendable) depth 60 fits 20000
@@ -60,10 +60,10 @@ Queues-sync = search (Job-sync, crosses, sendable) depth 60 fits 20000
 pub ruleset jobs_cross = (Snap-send, Snap-sync, Job-send, Job-sync, Held-send, Held-sync, Queues-send, Queues-sync)
 
 Work-send : IsSend Work.the_row
-Work-send = search (legs_cross, steps_cross, crosses, sendable) depth 60 fits 20000
+Work-send = search (legs_cross, groups_cross, steps_cross, crosses, sendable) depth 60 fits 20000
 
 Work-sync : IsSync Work.the_row
-Work-sync = search (legs_cross, steps_cross, crosses, sendable) depth 60 fits 20000
+Work-sync = search (legs_cross, groups_cross, steps_cross, crosses, sendable) depth 60 fits 20000
 
 pub Table-send : IsSend Table.the_field.row
 Table-send = search (Work-send, Queues-send, maps_cross, crosses, sendable) depth 60 fits 20000
