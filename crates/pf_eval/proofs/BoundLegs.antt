@@ -51,7 +51,7 @@ merged_is samples legs w s i k t h = same_cell (step_at s k) (eval samples legs.
 
 -- ---- the last of one
 
-last_of : {X : Type 0} (xs rest : List X) (x : X) → length xs ≡ 1 → xs ≡ rest ++ (x ∷ []) → slice_get xs 0 ≡ Some x
+pub last_of : {X : Type 0} (xs rest : List X) (x : X) → length xs ≡ 1 → xs ≡ rest ++ (x ∷ []) → slice_get xs 0 ≡ Some x
 last_of xs [] x n e = ap (λ zs. slice_get zs 0) e
 last_of xs (y ∷ rest) x n e =
     let many : length ((y ∷ rest) ++ (x ∷ [])) ≡ 1 = ap length (sym e) ∙ n in

@@ -8,7 +8,7 @@ use Rattle.pf_model.specs.Trees as tree
 use Rattle.pf_model.specs.Trees.{Tree, Trees, all_preorder, preorder}
 use Rattle.pf_eval.specs.Bound.{Begins, all_series_in, behind, series_in}
 
-matchers_append : (xs ys : List Tree) → matchers_in (xs ++ ys) ≡ matchers_in xs ++ matchers_in ys
+pub matchers_append : (xs ys : List Tree) → matchers_in (xs ++ ys) ≡ matchers_in xs ++ matchers_in ys
 matchers_append [] ys = refl
 matchers_append (tree.number v ∷ xs) ys = matchers_append xs ys
 matchers_append (tree.text bytes ∷ xs) ys = matchers_append xs ys

@@ -58,11 +58,11 @@ are_times n times h = λ k l. is_time n (time_at times k) (h.all k l)
 
 -- ---- patterns
 
-there_left : (xs ys ps : List (List ℕ)) → AreThere (xs ++ ys) ps → AreThere xs ps
+pub there_left : (xs ys ps : List (List ℕ)) → AreThere (xs ++ ys) ps → AreThere xs ps
 there_left [] ys ps h = tt
 there_left (x ∷ xs) ys ps h = (h.0, there_left xs ys ps h.1)
 
-there_right : (xs ys ps : List (List ℕ)) → AreThere (xs ++ ys) ps → AreThere ys ps
+pub there_right : (xs ys ps : List (List ℕ)) → AreThere (xs ++ ys) ps → AreThere ys ps
 there_right [] ys ps h = h
 there_right (x ∷ xs) ys ps h = there_right xs ys ps h.1
 
@@ -82,13 +82,13 @@ module _ (xs ys : List Tree) (ps : List (List ℕ)) (h : AreThere (patterns_in (
   both_there : AreThere (patterns_in xs ++ patterns_in ys) ps
   both_there = subst (λ ts. AreThere ts ps) (patterns_append xs ys) h
 
-  first_there : AreThere (patterns_in xs) ps
+  pub first_there : AreThere (patterns_in xs) ps
   first_there = there_left (patterns_in xs) (patterns_in ys) ps both_there
 
-  second_there : AreThere (patterns_in ys) ps
+  pub second_there : AreThere (patterns_in ys) ps
   second_there = there_right (patterns_in xs) (patterns_in ys) ps both_there
 
-all_there : (ts ps : List (List ℕ)) → All (λ text. list_any (λ p. bytes_eq p text) ps ≡ true) ts → AreThere ts ps
+pub all_there : (ts ps : List (List ℕ)) → All (λ text. list_any (λ p. bytes_eq p text) ps ≡ true) ts → AreThere ts ps
 all_there [] ps h = tt
 all_there (t ∷ ts) ps h = (h 0 t (omega arith), all_there ts ps (λ k d l. h (suc k) d (omega (arith, l))))
 
@@ -203,7 +203,7 @@ or_right : (a b : Bool) → b ≡ true → (a || b) ≡ true
 or_right true b h = refl
 or_right false b h = h
 
-evaluated_arguments : (ts : Trees) → are_evaluated ts ≡ true → are_arguments ts ≡ true
+pub evaluated_arguments : (ts : Trees) → are_evaluated ts ≡ true → are_arguments ts ≡ true
 evaluated_arguments tree.none h = refl
 evaluated_arguments (tree.more a ts) h =
     let w = two_true (is_evaluated a) (are_evaluated ts) h in

@@ -1,8 +1,8 @@
 pub mod Aggregates
 pub mod Answered
 pub mod Bads
-pub mod BoundLists
 pub mod BoundLegs
+pub mod BoundLists
 pub mod BoundNodes
 pub mod CalledParts
 pub mod Changes
@@ -10,9 +10,16 @@ pub mod GivenParts
 pub mod InstantSteps
 pub mod JoinedCells
 pub mod LoopSteps
+pub mod MergedLegs
+pub mod MergedParts
 pub mod Moments
+pub mod NodeLegs
 pub mod NodeTexts
+pub mod NumberedNodes
 pub mod OneArgument
+pub mod PlainParts
 pub mod ReadTimes
 pub mod RunAnswers
+pub mod ShardLists
+pub mod ShardedNodes
 pub mod SplitArguments

@@ -1,7 +1,9 @@
 pub mod Arguments
 pub mod Bound
 pub mod Calls
+pub mod Merged
 pub mod Nodes
+pub mod Plain
 pub mod RunValues
 pub mod Strings
 pub mod Zipped

@@ -372,7 +372,7 @@ fn node_of<'a>(
 }
 
 /// A node as the value of a query: a scalar is an element without labels, or none, and a text is none.
-fn steps_of(alloc: Global, node: Node) -> Result<StepCells, OutOfMemory>
+pub(crate) fn steps_of(alloc: Global, node: Node) -> Result<StepCells, OutOfMemory>
     ensures { IfOk result (λ s. (k : ℕ) → step_at s k ≡ step_cell (node_at node k)) }
 {
     match node {
@@ -396,7 +396,7 @@ fn steps_of(alloc: Global, node: Node) -> Result<StepCells, OutOfMemory>
 }
 
 /// The times of a grid.
-fn times_of<'a>(grid: &Grid) -> Times<'a>
+pub(crate) fn times_of<'a>(grid: &Grid) -> Times<'a>
     ensures len { result.len ≡ grid.now.len }
     ensures room { HasRoom 64 result }
     ensures times { (k : ℕ) → k < grid.now.len → time_at result k ≡ pos (grid.now.start + k * grid.now.step) }

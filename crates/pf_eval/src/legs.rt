@@ -1,26 +1,34 @@
-//! Queries bound over snapshots, what their legs are over runs, and what legs are together.
+//! Queries bound over snapshots, and what their legs are over runs.
 
-ghost use Rattle.std.specs.Prelude.{◌≡◌, ◌<◌, ◌+◌, ◌*◌, ℕ, pos, List, [], length, Some, IfOk};
-ghost use Rattle.std.specs.List.{slice_get};
+ghost use Rattle.std.specs.Prelude.{◌≡◌, ◌<◌, ◌≤◌, ◌+◌, ◌*◌, ℕ, pos, true, List, [], length, Some, IfOk};
+ghost use Rattle.std.specs.List.{All};
 ghost use Rattle.pf_base.specs.declared.plain.Row.{Row};
 ghost use Rattle.pf_model.specs.Binding.{bound_series, patterns_of};
+ghost use Rattle.pf_model.specs.Built.{is_evaluated};
 ghost use Rattle.pf_model.specs.Evaluation.{eval};
-ghost use Rattle.pf_model.specs.Legs.{leg_part};
+ghost use Rattle.pf_model.specs.Legs.{leg_part, node_part, of_shard};
 ghost use Rattle.pf_model.specs.Log.{AreApart};
+ghost use Rattle.pf_model.specs.Sharding.{is_sharded, legs_over};
+ghost use Rattle.pf_model.specs.Trees.{height, tree_of};
 ghost use Rattle.pf_columns.specs.Steps.{step_at};
 ghost use Rattle.pf_store.specs.Standing.{StandsFor};
 ghost use Rattle.pf_shard.specs.declared.parts.Part.{Part};
-ghost use Rattle.pf_shard.specs.Lawful.{legs_data};
-ghost use Rattle.pf_shard.specs.LegParts.{part_at};
-ghost use Rattle.pf_shard.specs.Bound.{IsBoundOver};
+ghost use Rattle.pf_shard.specs.Bound.{AreBoundOver, IsBoundOver, node_matchers, shard_ids};
+ghost use Rattle.pf_shard.specs.Groups.{groups_at};
+ghost use Rattle.pf_shard.specs.Lawful.{IsLawful, leg_count, legs_data};
+ghost use Rattle.pf_shard.specs.LegParts.{FitsNodes, part_at};
 
 use crate::bound::steps_over;
+use crate::numbered::numbered;
+use crate::plain::plain_steps;
+use crate::sharding::all_by_shard;
 use pf_base::{Grid, OutOfMemory};
 use pf_block::Snap;
 use pf_columns::StepCells;
 use pf_index::select_all;
+use pf_model::Expr;
 use pf_query::Asked;
-use pf_shard::{Legs, Part, Resolved};
+use pf_shard::{GroupSteps, Legs, Part, Resolved, partials_over, rewrite};
 use std::alloc::Global;
 use std::sync::Arc;
 
@@ -40,6 +48,29 @@ pub fn bind(alloc: Global, asked: &Asked, snap: &Snap) -> Result<Resolved, OutOf
         series,
         patterns,
     })
+}
+
+/// The legs of what is asked over a snapshot, over so many shards, each with the series that it reads. Each series' shard is
+/// found once.
+pub fn legs_over(
+    alloc: Global,
+    asked: &Asked,
+    snap: &Snap,
+    shards: u32,
+) -> Result<Legs, OutOfMemory>
+    requires { (1 ≤ shards) × (shards ≤ 64) }
+    ensures data { IfOk result (λ l. legs_data l ≡ record { query = asked.now.query.tree; nodes = legs_over asked.now.query.tree shards; shards = shards }) }
+    ensures lawful { IfOk result (λ l. IsLawful (legs_data l)) }
+    ensures bound { IfOk result (λ l. AreBoundOver l snap.now.labels) }
+{
+    let resolved = Arc::new(alloc, bind(alloc, asked, snap)?)?;
+    let mut legs = rewrite(alloc, resolved, shards)?;
+    if legs.nodes.is_empty() {
+        return Ok(legs);
+    }
+    let series = all_by_shard(alloc, snap, &legs.resolved.series, shards)?;
+    legs.series = series;
+    Ok(legs)
 }
 
 /// What a query over a snapshot is at each step of a run.
@@ -65,7 +96,54 @@ fn resolved_steps(
     Ok(steps)
 }
 
-/// What a leg is over a run, where the query has one leg, its own.
+/// What a shard knows of the groups of an aggregation over a run, from the series of the shard that its selector reads.
+fn node_groups(
+    alloc: Global,
+    node: &Expr,
+    snap: &Snap,
+    ids: &[u32],
+    run: &Grid,
+) -> Result<GroupSteps, OutOfMemory>
+    requires sharded { is_sharded (tree_of node.now) ≡ true }
+    requires evaluated { is_evaluated (tree_of node.now) ≡ true }
+    requires low { height (tree_of node.now) ≤ 64 }
+    requires inside { All (λ id. id < length snap.now.labels) ids.now }
+    ensures { IfOk result (λ g. (samples : List Row) (shard shards : ℕ) → StandsFor snap.now samples → AreApart samples
+        → ids.now ≡ shard_ids shard shards (node_matchers (Some (tree_of node.now))) snap.now.labels → (k : ℕ) → k < run.now.len
+        → groups_at g k ≡ node_part (Some (tree_of node.now)) (of_shard shard shards samples) (pos (run.now.start + k * run.now.step))) }
+{
+    let Expr::Aggregate { grouping, args, .. } = node else {
+        unreachable!()
+    };
+    let steps = plain_steps(alloc, snap, &args[0], ids, run)?;
+    let groups = partials_over(alloc, grouping, steps, run.len())?;
+    Ok(groups)
+}
+
+/// What a leg of a node is over a run.
+fn node_leg(
+    alloc: Global,
+    legs: &Legs,
+    leg: u32,
+    snap: &Snap,
+    run: &Grid,
+) -> Result<GroupSteps, OutOfMemory>
+    requires lawful { IsLawful (legs_data legs.now) }
+    requires nodes { legs.now.nodes ≡ [] → ⊥ }
+    requires leg { leg < leg_count (legs_data legs.now) }
+    requires bound { AreBoundOver legs.now snap.now.labels }
+    ensures { IfOk result (λ g. (samples : List Row) → StandsFor snap.now samples → AreApart samples → (k : ℕ) → k < run.now.len
+        → groups_at g k ≡ leg_part samples (legs_data legs.now) leg (pos (run.now.start + k * run.now.step))) }
+{
+    let number = legs.nodes[(leg / legs.shards) as usize];
+    let node = numbered(&legs.resolved.expr, number);
+    let ids = &legs.series[leg as usize];
+    let groups = node_groups(alloc, node, snap, ids, run)?;
+    Ok(groups)
+}
+
+/// What a leg is over a run: the value of the query, where it has one leg, or else what a shard knows of the groups of a node.
+/// Prometheus, Querying basics; that legs are evaluated one by one is this project's own, after Mimir's query sharding.
 pub fn eval_leg(
     alloc: Global,
     legs: &Legs,
@@ -73,43 +151,17 @@ pub fn eval_leg(
     snap: &Snap,
     run: &Grid,
 ) -> Result<Part, OutOfMemory>
-    requires whole { legs.now.nodes ≡ [] }
-    requires leg { leg ≡ 0 }
-    requires bound { IsBoundOver legs.now.resolved snap.now.labels }
+    requires lawful { IsLawful (legs_data legs.now) }
+    requires leg { leg < leg_count (legs_data legs.now) }
+    requires bound { AreBoundOver legs.now snap.now.labels }
+    ensures fits { IfOk result (λ p. FitsNodes legs.now.nodes p) }
     ensures value { IfOk result (λ p. (samples : List Row) → StandsFor snap.now samples → AreApart samples → (k : ℕ) → k < run.now.len
         → part_at p k ≡ leg_part samples (legs_data legs.now) leg (pos (run.now.start + k * run.now.step))) }
 {
-    let steps = resolved_steps(alloc, &legs.resolved, snap, run)?;
-    Ok(Part::Whole(steps))
-}
-
-/// What the whole query is at each step.
-fn whole_of(part: Part) -> StepCells
-    ensures { part ≡ Part.Whole result }
-{
-    let Part::Whole(steps) = part;
-    steps
-}
-
-/// What the legs of a query are together over a run: the value of the query at each step. The parts are taken, and nothing of
-/// them is copied.
-pub fn merge(
-    alloc: Global,
-    legs: &Legs,
-    parts: Vec<Part>,
-    run: &Grid,
-) -> Result<StepCells, OutOfMemory>
-    requires whole { legs.now.nodes ≡ [] }
-    requires one { length parts.items ≡ 1 }
-    ensures value { IfOk result (λ s. (samples : List Row)
-        → ((i : ℕ) (p : Part) → slice_get parts.items i ≡ Some p → (k : ℕ) → k < run.now.len
-        → part_at p k ≡ leg_part samples (legs_data legs.now) i (pos (run.now.start + k * run.now.step)))
-        → (k : ℕ) → k < run.now.len → step_at s k ≡ eval samples legs.now.resolved.query (pos (run.now.start + k * run.now.step))) }
-{
-    let mut parts = parts;
-    let Some(part) = parts.pop() else {
-        unreachable!()
-    };
-    let steps = whole_of(part);
-    Ok(steps)
+    if legs.nodes.is_empty() {
+        let steps = resolved_steps(alloc, &legs.resolved, snap, run)?;
+        return Ok(Part::Whole(steps));
+    }
+    let groups = node_leg(alloc, legs, leg, snap, run)?;
+    Ok(Part::Groups(groups))
 }

@@ -2,8 +2,8 @@
 //!
 //! What the layers above use: `eval_bound` is the direct evaluation of a query over a grid, from the series that its selectors
 //! take of a snapshot and the patterns of its calls. It goes node by node over the whole run, in columns; `is_evaluated` tells
-//! which queries it does. By legs and runs it goes so: `bind` puts what is asked over a snapshot, `eval_leg` gives what a leg is
-//! over a run, `merge` what the legs are together there, and `gather_runs` the answer of the runs.
+//! which queries it does. By legs and runs it goes so: `legs_over` puts what is asked over a snapshot, in legs, `eval_leg`
+//! gives what a leg is over a run, `merge` what the legs are together there, and `gather_runs` the answer of the runs.
 #![tactic(auto)]
 
 mod aggregation;
@@ -15,14 +15,20 @@ mod change;
 mod given;
 mod instant;
 mod legs;
+mod merged;
+mod merging;
 mod node;
+mod numbered;
 mod operation;
 mod pairing;
+mod plain;
 mod reading;
 mod runs;
+mod sharding;
 mod subquery;
 
 pub use bound::{EvalError, eval_bound};
 pub use built::is_evaluated;
-pub use legs::{bind, eval_leg, merge};
+pub use legs::{bind, eval_leg, legs_over};
+pub use merging::merge;
 pub use runs::gather_runs;

@@ -10,8 +10,10 @@ ghost use Rattle.pf_model.specs.Built.{are_near, is_distance, name_labels};
 ghost use Rattle.pf_model.specs.Cells.{cell_of};
 ghost use Rattle.pf_model.specs.Evaluation.{fixed_time, read_time, selected, selection, timed};
 ghost use Rattle.pf_model.specs.InstantFunctions.{absent_labels, each_value};
+ghost use Rattle.pf_model.specs.Legs.{of_shard};
 ghost use Rattle.pf_model.specs.Log.{AreApart};
 ghost use Rattle.pf_model.specs.Outcomes.{elements, of_cell, range_call};
+ghost use Rattle.pf_shard.specs.Bound.{shard_ids};
 ghost use Rattle.pf_store.specs.Standing.{StandsFor};
 ghost use Rattle.pf_selectors.specs.Times.{AreStarts, AreTimes, time_at};
 ghost use Rattle.pf_eval.specs.Bound.{HasLevels, HasRoom};
@@ -101,6 +103,9 @@ pub(crate) fn selection(
     ensures kind { IfOk result (λ n. is_text n ≡ false) }
     ensures value { IfOk result (λ n. (samples : List Row) (ms : List Matcher) → StandsFor snap.now samples → ids.now ≡ accepted_ids ms snap.now.labels → (k : ℕ) → k < times.now.len
         → node_at n k ≡ elements (selected samples ms (read_time mods (time_at times.now k)))) }
+    ensures shard { IfOk result (λ n. (samples : List Row) (ms : List Matcher) (shard shards : ℕ) → StandsFor snap.now samples
+        → ids.now ≡ shard_ids shard shards ms snap.now.labels → (k : ℕ) → k < times.now.len
+        → node_at n k ≡ elements (selected (of_shard shard shards samples) ms (read_time mods (time_at times.now k)))) }
 {
     let read = read_times(mods, times);
     let found = selected(alloc, snap, ids, &read)?;
@@ -124,6 +129,9 @@ fn over_windows(
     ensures kind { IfOk result (λ n. is_text n ≡ false) }
     ensures value { IfOk result (λ n. (samples : List Row) → StandsFor snap.now samples → AreApart samples → ids.now ≡ accepted_ids selector.now snap.now.labels → (k : ℕ) → k < read.now.len
         → node_at n k ≡ range_call f (absent_labels selector.now) (selection samples selector.now (Some range) (time_at read.now k) ∷ [])) }
+    ensures shard { IfOk result (λ n. (samples : List Row) (shard shards : ℕ) → StandsFor snap.now samples → AreApart samples
+        → ids.now ≡ shard_ids shard shards selector.now snap.now.labels → (k : ℕ) → k < read.now.len
+        → node_at n k ≡ range_call f (absent_labels selector.now) (selection (of_shard shard shards samples) selector.now (Some range) (time_at read.now k) ∷ [])) }
 {
     let absent = absent_labels(alloc, selector)?;
     let found = ranged(alloc, f, &absent, range, snap, ids, read)?;
@@ -137,6 +145,9 @@ fn times_read(alloc: Global, snap: &Snap, ids: &[u32], read: &Times) -> Result<N
     ensures kind { IfOk result (λ n. is_text n ≡ false) }
     ensures value { IfOk result (λ n. (samples : List Row) (ms : List Matcher) → StandsFor snap.now samples → ids.now ≡ accepted_ids ms snap.now.labels → (k : ℕ) → k < read.now.len
         → node_at n k ≡ of_cell (cell_of (each_value Some (selected (map timed samples) ms (time_at read.now k))))) }
+    ensures shard { IfOk result (λ n. (samples : List Row) (ms : List Matcher) (shard shards : ℕ) → StandsFor snap.now samples
+        → ids.now ≡ shard_ids shard shards ms snap.now.labels → (k : ℕ) → k < read.now.len
+        → node_at n k ≡ of_cell (cell_of (each_value Some (selected (map timed (of_shard shard shards samples)) ms (time_at read.now k))))) }
 {
     let found = sample_times(alloc, snap, ids, read)?;
     Ok(Node::Vector(found))
@@ -161,6 +172,9 @@ pub(crate) fn over_range(
     ensures kind { IfOk result (λ n. is_text n ≡ false) }
     ensures value { IfOk result (λ n. (samples : List Row) → StandsFor snap.now samples → AreApart samples → ids.now ≡ accepted_ids selector.now snap.now.labels → (k : ℕ) → k < times.now.len
         → node_at n k ≡ range_call f (absent_labels selector.now) (selection samples selector.now (Some range) (read_time mods (time_at times.now k)) ∷ [])) }
+    ensures shard { IfOk result (λ n. (samples : List Row) (shard shards : ℕ) → StandsFor snap.now samples → AreApart samples
+        → ids.now ≡ shard_ids shard shards selector.now snap.now.labels → (k : ℕ) → k < times.now.len
+        → node_at n k ≡ range_call f (absent_labels selector.now) (selection (of_shard shard shards samples) selector.now (Some range) (read_time mods (time_at times.now k)) ∷ [])) }
 {
     let read = read_times(mods, times);
     let found = over_windows(alloc, f, selector, range, snap, ids, &read)?;
@@ -181,6 +195,9 @@ pub(crate) fn timestamps(
     ensures kind { IfOk result (λ n. is_text n ≡ false) }
     ensures value { IfOk result (λ n. (samples : List Row) (ms : List Matcher) → StandsFor snap.now samples → ids.now ≡ accepted_ids ms snap.now.labels → (k : ℕ) → k < times.now.len
         → node_at n k ≡ of_cell (cell_of (each_value Some (selected (map timed samples) ms (read_time mods (time_at times.now k)))))) }
+    ensures shard { IfOk result (λ n. (samples : List Row) (ms : List Matcher) (shard shards : ℕ) → StandsFor snap.now samples
+        → ids.now ≡ shard_ids shard shards ms snap.now.labels → (k : ℕ) → k < times.now.len
+        → node_at n k ≡ of_cell (cell_of (each_value Some (selected (map timed (of_shard shard shards samples)) ms (read_time mods (time_at times.now k)))))) }
 {
     let read = read_times(mods, times);
     let found = times_read(alloc, snap, ids, &read)?;
