@@ -75,10 +75,10 @@ begun_state s limits t kept room j n table f total =
       actors = ap (λ (xs : List ℕ). length xs) f;
       summed = ap (λ (xs : List ℕ). sum xs) f ∙ sym total;
     } in
-    let jobs : AreJobs (map entry_of s.journal.items) s.limits.window (machine_in s).queries (entry_in s.table) (waiting_of s.table) =
-    subst (λ (es : List Entry). AreJobs es s.limits.window (machine_after started es).queries (entry_in s.table) (waiting_of s.table)) (sym entries) (record {
-      outstanding = λ p. subst (λ (e : Option EntryData). IsOutstanding s.limits.window None e) (sym (n.entries p)) tt;
-      waiting_for = λ u. subst (λ (js : List Job). Each (JobStands [] s.limits.window) js) (sym (n.queues.waiting u)) tt;
+    let jobs : AreJobs (map entry_of s.journal.items) s.limits (machine_in s).queries (entry_in s.table) (waiting_of s.table) =
+    subst (λ (es : List Entry). AreJobs es s.limits (machine_after started es).queries (entry_in s.table) (waiting_of s.table)) (sym entries) (record {
+      outstanding = λ p. subst (λ (e : Option EntryData). IsOutstanding s.limits None e) (sym (n.entries p)) tt;
+      waiting_for = λ u. subst (λ (js : List Job). Each (JobStands [] s.limits) js) (sym (n.queues.waiting u)) tt;
     }) in
     record {
       stands = stands s (begun_history s limits t kept room j) table counts jobs.outstanding

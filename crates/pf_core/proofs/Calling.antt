@@ -1,8 +1,7 @@
 -- What the table does for a call is what the call promises of the core.
-use Rattle.std.proofs.Common.{◌≡◌, ◌⊎◌, ℕ, ◌+◌, ◌*◌, ◌<◌, ◌≤◌, inl, inr, Bool, true, false, cond, map, nat_eq, Option, Some, None, List, [], ◌∷◌, ◌++◌, length, refl, sym, ap, ◌∙◌, arith, subst, slice_get, slice_set}
+use Rattle.std.proofs.Common.{◌≡◌, ◌⊎◌, ℕ, ◌+◌, ◌*◌, ◌/◌, ◌%◌, ◌<◌, ◌≤◌, inl, inr, Bool, true, false, cond, map, nat_eq, Option, Some, None, List, [], ◌∷◌, ◌++◌, length, refl, sym, ap, ◌∙◌, arith, subst, slice_get}
 use Rattle.std.specs.Arc.{arc_value}
 use Rattle.std.specs.Prelude.{MatchOption, sum}
-use Rattle.std.proofs.lemmas.Bool.Decides.{nat_tests}
 use Rattle.std.proofs.lemmas.Option.{slice_get_within}
 use Rattle.pf_base.specs.GridLists.{GridData}
 use Rattle.pf_base.specs.declared.plain.JobHead.{JobHead}
@@ -11,14 +10,15 @@ use Rattle.pf_block.specs.Snaps.{SnapData}
 use Rattle.pf_journal.specs.Legal.{machine_after}
 use Rattle.pf_journal.specs.Machine.{Entry, Open, open_at, started}
 use Rattle.pf_journal.specs.Weave.{failed_answers}
+use Rattle.pf_model.specs.Legs.{LegsData}
 use Rattle.pf_model.specs.Lists.{Each}
 use Rattle.pf_model.specs.Log.{store_of}
 use Rattle.pf_query.specs.Jobs.{has_hand, hand_of, is_empty, is_other_job, job_of_held, tried, without_hand}
 use Rattle.pf_query.specs.Queueing as queues
-use Rattle.pf_query.specs.Queueing.{AreSame, AreWith, put_last}
+use Rattle.pf_query.specs.Queueing.{put_last}
 use Rattle.pf_shard.specs.declared.parts.Part.{Part}
 use Rattle.pf_query.specs.Tables as table
-use Rattle.pf_query.specs.Tables.{EntryData, IsHeldOf, IsSameTable, IsTable, Stops, entry_in, hands_of, hands_with, jobs_in, ring_of, stopped, waiting_of}
+use Rattle.pf_query.specs.Tables.{EntryData, IsHeldOf, IsSameTable, IsTable, Stops, entry_in, hands_of, ring_of, stopped, waiting_of}
 use Rattle.pf_query.specs.Entries.{is_planned, stop_after}
 use Rattle.pf_query.specs.Works.{WorkData, filled, last_of, legs_in, planned_work}
 use Rattle.pf_query.specs.declared.answers.FailedTry.TheVariants as failed
@@ -27,27 +27,26 @@ use Rattle.pf_query.specs.declared.answers.PlanError.TheVariants as plan_error
 use Rattle.pf_query.specs.declared.job.Hand.{Hand}
 use Rattle.pf_query.specs.declared.job.Held.{Held}
 use Rattle.pf_query.specs.declared.job.Job.{Job}
-use Rattle.pf_query.specs.declared.slot.Slot.TheVariants.{Empty, Filled}
+use Rattle.pf_query.specs.declared.slot.Slot.TheVariants.{Empty}
 use Rattle.pf_query.specs.declared.stop.Stop.{Stop}
 use Rattle.pf_query.specs.declared.table.Table.{Table}
 use Rattle.pf_query.specs.declared.stop.Stop.TheVariants.{Cancelled, Exhausted, Starved}
-use Rattle.pf_shard.specs.Lawful.{ResolvedLegs, legs_data}
+use Rattle.pf_shard.specs.Lawful.{ResolvedLegs, leg_count, legs_data}
+use Rattle.pf_shard.specs.LegParts.{FitsNodes}
 use Rattle.pf_core.specs.Asks.{as_opened, opened_at}
-use Rattle.pf_core.specs.Calls.{ChangesQueue, IsNotHeld, IsOpenWith, IsPartOf, IsPlanned, IsPlannedBefore, IsReleased, IsStoppedBy, IsTaken, IsTried, IsUnplanned, IsWhole, StandsForAsk, StopsQuery, counted, is_in_hand, ring_with}
+use Rattle.pf_core.specs.Calls.{ChangesQueue, IsNotHeld, IsOpenWith, IsPartOf, IsPlanned, IsPlannedBefore, IsReleased, IsStoppedBy, IsTaken, IsTried, IsUnplanned, IsWhole, StandsForAsk, StopsQuery, counted, is_in_hand, leg_count_of, planned_for, ring_with}
 use Rattle.pf_core.specs.Cores.{AreCovered, CoreData, HasQueue, IsSameHistory, open_tries, queue_at}
 use Rattle.pf_core.specs.Entries.{entry_of}
-use Rattle.pf_core.specs.Jobs.{AreRunsOf, IsForAsk, IsLegsOf, IsRunOf, IsValueOver, QueueHeads, by_tenant, failures_after, planned_heads, runs_of, tried_in}
+use Rattle.pf_core.specs.Jobs.{AreRunsOf, IsForAsk, IsLegsOf, IsRunOf, IsValueOver, QueueHeads, by_tenant, failures_after, legs_asked, planned_heads, runs_of, tried_in}
 use Rattle.pf_core.specs.Progress as progress
 use Rattle.pf_core.specs.Progress.{QueryProgress, begun, cancel_in, exhausted_in, planned, progress_at, with_progress}
 use Rattle.pf_core.specs.States.{AreCounts, IsAhead, IsEntryOf, IsOutstanding, IsState, IsWorkOf, JobStands, KeepsFailures, KeepsHistory, core_of, far_of, heads_in, machine_in, progress_of}
 use Rattle.pf_core.specs.declared.state.State.{State}
 use Rattle.pf_core.proofs.Asked.{asked_open}
 use Rattle.pf_core.proofs.Covered.{covered_ahead, covered_less, tried_added, tried_back, tried_dropped, tried_hands, tried_left, tried_released, tried_table, tried_taken, untried}
-use Rattle.pf_core.proofs.Lists.{get_set_other, get_set_same}
-use Rattle.pf_core.proofs.Machines.{bool_cases}
 use Rattle.pf_core.proofs.Outstanding.{closed_there, each_filter, each_front, entry_there, jobs_with, none_there, open_there, outstanding_same, outstanding_set}
 use Rattle.pf_core.proofs.Progressing.{exhausted_no_more, exhausted_one, far_at, far_kept, far_set, not_by_want}
-use Rattle.pf_core.proofs.Runs.{empty_unfilled, heads_planned, jobs_planned, many_planned, own_run, run_at, same_run, whole_values}
+use Rattle.pf_core.proofs.Runs.{empty_unfilled, filled_at, heads_planned, jobs_planned, run_at, same_run}
 use Rattle.pf_core.proofs.Standing.{counts_as, left_by, state_beside}
 use Rattle.pf_core.proofs.Tenanted.{empty_heads, has_queue, head_of, map_front, queue_is, tries_table}
 
@@ -106,8 +105,8 @@ covered_same old new h k f tries same = covered_beside old new h k f tries (let 
 pub state_same : (old new : State) → IsState old → KeepsHistory old new → KeepsFailures old new → IsTable new.table → IsSameTable old.table new.table → IsState new
 state_same old new h k f t e =
     state_beside old new h k t (counts_as old new f h.counts)
-    (outstanding_same old.limits.window (machine_in old).queries (entry_in old.table) (entry_in new.table) h.jobs.outstanding e.entries)
-    (λ u. subst (λ (js : List Job). Each (JobStands (map entry_of old.journal.items) old.limits.window) js) (sym (e.queues.queues u).waiting) (h.jobs.waiting_for u))
+    (outstanding_same old.limits (machine_in old).queries (entry_in old.table) (entry_in new.table) h.jobs.outstanding e.entries)
+    (λ u. subst (λ (js : List Job). Each (JobStands (map entry_of old.journal.items) old.limits) js) (sym (e.queues.queues u).waiting) (h.jobs.waiting_for u))
     (subst AreCovered (sym (core_same old new k f.failed e)) h.stands.covered)
 
 -- ---- entries and open queries
@@ -116,12 +115,12 @@ state_same old new h k f t e =
 pub record HasAsk (s : State) (query : ℕ) (d : EntryData) : Type 0 where
   pub opened : Open
   pub there : open_at query (machine_in s).queries ≡ Some opened
-  pub is : IsEntryOf s.limits.window opened d
+  pub is : IsEntryOf s.limits opened d
   pub asked : opened_at (map entry_of s.journal.items) query ≡ Some (as_opened opened)
 
 pub ask_of : (s : State) (query : ℕ) (d : EntryData) → IsState s → entry_in s.table query ≡ Some d → HasAsk s query d
 ask_of s query d h e =
-    let found = open_there s.limits.window (open_at query (machine_in s).queries) (entry_in s.table query) d (h.jobs.outstanding query) e in
+    let found = open_there s.limits (open_at query (machine_in s).queries) (entry_in s.table query) d (h.jobs.outstanding query) e in
     record {
       opened = found.opened;
       there = found.there;
@@ -157,13 +156,13 @@ open_still old new query stop j p o = record {
 pub taken_state : (old new : State) (actor : ℕ) (held : Held) → IsState old → KeepsHistory old new → KeepsFailures old new → IsTable new.table
     → table.IsTakenFrom old.table actor held new.table → IsState new
 taken_state old new actor held h k f t taken =
-    let w = old.limits.window in
+    let l = old.limits in
     let q = taken.taken in
-    let all : Each (JobStands (map entry_of old.journal.items) w) (q.job ∷ q.jobs) =
-    subst (λ (js : List Job). Each (JobStands (map entry_of old.journal.items) w) js) q.waiting (h.jobs.waiting_for q.tenant) in
+    let all : Each (JobStands (map entry_of old.journal.items) l) (q.job ∷ q.jobs) =
+    subst (λ (js : List Job). Each (JobStands (map entry_of old.journal.items) l) js) q.waiting (h.jobs.waiting_for q.tenant) in
     state_beside old new h k t (counts_as old new f h.counts)
-    (outstanding_same w (machine_in old).queries (entry_in old.table) (entry_in new.table) h.jobs.outstanding taken.entries)
-    (jobs_with (map entry_of old.journal.items) w q.tenant (waiting_of old.table) (waiting_of new.table) q.jobs h.jobs.waiting_for q.left.waiting all.1
+    (outstanding_same l (machine_in old).queries (entry_in old.table) (entry_in new.table) h.jobs.outstanding taken.entries)
+    (jobs_with (map entry_of old.journal.items) l q.tenant (waiting_of old.table) (waiting_of new.table) q.jobs h.jobs.waiting_for q.left.waiting all.1
     (λ v d. (q.left.others v d).waiting))
     (covered_same old new h k f (tried_taken old.table new.table actor held q) (progress_same old new k taken.entries))
 
@@ -188,9 +187,9 @@ taken_core old new actor held h k f t taken = record {
     progress_is = progress_same old new k taken.entries;
   };
   stands = subst (λ (x : Held). StandsForAsk (core_of new) x) (sym q.held_is)
-      (subst (λ (js : List Entry). IsForAsk js new.limits.window q.job.head (arc_value q.job.legs) q.job.run (arc_value q.job.snap))
+      (subst (λ (js : List Entry). IsForAsk js new.limits q.job.head (arc_value q.job.legs) q.job.run (arc_value q.job.snap))
       (sym (ap (λ (v : _). map entry_of v.items) k.journal))
-      (subst (λ (l : Limits). IsForAsk (map entry_of old.journal.items) l.window q.job.head (arc_value q.job.legs) q.job.run (arc_value q.job.snap)) (sym k.limits) all.0));
+      (subst (λ (l : Limits). IsForAsk (map entry_of old.journal.items) l q.job.head (arc_value q.job.legs) q.job.run (arc_value q.job.snap)) (sym k.limits) all.0));
   whole = open_still (core_of old) (core_of new) held.head.query None (ap (λ (v : _). map entry_of v.items) k.journal) (progress_same old new k taken.entries)
       (open_with old held.head.query d None a there refl);
   own = ap (λ (x : Held). x.head.tenant) q.held_is ∙ taken.waited.tenant_is;
@@ -201,11 +200,8 @@ taken_core old new actor held h k f t taken = record {
   q : queues.IsTaken old.table.queues actor held new.table.queues
   q = taken.taken
 
-  w : ℕ
-  w = old.limits.window
-
-  all : Each (JobStands (map entry_of old.journal.items) w) (q.job ∷ q.jobs)
-  all = subst (λ (js : List Job). Each (JobStands (map entry_of old.journal.items) w) js) q.waiting (h.jobs.waiting_for q.tenant)
+  all : Each (JobStands (map entry_of old.journal.items) old.limits) (q.job ∷ q.jobs)
+  all = subst (λ (js : List Job). Each (JobStands (map entry_of old.journal.items) old.limits) js) q.waiting (h.jobs.waiting_for q.tenant)
 
   changed : HasQueue (core_of old) q.tenant (record { waiting = map head_of q.jobs; hands = hands_of old.table q.tenant ++ hand_of held ∷ [] })
       (cond (is_empty q.jobs) q.tenants (q.tenants ++ q.tenant ∷ [])) (core_of new)
@@ -255,8 +251,8 @@ pub released_state : (old new : State) (held : Held) → IsState old → KeepsHi
     → ((q : ℕ) → entry_in new.table q ≡ entry_in old.table q) → queues.IsReleased old.table.queues held new.table.queues → IsState new
 released_state old new held h k f t entries r =
     state_beside old new h k t (counts_as old new f h.counts)
-    (outstanding_same old.limits.window (machine_in old).queries (entry_in old.table) (entry_in new.table) h.jobs.outstanding entries)
-    (jobs_with (map entry_of old.journal.items) old.limits.window held.head.tenant (waiting_of old.table) (waiting_of new.table) (waiting_of old.table held.head.tenant)
+    (outstanding_same old.limits (machine_in old).queries (entry_in old.table) (entry_in new.table) h.jobs.outstanding entries)
+    (jobs_with (map entry_of old.journal.items) old.limits held.head.tenant (waiting_of old.table) (waiting_of new.table) (waiting_of old.table held.head.tenant)
     h.jobs.waiting_for r.waiting (h.jobs.waiting_for held.head.tenant) (λ v d. (r.others v d).waiting))
     (covered_same old new h k f (tried_released old.table new.table held r) (progress_same old new k entries))
 
@@ -268,7 +264,7 @@ in_hand_as s held b h e = ap (λ (q : QueueHeads). has_hand (hand_of held) q.han
 pub not_held : (s : State) (held : Held) → IsState s → table.IsNotHeld s.table held (entry_in s.table held.head.query) → IsNotHeld (core_of s) held
 not_held s held h n = by (entry_in s.table held.head.query) refl n where
   by : (e : Option EntryData) → entry_in s.table held.head.query ≡ e → table.IsNotHeld s.table held e → IsNotHeld (core_of s) held
-  by None e n = inl (closed_there s.limits.window (open_at held.head.query (machine_in s).queries) (entry_in s.table held.head.query)
+  by None e n = inl (closed_there s.limits (open_at held.head.query (machine_in s).queries) (entry_in s.table held.head.query)
       (h.jobs.outstanding held.head.query) e)
   by (Some d) e n = inr (open_with s held.head.query d None (ask_of s held.head.query d h e) e n.0, in_hand_as s held false h n.1)
 
@@ -285,64 +281,75 @@ whole_of s held w h is = open_with s held.head.query _ None (ask_of s held.head.
 
 -- ---- a part is stored
 
--- the run and the legs of a held job are those of its query
-pub stored_value : (s : State) (held : Held) (part : Part) (w : WorkData) (o : Open) → IsState s → StandsForAsk (core_of s) held → IsPartOf (core_of s) held part
-    → opened_at (map entry_of s.journal.items) held.head.query ≡ Some (as_opened o) → IsHeldOf s.table held w → IsWorkOf s.limits.window o w
-    → (run : GridData) → slice_get w.runs held.head.job ≡ Some run → IsValueOver (store_of s.limits.window o.log).samples (legs_data w.legs) 0 run part
-stored_value s held part w o h stands is asked of work run there =
-    let both : Some stands.at ≡ Some (as_opened o) = sym stands.asked ∙ asked in
-    let same : stands.at ≡ as_opened o = cc in
-    let own = own_run w.legs w.runs of.run held.head work.whole of.head in
-    let runs : Some of.run ≡ Some run = sym own.0 ∙ there in
+-- the legs of a held job are those of its query
+same_legs : (l : Limits) (held : Held) (w : WorkData) (at o : Open) (snap : SnapData) → IsLegsOf l at (arc_value held.legs) snap → at ≡ as_opened o → IsWorkOf l o w
+    → legs_data (arc_value held.legs) ≡ legs_data w.legs
+same_legs l held w at o snap is same work = is.legs_are ∙ ap (legs_asked l.shards) same ∙ sym work.legs_are
+
+-- its run and its leg too
+pub stored_value : (s : State) (held : Held) (part : Part) (w : WorkData) (o : Open) → (stands : StandsForAsk (core_of s) held) → IsPartOf (core_of s) held part
+    → stands.at ≡ as_opened o → IsHeldOf s.table held w → IsWorkOf s.limits o w
+    → (run : GridData) → slice_get w.runs (held.head.job / legs_in w.legs) ≡ Some run
+    → IsValueOver (store_of s.limits.window o.log).samples (legs_data w.legs) (held.head.job % legs_in w.legs) run part
+stored_value s held part w o stands is same of work run there =
+    let runs : Some of.run ≡ Some run = sym of.head.run_is ∙ there in
     let same_one : of.run ≡ run = cc in
     let grid = ap (λ (x : Open). x.asked.query.grid) same in
     let job_run : IsRunOf o.asked.query.grid held.run = subst (λ (g : GridData). IsRunOf g held.run) grid stands.job_of.run_is in
-    let own_one : IsRunOf o.asked.query.grid of.run = run_at o.asked.query.grid w.runs held.head.job of.run work.runs.each own.0 in
+    let own_one : IsRunOf o.asked.query.grid of.run = run_at o.asked.query.grid w.runs (held.head.job / legs_in w.legs) of.run work.runs.each of.head.run_is in
     let first : held.run.start ≡ of.run.start = sym stands.job_of.first ∙ of.head.first in
     let last : last_of held.run ≡ last_of of.run = sym stands.job_of.last ∙ of.head.last in
     let equal : held.run ≡ run = same_run o.asked.query.grid held.run of.run job_run own_one first last ∙ same_one in
-    let value : IsValueOver (store_of s.limits.window o.log).samples (legs_data (arc_value held.legs)) held.head.leg held.run part =
-    subst (λ (x : Open). IsValueOver (store_of s.limits.window x.log).samples (legs_data (arc_value held.legs)) held.head.leg held.run part) same (is stands.at stands.asked) in
-    let query : (arc_value held.legs).resolved.query ≡ w.legs.resolved.query =
-    stands.legs_of.query ∙ ap (λ (x : Open). x.asked.query.tree) same ∙ sym work.query in
-    subst (λ (r : GridData). IsValueOver (store_of s.limits.window o.log).samples (legs_data w.legs) 0 r part) equal
-    (whole_values (store_of s.limits.window o.log).samples (legs_data (arc_value held.legs)) (legs_data w.legs) held.head.leg 0 held.run part
-    stands.legs_of.whole work.whole query value)
+    let samples = (store_of s.limits.window o.log).samples in
+    let value : IsValueOver samples (legs_data (arc_value held.legs)) held.head.leg held.run part =
+    subst (λ (x : Open). IsValueOver (store_of s.limits.window x.log).samples (legs_data (arc_value held.legs)) held.head.leg held.run part) same
+    (is.value stands.at stands.asked) in
+    subst (λ (r : GridData). IsValueOver samples (legs_data w.legs) (held.head.job % legs_in w.legs) r part) equal
+    (subst (λ k. IsValueOver samples (legs_data w.legs) k held.run part) of.head.leg
+    (subst (λ (d : LegsData). IsValueOver samples d held.head.leg held.run part) (same_legs s.limits held w stands.at o (arc_value held.snap) stands.legs_of same work) value))
 
-work_filled : (window : ℕ) (o : Open) (w : WorkData) (job : ℕ) (part : Part) → IsWorkOf window o w → job < length w.slots
-    → ((run : GridData) → slice_get w.runs job ≡ Some run → IsValueOver (store_of window o.log).samples (legs_data w.legs) 0 run part)
-    → IsWorkOf window o (filled job part w)
-work_filled window o w job part h inside new = record {
-  query = h.query;
-  whole = h.whole;
+-- and its kind
+pub stored_fits : (s : State) (held : Held) (part : Part) (w : WorkData) (o : Open) → (stands : StandsForAsk (core_of s) held) → IsPartOf (core_of s) held part
+    → stands.at ≡ as_opened o → IsWorkOf s.limits o w → FitsNodes w.legs.nodes part
+stored_fits s held part w o stands is same work =
+    subst (λ (ns : List ℕ). FitsNodes ns part)
+    (ap (λ (d : LegsData). d.nodes) (same_legs s.limits held w stands.at o (arc_value held.snap) stands.legs_of same work)) is.fits
+
+work_filled : (l : Limits) (o : Open) (w : WorkData) (job : ℕ) (part : Part) → IsWorkOf l o w → job < length w.slots → FitsNodes w.legs.nodes part
+    → ((run : GridData) → slice_get w.runs (job / legs_in w.legs) ≡ Some run
+    → IsValueOver (store_of l.window o.log).samples (legs_data w.legs) (job % legs_in w.legs) run part)
+    → IsWorkOf l o (filled job part w)
+work_filled l o w job part h inside fits new = record {
+  legs_are = h.legs_are;
+  evaluable = h.evaluable;
   runs = h.runs;
-  values = λ i run p there g. elim (bool_cases (nat_eq i job)) [
-    | inl t ↦
-        let same : i ≡ job = grind (arith, nat_tests, t) in
-        let at_job : slice_get (slice_set w.slots job (Filled part)) i ≡ Some (Filled part) =
-        subst (λ x. slice_get (slice_set w.slots job (Filled part)) x ≡ Some (Filled part)) (sym same) (get_set_same w.slots job (Filled part) inside) in
-        let both : Some (Filled part) ≡ Some (Filled p) = sym at_job ∙ g in
-        let equal : part ≡ p = cc in
-        subst (λ (x : Part). IsValueOver (store_of window o.log).samples (legs_data w.legs) 0 run x) equal
-        (new run (subst (λ x. slice_get w.runs x ≡ Some run) same there))
-    | inr t ↦
-        let other : i ≡ job → ⊥ = λ e. grind (arith, nat_tests, t, e) in
-        h.values i run p there (sym (get_set_other w.slots job i (Filled part) other) ∙ g)
+  fits = λ i p g. elim (filled_at w.slots job i part p inside g) [
+    | inl both ↦ subst (λ (x : Part). FitsNodes w.legs.nodes x) both.1 fits
+    | inr was ↦ h.fits i p was
+  ];
+  values = λ i run p there g. elim (filled_at w.slots job i part p inside g) [
+    | inl both ↦
+        subst (λ (x : Part). IsValueOver (store_of l.window o.log).samples (legs_data w.legs) (i % legs_in w.legs) run x) both.1
+        (subst (λ x. IsValueOver (store_of l.window o.log).samples (legs_data w.legs) (x % legs_in w.legs) run part) (sym both.0)
+        (new run (subst (λ x. slice_get w.runs (x / legs_in w.legs) ≡ Some run) both.0 there)))
+    | inr was ↦ h.values i run p there was
   ];
 }
 
 pub stored_state : (old new : State) (held : Held) (part : Part) → IsState old → KeepsHistory old new → KeepsFailures old new → IsTable new.table
     → StandsForAsk (core_of old) held → IsPartOf (core_of old) held part → table.IsStored old.table held part new.table → IsState new
 stored_state old new held part h k f t stands is stored =
-    let window = old.limits.window in
+    let l = old.limits in
     let a = ask_of old held.head.query _ h stored.held_of.entry in
+    let both : Some stands.at ≡ Some (as_opened a.opened) = sym stands.asked ∙ a.asked in
+    let same : stands.at ≡ as_opened a.opened = cc in
     let inside = slice_get_within stored.work.slots held.head.job Empty stored.held_of.empty in
-    let work = work_filled window a.opened stored.work held.head.job part a.is.work inside
-    (stored_value old held part stored.work a.opened h stands is a.asked stored.held_of a.is.work) in
+    let work = work_filled l a.opened stored.work held.head.job part a.is.work inside (stored_fits old held part stored.work a.opened stands is same a.is.work)
+    (stored_value old held part stored.work a.opened stands is same stored.held_of a.is.work) in
     state_beside old new h k t (counts_as old new f h.counts)
-    (outstanding_set window held.head.query (machine_in old).queries a.opened _ (entry_in old.table) (entry_in new.table) h.jobs.outstanding a.there
+    (outstanding_set l held.head.query (machine_in old).queries a.opened _ (entry_in old.table) (entry_in new.table) h.jobs.outstanding a.there
     (record { tenant = a.is.tenant; stop = a.is.stop; work = work }) stored.entries)
-    (jobs_with (map entry_of old.journal.items) window held.head.tenant (waiting_of old.table) (waiting_of new.table) (waiting_of old.table held.head.tenant)
+    (jobs_with (map entry_of old.journal.items) l held.head.tenant (waiting_of old.table) (waiting_of new.table) (waiting_of old.table held.head.tenant)
     h.jobs.waiting_for stored.queues.waiting (h.jobs.waiting_for held.head.tenant) (λ v d. (stored.queues.others v d).waiting))
     (covered_same old new h k f (tried_released old.table new.table held stored.queues)
     (progress_kept old new held.head.query _ _ k stored.held_of.entry stored.entries refl))
@@ -361,12 +368,12 @@ pub stopped_state : (old new : State) (query : ℕ) (why : Stop) (d : EntryData)
     → AreCounts new.failed.items new.total
     → entry_in old.table query ≡ Some d → cancel_in (Some why) ≡ None → Stops old.table query why d hands new.table → AreCovered (core_of new) → IsState new
 stopped_state old new query why d hands h k t counts there other stops covered =
-    let window = old.limits.window in
+    let l = old.limits in
     let a = ask_of old query d h there in
     state_beside old new h k t counts
-    (outstanding_set window query (machine_in old).queries a.opened (stopped why d) (entry_in old.table) (entry_in new.table) h.jobs.outstanding a.there
+    (outstanding_set l query (machine_in old).queries a.opened (stopped why d) (entry_in old.table) (entry_in new.table) h.jobs.outstanding a.there
     (record { tenant = a.is.tenant; stop = stop_other d.stop why other ∙ a.is.stop; work = a.is.work }) stops.entries)
-    (jobs_with (map entry_of old.journal.items) window d.tenant (waiting_of old.table) (waiting_of new.table) _ h.jobs.waiting_for stops.queues.waiting
+    (jobs_with (map entry_of old.journal.items) l d.tenant (waiting_of old.table) (waiting_of new.table) _ h.jobs.waiting_for stops.queues.waiting
     (each_filter _ (is_other_job query) (waiting_of old.table d.tenant) (h.jobs.waiting_for d.tenant)) (λ v x. (stops.queues.others v x).waiting)) covered
 
 stopped_progress : (old new : State) (query : ℕ) (why : Stop) (d : EntryData) → KeepsHistory old new → entry_in old.table query ≡ Some d
@@ -427,12 +434,12 @@ pub counted_state : (old new : State) → IsState old → KeepsHistory old new �
     → IsState new
 counted_state old new h k table counts ahead =
     state_beside old new h k (subst IsTable (sym table) h.table) counts
-    (λ p. subst (λ (t : Table). IsOutstanding old.limits.window (open_at p (machine_in old).queries) (entry_in t p)) (sym table) (h.jobs.outstanding p))
-    (λ u. subst (λ (t : Table). Each (JobStands (map entry_of old.journal.items) old.limits.window) (waiting_of t u)) (sym table) (h.jobs.waiting_for u))
+    (λ p. subst (λ (t : Table). IsOutstanding old.limits (open_at p (machine_in old).queries) (entry_in t p)) (sym table) (h.jobs.outstanding p))
+    (λ u. subst (λ (t : Table). Each (JobStands (map entry_of old.journal.items) old.limits) (waiting_of t u)) (sym table) (h.jobs.waiting_for u))
     (ahead_covered (core_of new) ahead)
 
 again_job : (s : State) (held : Held) → StandsForAsk (core_of s) held
-    → JobStands (map entry_of s.journal.items) s.limits.window (job_of_held (held.head.tries + 1) held)
+    → JobStands (map entry_of s.journal.items) s.limits (job_of_held (held.head.tries + 1) held)
 again_job s held h = record {
   at = h.at;
   asked = h.asked;
@@ -443,11 +450,11 @@ again_job s held h = record {
 pub again_state : (old new : State) (held : Held) (tries : ℕ) → IsState old → KeepsHistory old new → KeepsFailures old new → IsTable new.table
     → IsAhead (core_of old) → StandsForAsk (core_of old) held → table.WaitsAgain old.table held tries new.table → IsState new
 again_state old new held tries h k f t ahead stands again =
-    let window = old.limits.window in
+    let l = old.limits in
     let u = held.head.tenant in
     state_beside old new h k t (counts_as old new f h.counts)
-    (outstanding_same window (machine_in old).queries (entry_in old.table) (entry_in new.table) h.jobs.outstanding again.entries)
-    (jobs_with (map entry_of old.journal.items) window u (waiting_of old.table) (waiting_of new.table) _ h.jobs.waiting_for again.queues.waiting
+    (outstanding_same l (machine_in old).queries (entry_in old.table) (entry_in new.table) h.jobs.outstanding again.entries)
+    (jobs_with (map entry_of old.journal.items) l u (waiting_of old.table) (waiting_of new.table) _ h.jobs.waiting_for again.queues.waiting
     (each_front _ (waiting_of old.table u) (job_of_held (held.head.tries + 1) held ∷ []) (h.jobs.waiting_for u) (again_job old held stands, tt))
     (λ v d. (again.queues.others v d).waiting))
     (covered_ahead (core_of old) (core_of new) (ap (λ (v : _). v.items) f.failed) (ap (λ (v : _). map entry_of v.items) k.journal)
@@ -546,7 +553,7 @@ pub lacked_none : (old new : State) (query : ℕ) (hands : EntryData → List Ha
     → MatchOption (entry_in old.table query) (IsSameTable old.table new.table) (λ d. Stops old.table query Starved d (hands d) new.table)
     → open_at query (machine_in old).queries ≡ None → core_of new ≡ core_of old
 lacked_none old new query hands h k f s e =
-    let none = none_there old.limits.window (open_at query (machine_in old).queries) (entry_in old.table query) (h.jobs.outstanding query) e in
+    let none = none_there old.limits (open_at query (machine_in old).queries) (entry_in old.table query) (h.jobs.outstanding query) e in
     core_same old new k f.failed (subst (λ (x : Option EntryData). MatchOption x (IsSameTable old.table new.table)
     (λ d. Stops old.table query Starved d (hands d) new.table)) none s)
 
@@ -555,7 +562,7 @@ pub lacked_some : (old new : State) (query : ℕ) (hands : ℕ → List Hand) (t
     → ((u : ℕ) → hands u ≡ told u)
     → (o : Open) → open_at query (machine_in old).queries ≡ Some o → StopsQuery (core_of old) o.tenant query Starved (told o.tenant) (core_of new)
 lacked_some old new query hands told h k f t s same o e =
-    let entry = entry_there old.limits.window (open_at query (machine_in old).queries) (entry_in old.table query) o (h.jobs.outstanding query) e in
+    let entry = entry_there old.limits (open_at query (machine_in old).queries) (entry_in old.table query) o (h.jobs.outstanding query) e in
     let stops : Stops old.table query Starved entry.kept (hands entry.kept.tenant) new.table =
     subst (λ (x : Option EntryData). MatchOption x (IsSameTable old.table new.table)
     (λ (d : EntryData). Stops old.table query Starved d (hands d.tenant) new.table)) entry.there s in
@@ -565,32 +572,33 @@ lacked_some old new query hands told h k f t s same o e =
 
 -- ---- a query is planned
 
-work_planned : (window : ℕ) (o : Open) (legs : ResolvedLegs) (snap : SnapData) (rs : List GridData) → IsLegsOf window o legs snap → AreRunsOf o.asked.query.grid rs
-    → IsWorkOf window o (planned_work legs rs)
-work_planned window o legs snap rs h runs = record {
-  query = h.query;
-  whole = h.whole;
+work_planned : (l : Limits) (o : Open) (legs : ResolvedLegs) (snap : SnapData) (rs : List GridData) → IsLegsOf l o legs snap → AreRunsOf o.asked.query.grid rs
+    → IsWorkOf l o (planned_work legs rs)
+work_planned l o legs snap rs h runs = record {
+  legs_are = h.legs_are;
+  evaluable = record { evaluated = h.bound.resolved.evaluated; low = h.bound.resolved.low; patterns = h.bound.resolved.patterns };
   runs = runs;
+  fits = λ i part g. absurd (empty_unfilled (length rs * legs_in legs) i part g);
   values = λ i run part there g. absurd (empty_unfilled (length rs * legs_in legs) i part g);
 }
 
 pub planned_state : (old new : State) (query count : ℕ) (legs : ResolvedLegs) (rs : List GridData) (snap : SnapData) (o : Open) → IsState old → KeepsHistory old new
-    → KeepsFailures old new → IsTable new.table → open_at query (machine_in old).queries ≡ Some o → IsLegsOf old.limits.window o legs snap
+    → KeepsFailures old new → IsTable new.table → open_at query (machine_in old).queries ≡ Some o → IsLegsOf old.limits o legs snap
     → AreRunsOf o.asked.query.grid rs → table.IsPlannedOver old.table query legs rs snap count new.table → IsState new
 planned_state old new query count legs rs snap o h k f t there is runs p =
-    let window = old.limits.window in
+    let l = old.limits in
     let a = ask_of old query _ h p.was in
     let both : Some a.opened ≡ Some o = sym a.there ∙ there in
     let same : a.opened ≡ o = cc in
-    let entry = subst (λ (x : Open). IsEntryOf window x (record { tenant = p.tenant; stop = None; work = None })) same a.is in
+    let entry = subst (λ (x : Open). IsEntryOf l x (record { tenant = p.tenant; stop = None; work = None })) same a.is in
     let J = map entry_of old.journal.items in
     state_beside old new h k t (counts_as old new f h.counts)
-    (outstanding_set window query (machine_in old).queries o _ (entry_in old.table) (entry_in new.table) h.jobs.outstanding there
-    (record { tenant = entry.tenant; stop = entry.stop; work = work_planned window o legs snap rs is runs }) p.entries)
-    (jobs_with J window p.tenant (waiting_of old.table) (waiting_of new.table) _ h.jobs.waiting_for p.queues.waiting
+    (outstanding_set l query (machine_in old).queries o _ (entry_in old.table) (entry_in new.table) h.jobs.outstanding there
+    (record { tenant = entry.tenant; stop = entry.stop; work = work_planned l o legs snap rs is runs }) p.entries)
+    (jobs_with J l p.tenant (waiting_of old.table) (waiting_of new.table) _ h.jobs.waiting_for p.queues.waiting
     (each_front _ (waiting_of old.table p.tenant) p.jobs (h.jobs.waiting_for p.tenant)
-    (jobs_planned J window p.tenant query (as_opened o) legs rs snap 0 p.jobs (asked_open J query o there) (sym entry.tenant)
-    (record { query = is.query; whole = is.whole; bound = is.bound; stands = is.stands; apart = is.apart }) runs.each p.planned.each))
+    (jobs_planned J l p.tenant query (as_opened o) legs rs snap 0 p.jobs (asked_open J query o there) (sym entry.tenant)
+    (record { legs_are = is.legs_are; lawful = is.lawful; bound = is.bound; stands = is.stands; apart = is.apart }) runs.each p.planned.each))
     (λ v d. (p.queues.others v d).waiting))
     (covered_beside old new h k f
     (tried_added old.table new.table p.tenant p.jobs _ p.queues (untried p.tenant query legs rs snap 0 p.jobs p.planned.each))
@@ -599,18 +607,18 @@ planned_state old new query count legs rs snap o h k f t there is runs p =
     omega (arith, far, none)))
 
 pub planned_core : (old new : State) (query count : ℕ) (legs : ResolvedLegs) (rs : List GridData) (snap : SnapData) (o : Open) → IsState old → KeepsHistory old new
-    → KeepsFailures old new → IsTable new.table → open_at query (machine_in old).queries ≡ Some o → legs.nodes ≡ []
+    → KeepsFailures old new → IsTable new.table → open_at query (machine_in old).queries ≡ Some o → IsLegsOf old.limits o legs snap
     → rs ≡ runs_of old.limits.interval o.asked.query.grid
     → table.IsPlannedOver old.table query legs rs snap count new.table → IsPlanned (core_of old) query count (core_of new)
-planned_core old new query count legs rs snap o h k f t there whole runs p =
+planned_core old new query count legs rs snap o h k f t there is runs p =
     let a = ask_of old query _ h p.was in
     let both : Some a.opened ≡ Some o = sym a.there ∙ there in
     let same : a.opened ≡ o = cc in
     let owner : p.tenant ≡ o.tenant = a.is.tenant ∙ ap (λ (x : Open). x.tenant) same in
-    let heads : map head_of p.jobs ≡ planned_heads o.tenant query 0 (runs_of old.limits.interval o.asked.query.grid) =
-    heads_planned p.tenant query legs rs snap p.jobs whole p.planned
-    ∙ (λ i. planned_heads (owner i) query 0 (runs i)) in
-    let many = many_planned p.tenant query legs rs snap p.jobs whole p.planned in
+    let legs_count : legs_in legs ≡ leg_count_of (core_of old) o = ap leg_count is.legs_are in
+    let heads : map head_of p.jobs ≡ planned_for (core_of old) query o =
+    heads_planned p.tenant query legs rs snap p.jobs p.planned
+    ∙ (λ i. planned_heads (owner i) query 0 (legs_count i) (runs i)) in
     let changed = has_queue old new p.tenant (waiting_of old.table p.tenant ++ p.jobs) (hands_of old.table p.tenant)
     (cond (is_empty p.jobs) (ring_of old.table) (cond (is_empty (waiting_of old.table p.tenant)) (put_last p.tenant (ring_of old.table)) (ring_of old.table)))
     h.table t p.queues in
@@ -643,10 +651,10 @@ planned_core old new query count legs rs snap o h k f t there whole runs p =
         stop_is = refl;
       };
       unplanned = refl;
-      count_is = p.count_is ∙ many ∙ ap (λ (xs : List GridData). length xs) runs;
+      count_is = p.count_is ∙ p.planned.many ∙ (λ i. length (runs i) * legs_count i);
       leaves = subst (λ u. ChangesQueue (core_of old) u
-          (record { waiting = (queue_at (core_of old) u).waiting ++ planned_heads o.tenant query 0 (runs_of old.limits.interval o.asked.query.grid); hands = (queue_at (core_of old) u).hands })
-          (ring_with (core_of old) u (planned_heads o.tenant query 0 (runs_of old.limits.interval o.asked.query.grid)))
+          (record { waiting = (queue_at (core_of old) u).waiting ++ planned_for (core_of old) query o; hands = (queue_at (core_of old) u).hands })
+          (ring_with (core_of old) u (planned_for (core_of old) query o))
           (with_progress query planned (core_of old).progress) (core_of new)) owner
           (subst (λ (hs : List JobHead). ChangesQueue (core_of old) p.tenant
           (record { waiting = (queue_at (core_of old) p.tenant).waiting ++ hs; hands = (queue_at (core_of old) p.tenant).hands })

@@ -1,13 +1,14 @@
 -- What is collected of a query is what the core promises.
-use Rattle.std.proofs.Common.{◌≡◌, ℕ, ◌*◌, map, Option, Some, None, List, length, sym, ap, ◌∙◌, arith, subst, slice_get}
+use Rattle.std.proofs.Common.{◌≡◌, ℕ, map, Option, Some, None, List, length, sym, ap, ◌∙◌, arith, subst, slice_get}
 use Rattle.std.specs.Arc.{arc_value}
 use Rattle.std.specs.Prelude.{IfSome}
 use Rattle.pf_base.specs.GridLists.{GridData}
+use Rattle.pf_base.specs.declared.plain.Limits.{Limits}
 use Rattle.pf_journal.specs.Machine.{Open, open_at}
 use Rattle.pf_model.specs.Lists.{Each}
 use Rattle.pf_shard.specs.declared.parts.Part.{Part}
 use Rattle.pf_query.specs.Tables as table
-use Rattle.pf_query.specs.Tables.{EntryData, IsHeldOf, IsSameTable, IsTable, Stops, entry_in, hands_of, hands_with, jobs_in, ring_of, stopped, waiting_of}
+use Rattle.pf_query.specs.Tables.{EntryData, IsTable, entry_in, hands_of, hands_with, jobs_in, waiting_of}
 use Rattle.pf_query.specs.Entries.{is_given_out, is_planned}
 use Rattle.pf_query.specs.Works.{IsWork, WorkData, handed_out}
 use Rattle.pf_query.specs.declared.answers.Collected.{Collected}
@@ -17,19 +18,20 @@ use Rattle.pf_query.specs.declared.job.Job.{Job}
 use Rattle.pf_query.specs.declared.slot.Slot.{Slot}
 use Rattle.pf_query.specs.declared.slot.Slot.TheVariants.{Filled}
 use Rattle.pf_shard.specs.Lawful.{ResolvedLegs}
+use Rattle.pf_shard.specs.LegParts.{FitsNodes}
 use Rattle.pf_core.specs.Calls.{AreCountedOf, IsCollected, IsHandedOut, IsTold}
 use Rattle.pf_core.specs.Cores.{in_hand_of, queued_of}
 use Rattle.pf_core.specs.Entries.{entry_of}
 use Rattle.pf_core.specs.Jobs.{AreParts, by_tenant}
 use Rattle.pf_core.specs.Progress as progress
-use Rattle.pf_core.specs.Progress.{QueryProgress, begun, cancel_in, exhausted_in, planned, progress_at, with_progress}
+use Rattle.pf_core.specs.Progress.{exhausted_in, planned, with_progress}
 use Rattle.pf_core.specs.States.{IsEntryOf, IsState, IsWorkOf, JobStands, KeepsFailures, KeepsHistory, core_of, machine_in}
 use Rattle.pf_core.specs.declared.state.State.{State}
 use Rattle.pf_core.proofs.Calling.{HasAsk, ask_of, core_same, covered_beside, gone_by, history_same, open_with, progress_set, state_same}
 use Rattle.pf_core.proofs.Covered.{tried_same}
 use Rattle.pf_core.proofs.Outstanding.{closed_there, outstanding_set}
 use Rattle.pf_core.proofs.Progressing.{exhausted_no_more}
-use Rattle.pf_core.proofs.Runs.{handed_unfilled, length_filled, one_leg, part_in}
+use Rattle.pf_core.proofs.Runs.{each_placed, handed_unfilled, length_filled, part_in}
 use Rattle.pf_core.proofs.Standing.{counts_as, state_beside}
 use Rattle.pf_core.proofs.Tenanted.{head_of, in_hand_is, queued_is}
 
@@ -54,38 +56,40 @@ counts_of s query d a w queued in_hand h there whole planned_as counts =
       in_hand_is = both.1;
     }
 
-parts_of : (window : ℕ) (o : Open) (w : WorkData) (g : Gathered) → IsWorkOf window o w → IsWork w → arc_value g.legs ≡ w.legs → g.runs.items ≡ w.runs
-    → map (λ (p : Part). Filled p) g.parts.items ≡ w.slots → AreParts window o (arc_value g.legs) g.runs.items g.parts.items
-parts_of window o w g h k legs runs parts =
-    let many : length g.parts.items ≡ length w.runs =
-    sym (length_filled g.parts.items) ∙ ap (λ (ss : List Slot). length ss) parts ∙ k.many ∙ ap (λ n. length w.runs * n) (one_leg w.legs h.whole) ∙ omega arith in
-    subst (λ (l : ResolvedLegs). AreParts window o l g.runs.items g.parts.items) (sym legs)
-    (subst (λ (rs : List GridData). AreParts window o w.legs rs g.parts.items) (sym runs) (record {
-      query = h.query;
-      whole = h.whole;
+parts_of : (l : Limits) (o : Open) (w : WorkData) (g : Gathered) → IsWorkOf l o w → IsWork w → arc_value g.legs ≡ w.legs → g.runs.items ≡ w.runs
+    → map (λ (p : Part). Filled p) g.parts.items ≡ w.slots → AreParts l o (arc_value g.legs) g.runs.items g.parts.items
+parts_of l o w g h k legs runs parts =
+    let filled : (i : ℕ) (part : Part) → slice_get g.parts.items i ≡ Some part → slice_get w.slots i ≡ Some (Filled part) =
+    λ i part e. subst (λ (ss : List Slot). slice_get ss i ≡ Some (Filled part)) parts (part_in g.parts.items i part e) in
+    subst (λ (ls : ResolvedLegs). AreParts l o ls g.runs.items g.parts.items) (sym legs)
+    (subst (λ (rs : List GridData). AreParts l o w.legs rs g.parts.items) (sym runs) (record {
+      legs_are = h.legs_are;
+      lawful = k.lawful;
+      evaluable = h.evaluable;
       steps = h.runs.steps;
-      many = many;
-      values = λ i run part there e.
-          h.values i run part there (subst (λ (ss : List Slot). slice_get ss i ≡ Some (Filled part)) parts (part_in g.parts.items i part e));
+      many = sym (length_filled g.parts.items) ∙ ap (λ (ss : List Slot). length ss) parts ∙ k.many;
+      fits = each_placed (FitsNodes w.legs.nodes) g.parts.items (λ i part e. h.fits i part (filled i part e));
+      values = λ i run part there e. h.values i run part there (filled i part e);
     }))
 
-work_handed : (window : ℕ) (o : Open) (w : WorkData) → IsWorkOf window o w → IsWorkOf window o (handed_out w)
-work_handed window o w h = record {
-  query = h.query;
-  whole = h.whole;
+work_handed : (l : Limits) (o : Open) (w : WorkData) → IsWorkOf l o w → IsWorkOf l o (handed_out w)
+work_handed l o w h = record {
+  legs_are = h.legs_are;
+  evaluable = h.evaluable;
   runs = h.runs;
+  fits = λ i part g. absurd (handed_unfilled w.slots i part g);
   values = λ i run part there g. absurd (handed_unfilled w.slots i part g);
 }
 
 -- the work of an entry
 record HasWork (s : State) (query : ℕ) (w : WorkData) (o : Open) : Type 0 where
-  of : IsWorkOf s.limits.window o w
+  of : IsWorkOf s.limits o w
   lawful : IsWork w
 
 work_of : (s : State) (query : ℕ) (d : EntryData) (w : WorkData) (o : Open) → IsState s → entry_in s.table query ≡ Some d → d.work ≡ Some w
-    → IsEntryOf s.limits.window o d → HasWork s query w o
+    → IsEntryOf s.limits o d → HasWork s query w o
 work_of s query d w o h there planned is = record {
-  of = subst (λ (x : Option WorkData). IfSome x (IsWorkOf s.limits.window o)) planned is.work;
+  of = subst (λ (x : Option WorkData). IfSome x (IsWorkOf s.limits o)) planned is.work;
   lawful = subst (λ (x : Option WorkData). IfSome x IsWork) planned (h.table.agree.all_kept query d there).work;
 }
 
@@ -103,9 +107,9 @@ gathered_state old new query d w g h k f t there planned is =
     let a = ask_of old query d h there in
     let work = work_of old query d w a.opened h there planned a.is in
     state_beside old new h k t (counts_as old new f h.counts)
-    (outstanding_set old.limits.window query (machine_in old).queries a.opened _ (entry_in old.table) (entry_in new.table) h.jobs.outstanding a.there
-    (record { tenant = a.is.tenant; stop = a.is.stop; work = work_handed old.limits.window a.opened w work.of }) is.entries)
-    (λ u. subst (λ (js : List Job). Each (JobStands (map entry_of old.journal.items) old.limits.window) js) (sym (is.queues.queues u).waiting) (h.jobs.waiting_for u))
+    (outstanding_set old.limits query (machine_in old).queries a.opened _ (entry_in old.table) (entry_in new.table) h.jobs.outstanding a.there
+    (record { tenant = a.is.tenant; stop = a.is.stop; work = work_handed old.limits a.opened w work.of }) is.entries)
+    (λ u. subst (λ (js : List Job). Each (JobStands (map entry_of old.journal.items) old.limits) js) (sym (is.queues.queues u).waiting) (h.jobs.waiting_for u))
     (covered_beside old new h k f (let tries = tried_same old.table new.table is.queues in omega (arith, tries))
     (let far = ap exhausted_in (gathered_progress old new query d w g k there planned is) in
     let none = exhausted_no_more query progress.handed_out (λ _. omega arith) (core_of old).progress in
@@ -157,7 +161,7 @@ told_core old new query d (collected.Parts g) h k f there x =
       record {
         counts = counts_of old query d a x.0 0 0 h there x.1 x.2 x.3;
         first = ap is_given_out x.2 ∙ x.4;
-        parts = parts_of old.limits.window a.opened x.0 g work.of work.lawful x.5.legs_are x.5.runs_are x.5.parts_are;
+        parts = parts_of old.limits a.opened x.0 g work.of work.lawful x.5.legs_are x.5.runs_are x.5.parts_are;
       },
       handed_core old new query d x.0 g k f there x.2 x.5,
     )
@@ -165,7 +169,7 @@ told_core old new query d (collected.Parts g) h k f there x =
 pub collect_core : (old new : State) (query : ℕ) (c : Option Collected) → IsState old → KeepsHistory old new → KeepsFailures old new
     → table.IsCollected old.table query c new.table → IsCollected (core_of old) query c (core_of new)
 collect_core old new query None h k f x = (
-  closed_there old.limits.window (open_at query (machine_in old).queries) (entry_in old.table query) (h.jobs.outstanding query) x.0,
+  closed_there old.limits (open_at query (machine_in old).queries) (entry_in old.table query) (h.jobs.outstanding query) x.0,
   core_same old new k f.failed x.1,
 )
 collect_core old new query (Some c) h k f x = told_core old new query x.0 c h k f x.1 x.2

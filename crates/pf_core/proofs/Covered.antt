@@ -7,7 +7,7 @@ use Rattle.std.proofs.lemmas.List.Sums.{sum_by-cons, sum_by_push}
 use Rattle.pf_base.specs.GridLists.{GridData}
 use Rattle.pf_base.specs.declared.plain.JobHead.{JobHead}
 use Rattle.pf_block.specs.Snaps.{SnapData}
-use Rattle.pf_journal.specs.Machine.{Entry}
+use Rattle.pf_journal.specs.Machine.{Entry, most_tenants}
 use Rattle.pf_journal.specs.Weave.{failed_answers, is_500}
 use Rattle.pf_query.specs.Jobs.{hand_of, has_hand, is_hand, is_head, is_other_job, job_of_held, without_hand}
 use Rattle.pf_query.specs.Queueing.{AreSame, AreWith}
@@ -181,9 +181,9 @@ tried_many f g u less more n others h outside = elim (bool_cases (nat_lt u n)) [
 
 -- all tenants' but one's are the same
 tried_tenants : (f g : ℕ → QueueHeads) (u less more : ℕ) → ((v : ℕ) → (v ≡ u → ⊥) → g v ≡ f v) → tried_of (g u) + less ≤ tried_of (f u) + more
-    → (1024 ≤ u → less ≤ more) → tried_in (by_tenant g) + less ≤ tried_in (by_tenant f) + more
+    → (most_tenants ≤ u → less ≤ more) → tried_in (by_tenant g) + less ≤ tried_in (by_tenant f) + more
 unfolding by_tenant tried_sum
-tried_tenants f g u less more others h outside = tried_many f g u less more 1024 others h outside
+tried_tenants f g u less more others h outside = tried_many f g u less more most_tenants others h outside
 
 -- where no tenant has a job
 none_by : (first n : ℕ) → sum_by tried_of (numbered (λ _. no_heads) first n) ≡ 0
@@ -195,7 +195,7 @@ none_by first (suc n) =
 
 pub none_tried : tried_in (by_tenant (λ _. no_heads)) ≡ 0
 unfolding by_tenant
-none_tried = none_by 0 1024
+none_tried = none_by 0 most_tenants
 
 -- ---- of a table
 
@@ -211,7 +211,7 @@ tried_same old new e =
 tried_with : (old new : Table) (u less more : ℕ) (waiting : List Job) (hands : List Hand) (ring : List ℕ)
     → AreWith old.queues u waiting hands ring new.queues
     → tried_jobs waiting + tried_hands hands + less ≤ tried_jobs (waiting_of old u) + tried_hands (hands_of old u) + more
-    → (1024 ≤ u → less ≤ more) → tried_table new + less ≤ tried_table old + more
+    → (most_tenants ≤ u → less ≤ more) → tried_table new + less ≤ tried_table old + more
 tried_with old new u less more waiting hands ring a h outside =
     tried_tenants (heads_in old) (heads_in new) u less more
     (λ v d. λ i. record { waiting = map head_of ((a.others v d).waiting i); hands = (a.others v d).hands i })
@@ -257,7 +257,7 @@ tried_left old new u query hands ring a h =
 pub tried_dropped : (old new : Table) (held : Held) (ring : List ℕ) → has_hand (hand_of held) (hands_of old held.head.tenant) ≡ true
     → AreWith old.queues held.head.tenant (filter (is_other_job held.head.query) (waiting_of old held.head.tenant))
     (without_hand (hand_of held) (hands_of old held.head.tenant)) ring new.queues
-    → held.head.tenant < 1024 → tried_table new + held.head.tries ≤ tried_table old
+    → held.head.tenant < most_tenants → tried_table new + held.head.tries ≤ tried_table old
 tried_dropped old new held ring has a known =
     let u = held.head.tenant in
     let one = without_one (hand_of held) (hands_of old u) has in

@@ -5,6 +5,7 @@ mod Calling
 mod Closing
 mod Collecting
 mod Covered
+pub mod Crossing
 mod Entered
 mod Failures
 mod Kept

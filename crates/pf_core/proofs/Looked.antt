@@ -5,8 +5,9 @@ use Rattle.std.specs.Option.{option_map}
 use Rattle.std.specs.Prelude.{IsSome, OnErr, Result, Ok, Err}
 use Rattle.pf_block.specs.Snaps.{SnapData}
 use Rattle.pf_base.specs.GridLists.{GridData}
+use Rattle.pf_base.specs.declared.plain.Limits.{Limits}
 use Rattle.pf_journal.specs.Asking.{Asked}
-use Rattle.pf_journal.specs.Machine.{Open, open_at}
+use Rattle.pf_journal.specs.Machine.{Open, most_tenants, open_at}
 use Rattle.pf_query.specs.Tables as table
 use Rattle.pf_query.specs.Tables.{EntryData, IsClosed, IsTable, entry_in, progress_of}
 use Rattle.pf_query.specs.declared.table.Table.{Table}
@@ -38,7 +39,7 @@ no_progress (Some d) p = cc
 
 pub untold : (s : State) (query : ℕ) → IsState s → option_map progress_of (entry_in s.table query) ≡ None → open_at query (machine_in s).queries ≡ None
 untold s query h e =
-    closed_there s.limits.window (open_at query (machine_in s).queries) (entry_in s.table query) (h.jobs.outstanding query)
+    closed_there s.limits (open_at query (machine_in s).queries) (entry_in s.table query) (h.jobs.outstanding query)
     (no_progress (entry_in s.table query) e)
 
 record Progresses (e : Option EntryData) (p : Progress) : Type 0 where
@@ -56,7 +57,7 @@ pub told : (s : State) (query : ℕ) (q : Query) (p : Progress) (o : Opened) →
 told s query q p o h kept progress tenant asked pin cancelled planned stop =
     let found = kept_is s.limits.window (kept_in s query) (open_at query (machine_in s).queries) q (h.history.keeps.keeps_queries query) kept in
     let e = progressing (entry_in s.table query) p progress in
-    let opened = open_there s.limits.window (open_at query (machine_in s).queries) (entry_in s.table query) e.entry (h.jobs.outstanding query) e.there in
+    let opened = open_there s.limits (open_at query (machine_in s).queries) (entry_in s.table query) e.entry (h.jobs.outstanding query) e.there in
     let both : Some opened.opened ≡ Some found.opened = sym opened.there ∙ found.there in
     let same : opened.opened ≡ found.opened = cc in
     record {
@@ -75,7 +76,7 @@ told s query q p o h kept progress tenant asked pin cancelled planned stop =
 
 -- ---- what is asked of the table
 
-pub free_known : (t : TenantsData) (number : ℕ) (newcomer : Option (List ℕ)) → AreTenants t → IsFree t number newcomer → number < 1024
+pub free_known : (t : TenantsData) (number : ℕ) (newcomer : Option (List ℕ)) → AreTenants t → IsFree t number newcomer → number < most_tenants
 free_known t number None h f = let few = h.few in omega (arith, few, f)
 free_known t number (Some name) h f = f.1.0
 
@@ -105,18 +106,18 @@ unsettled old new before opened place u h none same o c t limits tenants queries
 
 -- ---- what a plan asks
 
-pub never_unbound : (window : ℕ) (found : Option Open) (legs : ResolvedLegs) (snap : SnapData) → BindsOpen window found legs snap → found ≡ None → ⊥
-never_unbound window None legs snap h e = h
-never_unbound window (Some o) legs snap h e = cc
+pub never_unbound : (l : Limits) (found : Option Open) (legs : ResolvedLegs) (snap : SnapData) → BindsOpen l found legs snap → found ≡ None → ⊥
+never_unbound l None legs snap h e = h
+never_unbound l (Some o) legs snap h e = cc
 
-pub record IsBound (window : ℕ) (found : Option Open) (legs : ResolvedLegs) (snap : SnapData) : Type 0 where
+pub record IsBound (l : Limits) (found : Option Open) (legs : ResolvedLegs) (snap : SnapData) : Type 0 where
   pub opened : Open
   pub there : found ≡ Some opened
-  pub is : IsLegsOf window opened legs snap
+  pub is : IsLegsOf l opened legs snap
 
-pub bound : (window : ℕ) (found : Option Open) (legs : ResolvedLegs) (snap : SnapData) → BindsOpen window found legs snap → IsBound window found legs snap
-bound window None legs snap h = absurd h
-bound window (Some o) legs snap h = record { opened = o; there = refl; is = h }
+pub bound : (l : Limits) (found : Option Open) (legs : ResolvedLegs) (snap : SnapData) → BindsOpen l found legs snap → IsBound l found legs snap
+bound l None legs snap h = absurd h
+bound l (Some o) legs snap h = record { opened = o; there = refl; is = h }
 
 some_entry : (e : Option EntryData) (d : EntryData) → e ≡ Some d → IsSome e
 some_entry None d h = cc
@@ -124,7 +125,7 @@ some_entry (Some c) d h = refl
 
 pub outstanding : (s : State) (query : ℕ) (o : Open) → IsState s → open_at query (machine_in s).queries ≡ Some o → IsSome (entry_in s.table query)
 outstanding s query o h there =
-    let entry = entry_there s.limits.window (open_at query (machine_in s).queries) (entry_in s.table query) o (h.jobs.outstanding query) there in
+    let entry = entry_there s.limits (open_at query (machine_in s).queries) (entry_in s.table query) o (h.jobs.outstanding query) there in
     some_entry (entry_in s.table query) entry.kept entry.there
 
 pub has_grid : (s : State) (query : ℕ) (q : Query) (grid : GridData) → IsState s → kept_in s query ≡ Some q → grid ≡ (arc_value q.asked).query.grid

@@ -2,6 +2,7 @@
 use Rattle.std.proofs.Common.{◌≡◌, ℕ, ◌+◌, ◌<◌, ◌≤◌, inl, inr, Bool, true, false, cond, nat_eq, Option, Some, None, List, [], ◌∷◌, ◌++◌, refl, sym, ap, ◌∙◌, arith, subst}
 use Rattle.std.proofs.lemmas.Bool.Decides.{nat_tests}
 use Rattle.std.proofs.lemmas.List.Sums.{sum_by-cons, sum_by_push}
+use Rattle.pf_base.specs.declared.plain.Limits.{Limits}
 use Rattle.pf_journal.specs.Machine.{Open, cancelled_at, closed, open_at}
 use Rattle.pf_model.specs.Lists.{Each}
 use Rattle.pf_query.specs.Entries.{stop_after}
@@ -50,22 +51,22 @@ each_open least (o ∷ os) h =
     let own : nat_eq o.place o.place ≡ true = grind (arith, nat_tests) in
     (rw own refl, each_later o.place o (o.place + 1) os os refl (omega arith) h.1 (each_open (o.place + 1) os h.1))
 
-goes_by : (w : ℕ) (qs : List Open) (entries : ℕ → Option EntryData) → Each (λ o. IsOutstanding w (Some o) (entries o.place)) qs → GoesWith qs (progress_of qs entries)
-goes_by w [] entries h = tt
-goes_by w (o ∷ os) entries h = ((far_query o.place (entries o.place), stop_is o (entries o.place) h.0), goes_by w os entries h.1) where
-  stop_is : (o : Open) (e : Option EntryData) → IsOutstanding w (Some o) e → cancel_in (far_of o.place e).stop ≡ o.cancelled
+goes_by : (l : Limits) (qs : List Open) (entries : ℕ → Option EntryData) → Each (λ o. IsOutstanding l (Some o) (entries o.place)) qs → GoesWith qs (progress_of qs entries)
+goes_by l [] entries h = tt
+goes_by l (o ∷ os) entries h = ((far_query o.place (entries o.place), stop_is o (entries o.place) h.0), goes_by l os entries h.1) where
+  stop_is : (o : Open) (e : Option EntryData) → IsOutstanding l (Some o) e → cancel_in (far_of o.place e).stop ≡ o.cancelled
   stop_is o None k = absurd k
   stop_is o (Some d) k = k.stop
 
-each_outstanding : (w : ℕ) (qs rs : List Open) (entries : ℕ → Option EntryData) → ((p : ℕ) → IsOutstanding w (open_at p qs) (entries p))
-    → Each (λ q. open_at q.place qs ≡ Some q) rs → Each (λ o. IsOutstanding w (Some o) (entries o.place)) rs
-each_outstanding w qs [] entries h k = tt
-each_outstanding w qs (r ∷ rs) entries h k =
-    (subst (λ (x : Option Open). IsOutstanding w x (entries r.place)) k.0 (h r.place), each_outstanding w qs rs entries h k.1)
+each_outstanding : (l : Limits) (qs rs : List Open) (entries : ℕ → Option EntryData) → ((p : ℕ) → IsOutstanding l (open_at p qs) (entries p))
+    → Each (λ q. open_at q.place qs ≡ Some q) rs → Each (λ o. IsOutstanding l (Some o) (entries o.place)) rs
+each_outstanding l qs [] entries h k = tt
+each_outstanding l qs (r ∷ rs) entries h k =
+    (subst (λ (x : Option Open). IsOutstanding l x (entries r.place)) k.0 (h r.place), each_outstanding l qs rs entries h k.1)
 
-pub goes_with : (w : ℕ) (qs : List Open) (entries : ℕ → Option EntryData) → Above 0 qs → ((p : ℕ) → IsOutstanding w (open_at p qs) (entries p))
+pub goes_with : (l : Limits) (qs : List Open) (entries : ℕ → Option EntryData) → Above 0 qs → ((p : ℕ) → IsOutstanding l (open_at p qs) (entries p))
     → GoesWith qs (progress_of qs entries)
-goes_with w qs entries above h = goes_by w qs entries (each_outstanding w qs qs entries h (each_open 0 qs above))
+goes_with l qs entries above h = goes_by l qs entries (each_outstanding l qs qs entries h (each_open 0 qs above))
 
 -- ---- what changes
 

@@ -35,25 +35,25 @@ use Rattle.pf_core.proofs.Tenanted.{empty_heads, has_queue, head_of, other_heads
 
 -- what every core keeps
 pub stands : (s : State) → HasHistory s → IsTable s.table → AreCounts s.failed.items s.total
-    → ((p : ℕ) → IsOutstanding s.limits.window (open_at p (machine_in s).queries) (entry_in s.table p)) → AreCovered (core_of s) → Stands (core_of s)
+    → ((p : ℕ) → IsOutstanding s.limits (open_at p (machine_in s).queries) (entry_in s.table p)) → AreCovered (core_of s) → Stands (core_of s)
 stands s h t k outstanding covered = record {
   limits = h.stands.limits;
   legal = h.stands.legal;
   names = h.stands.names;
   served = served s t;
   actors = k.actors;
-  progressing = goes_with s.limits.window (machine_in s).queries (entry_in s.table) h.keeps.are_open.apart outstanding;
+  progressing = goes_with s.limits (machine_in s).queries (entry_in s.table) h.keeps.are_open.apart outstanding;
   covered = covered;
 }
 
 -- ---- a state whose journal, limits and table are these
 
-jobs_as : (journal journal' : List Entry) (w w' : ℕ) (qs qs' : List Open) (entries : ℕ → Option EntryData) (waiting : ℕ → List Job)
-    → journal' ≡ journal → w' ≡ w → qs' ≡ qs → AreJobs journal w qs entries waiting → AreJobs journal' w' qs' entries waiting
-jobs_as journal journal' w w' qs qs' entries waiting ej ew eq h =
-    subst (λ (js : List Entry). AreJobs js w' qs' entries waiting) (sym ej)
-    (subst (λ (x : ℕ). AreJobs journal x qs' entries waiting) (sym ew)
-    (subst (λ (os : List Open). AreJobs journal w os entries waiting) (sym eq) h))
+jobs_as : (journal journal' : List Entry) (l l' : Limits) (qs qs' : List Open) (entries : ℕ → Option EntryData) (waiting : ℕ → List Job)
+    → journal' ≡ journal → l' ≡ l → qs' ≡ qs → AreJobs journal l qs entries waiting → AreJobs journal' l' qs' entries waiting
+jobs_as journal journal' l l' qs qs' entries waiting ej el eq h =
+    subst (λ (js : List Entry). AreJobs js l' qs' entries waiting) (sym ej)
+    (subst (λ (x : Limits). AreJobs journal x qs' entries waiting) (sym el)
+    (subst (λ (os : List Open). AreJobs journal l os entries waiting) (sym eq) h))
 
 pub queries_entered : (old new : CoreData) (by : By) (what : What) → Enters old by what new
     → (machine_of new).queries ≡ queries_after (machine_of old) what
@@ -69,15 +69,15 @@ counts_as old new k h = record {
 -- after an entry
 pub state_entered : (old new : State) (by : By) (what : What) → IsState old → HasHistory new → Enters (core_of old) by what (core_of new)
     → IsTable new.table → KeepsFailures old new
-    → ((p : ℕ) → IsOutstanding old.limits.window (open_at p (queries_after (machine_in old) what)) (entry_in new.table p))
-    → ((u : ℕ) → Each (JobStands (map entry_of old.journal.items) old.limits.window) (waiting_of new.table u))
+    → ((p : ℕ) → IsOutstanding old.limits (open_at p (queries_after (machine_in old) what)) (entry_in new.table p))
+    → ((u : ℕ) → Each (JobStands (map entry_of old.journal.items) old.limits) (waiting_of new.table u))
     → 5 * is_500 what + open_tries (core_of new) ≤ open_tries (core_of old)
     → IsState new
 state_entered old new by what h history e t k outstanding waiting tries =
-    let jobs : AreJobs (map entry_of new.journal.items) new.limits.window (machine_in new).queries (entry_in new.table) (waiting_of new.table) =
-    jobs_as _ (map entry_of new.journal.items) old.limits.window new.limits.window (queries_after (machine_in old) what) (machine_in new).queries
-    (entry_in new.table) (waiting_of new.table) e.journal (ap (λ (l : Limits). l.window) e.limits) (queries_entered (core_of old) (core_of new) by what e)
-    (record { outstanding = outstanding; waiting_for = jobs_grow (map entry_of old.journal.items) _ old.limits.window (waiting_of new.table) waiting }) in
+    let jobs : AreJobs (map entry_of new.journal.items) new.limits (machine_in new).queries (entry_in new.table) (waiting_of new.table) =
+    jobs_as _ (map entry_of new.journal.items) old.limits new.limits (queries_after (machine_in old) what) (machine_in new).queries
+    (entry_in new.table) (waiting_of new.table) e.journal e.limits (queries_entered (core_of old) (core_of new) by what e)
+    (record { outstanding = outstanding; waiting_for = jobs_grow (map entry_of old.journal.items) _ old.limits (waiting_of new.table) waiting }) in
     record {
       stands = stands new history t (counts_as old new k h.counts) jobs.outstanding
           (covered_entered (core_of old) (core_of new) _ (ap (λ (v : _). v.items) k.failed) e.journal tries h.stands.covered);
@@ -107,9 +107,9 @@ pub state_kept : (old new : State) (by : By) (what : What) → IsState old → H
     → KeepsJobs old new → queries_after (machine_in old) what ≡ (machine_in old).queries → is_500 what ≡ 0 → IsState new
 state_kept old new by what h history e k same none =
     state_entered old new by what h history e (subst IsTable (sym k.table) h.table) (record { failed = k.failed; total = k.total })
-    (λ p. subst (λ (t : Table). IsOutstanding old.limits.window (open_at p (queries_after (machine_in old) what)) (entry_in t p)) (sym k.table)
-    (subst (λ (qs : List Open). IsOutstanding old.limits.window (open_at p qs) (entry_in old.table p)) (sym same) (h.jobs.outstanding p)))
-    (λ u. subst (λ (t : Table). Each (JobStands (map entry_of old.journal.items) old.limits.window) (waiting_of t u)) (sym k.table) (h.jobs.waiting_for u))
+    (λ p. subst (λ (t : Table). IsOutstanding old.limits (open_at p (queries_after (machine_in old) what)) (entry_in t p)) (sym k.table)
+    (subst (λ (qs : List Open). IsOutstanding old.limits (open_at p qs) (entry_in old.table p)) (sym same) (h.jobs.outstanding p)))
+    (λ u. subst (λ (t : Table). Each (JobStands (map entry_of old.journal.items) old.limits) (waiting_of t u)) (sym k.table) (h.jobs.waiting_for u))
     (let work = work_kept old new by what e k same in
     let tries = ap tried_in work.0.queues in
     let far = ap exhausted_in work.1 in
@@ -117,16 +117,16 @@ state_kept old new by what h history e k same none =
 
 -- after a call that leaves the journal
 pub state_beside : (old new : State) → IsState old → KeepsHistory old new → IsTable new.table → AreCounts new.failed.items new.total
-    → ((p : ℕ) → IsOutstanding old.limits.window (open_at p (machine_in old).queries) (entry_in new.table p))
-    → ((u : ℕ) → Each (JobStands (map entry_of old.journal.items) old.limits.window) (waiting_of new.table u))
+    → ((p : ℕ) → IsOutstanding old.limits (open_at p (machine_in old).queries) (entry_in new.table p))
+    → ((u : ℕ) → Each (JobStands (map entry_of old.journal.items) old.limits) (waiting_of new.table u))
     → AreCovered (core_of new)
     → IsState new
 state_beside old new h k t counts outstanding waiting covered =
     let history = history_as old new h.history k.limits k.tenants (λ place. ap (λ (q : _). get nat_eq q place) k.queries) k.reserved (ap (λ (v : _). v.items) k.journal)
     (let e = ap vec_capacity k.journal in omega (arith, e)) in
-    let jobs : AreJobs (map entry_of new.journal.items) new.limits.window (machine_in new).queries (entry_in new.table) (waiting_of new.table) =
-    jobs_as (map entry_of old.journal.items) (map entry_of new.journal.items) old.limits.window new.limits.window (machine_in old).queries (machine_in new).queries
-    (entry_in new.table) (waiting_of new.table) (ap (λ (v : _). map entry_of v.items) k.journal) (ap (λ (l : Limits). l.window) k.limits)
+    let jobs : AreJobs (map entry_of new.journal.items) new.limits (machine_in new).queries (entry_in new.table) (waiting_of new.table) =
+    jobs_as (map entry_of old.journal.items) (map entry_of new.journal.items) old.limits new.limits (machine_in old).queries (machine_in new).queries
+    (entry_in new.table) (waiting_of new.table) (ap (λ (v : _). map entry_of v.items) k.journal) k.limits
     (ap (λ (v : _). (machine_after started (map entry_of v.items)).queries) k.journal)
     (record { outstanding = outstanding; waiting_for = waiting }) in
     record {
@@ -154,12 +154,12 @@ same_state old new h e = record {
   stands = subst Stands (sym (same_core old new e)) h.stands;
   history = same_history old new h.history e;
   table = e.jobs.lawful h.table;
-  jobs = jobs_as (map entry_of old.journal.items) (map entry_of new.journal.items) old.limits.window new.limits.window (machine_in old).queries (machine_in new).queries
-      (entry_in new.table) (waiting_of new.table) (ap (map entry_of) e.journal) (ap (λ (l : Limits). l.window) e.limits)
+  jobs = jobs_as (map entry_of old.journal.items) (map entry_of new.journal.items) old.limits new.limits (machine_in old).queries (machine_in new).queries
+      (entry_in new.table) (waiting_of new.table) (ap (map entry_of) e.journal) e.limits
       (ap (λ (js : List _). (machine_after started (map entry_of js)).queries) e.journal)
       (record {
-        outstanding = outstanding_same old.limits.window (machine_in old).queries (entry_in old.table) (entry_in new.table) h.jobs.outstanding e.jobs.table.entries;
-        waiting_for = λ u. subst (λ (js : List Job). Each (JobStands (map entry_of old.journal.items) old.limits.window) js) (sym (e.jobs.table.queues.queues u).waiting)
+        outstanding = outstanding_same old.limits (machine_in old).queries (entry_in old.table) (entry_in new.table) h.jobs.outstanding e.jobs.table.entries;
+        waiting_for = λ u. subst (λ (js : List Job). Each (JobStands (map entry_of old.journal.items) old.limits) js) (sym (e.jobs.table.queues.queues u).waiting)
             (h.jobs.waiting_for u);
       });
   counts = counts_as old new (record { failed = e.jobs.failed; total = e.jobs.total }) h.counts;
@@ -203,16 +203,16 @@ pub cancelled_state : (old new : State) (by : By) (query : ℕ) (o : Open) → I
     → open_at query (machine_in old).queries ≡ Some o
     → IsStopped old.table query (Cancelled (length old.journal.items)) new.table → IsTable new.table → KeepsFailures old new → IsState new
 cancelled_state old new by query o h history e found s t k =
-    let w = old.limits.window in
-    let entry = entry_there w (open_at query (machine_in old).queries) (entry_in old.table query) o (h.jobs.outstanding query) found in
+    let l = old.limits in
+    let entry = entry_there l (open_at query (machine_in old).queries) (entry_in old.table query) o (h.jobs.outstanding query) found in
     let stops : Stops old.table query (Cancelled (length old.journal.items)) entry.kept (hands_of old.table entry.kept.tenant) new.table =
     subst (λ (x : Option EntryData). MatchOption x (IsSameTable old.table new.table)
     (λ d. Stops old.table query (Cancelled (length old.journal.items)) d (hands_of old.table d.tenant) new.table)) entry.there s in
     state_entered old new by (cancel query) h history e t k
-    (subst (λ n. (p : ℕ) → IsOutstanding w (open_at p (cancelled_at n query (machine_in old).queries)) (entry_in new.table p)) (sym (counted old))
-    (outstanding_cancelled w query (length old.journal.items) (machine_in old).queries o entry.kept (entry_in old.table) (entry_in new.table)
+    (subst (λ n. (p : ℕ) → IsOutstanding l (open_at p (cancelled_at n query (machine_in old).queries)) (entry_in new.table p)) (sym (counted old))
+    (outstanding_cancelled l query (length old.journal.items) (machine_in old).queries o entry.kept (entry_in old.table) (entry_in new.table)
     h.jobs.outstanding found entry.is stops.entries))
-    (jobs_with (map entry_of old.journal.items) w entry.kept.tenant (waiting_of old.table) (waiting_of new.table) _ h.jobs.waiting_for stops.queues.waiting
+    (jobs_with (map entry_of old.journal.items) l entry.kept.tenant (waiting_of old.table) (waiting_of new.table) _ h.jobs.waiting_for stops.queues.waiting
     (each_filter _ (is_other_job query) (waiting_of old.table entry.kept.tenant) (h.jobs.waiting_for entry.kept.tenant))
     (λ v d. (stops.queues.others v d).waiting))
     (let far = ap exhausted_in (cancelled_progress old new by query entry.kept _ e entry.there stops) in
@@ -228,7 +228,7 @@ pub cancelled_jobs : (old new : State) (by : By) (query : ℕ) (o : Open) → Is
     × ((core_of new).progress ≡ with_progress query (stopped (Cancelled (machine_in old).count)) (core_of old).progress))
 cancelled_jobs old new by query o h e found s t k = (
   λ p there.
-      let entry = entry_there old.limits.window (open_at query (machine_in old).queries) (entry_in old.table query) p (h.jobs.outstanding query) there in
+      let entry = entry_there old.limits (open_at query (machine_in old).queries) (entry_in old.table query) p (h.jobs.outstanding query) there in
       let stops : Stops old.table query (Cancelled (length old.journal.items)) entry.kept (hands_of old.table entry.kept.tenant) new.table =
       subst (λ (x : Option EntryData). MatchOption x (IsSameTable old.table new.table)
       (λ d. Stops old.table query (Cancelled (length old.journal.items)) d (hands_of old.table d.tenant) new.table)) entry.there s in
@@ -238,7 +238,7 @@ cancelled_jobs old new by query o h e found s t k = (
       (sym (ap (λ (q : QueueHeads). q.hands) (queue_is old h.table entry.kept.tenant))) left),
   (
     ap (λ (v : _). v.items) k.failed,
-    let entry = entry_there old.limits.window (open_at query (machine_in old).queries) (entry_in old.table query) o (h.jobs.outstanding query) found in
+    let entry = entry_there old.limits (open_at query (machine_in old).queries) (entry_in old.table query) o (h.jobs.outstanding query) found in
         let stops : Stops old.table query (Cancelled (length old.journal.items)) entry.kept (hands_of old.table entry.kept.tenant) new.table =
         subst (λ (x : Option EntryData). MatchOption x (IsSameTable old.table new.table)
         (λ d. Stops old.table query (Cancelled (length old.journal.items)) d (hands_of old.table d.tenant) new.table)) entry.there s in
@@ -273,13 +273,13 @@ pub answered_state : (old new : State) (by : By) (query code cached evaluated : 
     → open_at query (machine_in old).queries ≡ Some o → IsAnswerable (core_of old) query code
     → IsClosed old.table query new.table → IsTable new.table → KeepsFailures old new → IsState new
 answered_state old new by query code cached evaluated o h history e found may s t k =
-    let w = old.limits.window in
-    let entry = entry_there w (open_at query (machine_in old).queries) (entry_in old.table query) o (h.jobs.outstanding query) found in
+    let l = old.limits in
+    let entry = entry_there l (open_at query (machine_in old).queries) (entry_in old.table query) o (h.jobs.outstanding query) found in
     let ends : Ends old.table query entry.kept new.table =
     subst (λ (x : Option EntryData). MatchOption x (IsSameTable old.table new.table) (λ d. Ends old.table query d new.table)) entry.there s in
     state_entered old new by (answer query code cached evaluated) h history e t k
-    (outstanding_answered w query (machine_in old).queries (entry_in old.table) (entry_in new.table) h.jobs.outstanding ends.entries)
-    (jobs_with (map entry_of old.journal.items) w entry.kept.tenant (waiting_of old.table) (waiting_of new.table) _ h.jobs.waiting_for ends.queues.waiting
+    (outstanding_answered l query (machine_in old).queries (entry_in old.table) (entry_in new.table) h.jobs.outstanding ends.entries)
+    (jobs_with (map entry_of old.journal.items) l entry.kept.tenant (waiting_of old.table) (waiting_of new.table) _ h.jobs.waiting_for ends.queues.waiting
     (each_filter _ (is_other_job query) (waiting_of old.table entry.kept.tenant) (h.jobs.waiting_for entry.kept.tenant))
     (λ v d. (ends.queues.others v d).waiting))
     (let far = ap exhausted_in (closed_progress old new by query code cached evaluated e ends.entries) in
@@ -295,7 +295,7 @@ pub closed_jobs : (old new : State) (by : By) (query code cached evaluated : ℕ
     → IsClosed old.table query new.table → IsTable new.table → KeepsFailures old new → AreClosed (core_of old) query (core_of new)
 closed_jobs old new by query code cached evaluated o h e found s t k = record {
   left = λ p there.
-      let entry = entry_there old.limits.window (open_at query (machine_in old).queries) (entry_in old.table query) p (h.jobs.outstanding query) there in
+      let entry = entry_there old.limits (open_at query (machine_in old).queries) (entry_in old.table query) p (h.jobs.outstanding query) there in
       let ends : Ends old.table query entry.kept new.table =
       subst (λ (x : Option EntryData). MatchOption x (IsSameTable old.table new.table) (λ d. Ends old.table query d new.table)) entry.there s in
       let left = left_by old new entry.kept.tenant query (filter (is_other_hand query) (hands_of old.table entry.kept.tenant)) h.table t ends.queues in
@@ -304,7 +304,7 @@ closed_jobs old new by query code cached evaluated o h e found s t k = record {
       (sym (ap (λ (q : QueueHeads). q.hands) (queue_is old h.table entry.kept.tenant))) left);
   failed = ap (λ (v : _). v.items) k.failed;
   progress =
-      let entry = entry_there old.limits.window (open_at query (machine_in old).queries) (entry_in old.table query) o (h.jobs.outstanding query) found in
+      let entry = entry_there old.limits (open_at query (machine_in old).queries) (entry_in old.table query) o (h.jobs.outstanding query) found in
       let ends : Ends old.table query entry.kept new.table =
       subst (λ (x : Option EntryData). MatchOption x (IsSameTable old.table new.table) (λ d. Ends old.table query d new.table)) entry.there s in
       closed_progress old new by query code cached evaluated e ends.entries;
@@ -315,7 +315,7 @@ closed_jobs old new by query code cached evaluated o h e found s t k = record {
 -- what is asked of the table
 pub unopened : (s : State) → IsState s → entry_in s.table (length s.journal.items) ≡ None
 unopened s h =
-    none_there s.limits.window (open_at (length s.journal.items) (machine_in s).queries) (entry_in s.table (length s.journal.items))
+    none_there s.limits (open_at (length s.journal.items) (machine_in s).queries) (entry_in s.table (length s.journal.items))
     (h.jobs.outstanding (length s.journal.items)) (later (machine_in s).queries
     (subst (λ k. Each (λ q. q.place < k) (machine_in s).queries) (counted s) h.history.keeps.are_open.below)) where
       later : (qs : List Open) → Each (λ q. q.place < length s.journal.items) qs → open_at (length s.journal.items) qs ≡ None
@@ -355,11 +355,11 @@ pub opened_state : (old new : State) (by : By) (what : What) (o : Open) → IsSt
     → table.IsOpened old.table (length old.journal.items) o.tenant new.table → IsTable new.table → KeepsFailures old new → IsState new
 opened_state old new by what o h history e more place whole none opened t k =
     state_entered old new by what h history e t k
-    (λ p. subst (λ (qs : List Open). IsOutstanding old.limits.window (open_at p qs) (entry_in new.table p)) (sym more)
-    (outstanding_opened old.limits.window (length old.journal.items) (machine_in old).queries o (entry_in old.table) (entry_in new.table)
+    (λ p. subst (λ (qs : List Open). IsOutstanding old.limits (open_at p qs) (entry_in new.table p)) (sym more)
+    (outstanding_opened old.limits (length old.journal.items) (machine_in old).queries o (entry_in old.table) (entry_in new.table)
     h.jobs.outstanding opened.entries
     (subst (λ n. Each (λ q. q.place < n) (machine_in old).queries) (counted old) h.history.keeps.are_open.below) place whole p))
-    (λ u. subst (λ (js : List Job). Each (JobStands (map entry_of old.journal.items) old.limits.window) js) (sym (opened.queues.queues u).waiting)
+    (λ u. subst (λ (js : List Job). Each (JobStands (map entry_of old.journal.items) old.limits) js) (sym (opened.queues.queues u).waiting)
     (h.jobs.waiting_for u))
     (let work = opened_work old new by what o (length old.journal.items) h e more place refl opened k in
     let far = ap exhausted_in work.1 in

@@ -6,6 +6,7 @@ use Rattle.std.proofs.lemmas.Bool.Decides.{nat_tests}
 use Rattle.std.proofs.lemmas.List.{get_or_past}
 use Rattle.std.proofs.lemmas.List.Sums.{sum_by-cons}
 use Rattle.pf_base.specs.declared.plain.JobHead.{JobHead}
+use Rattle.pf_journal.specs.Machine.{most_tenants}
 use Rattle.pf_query.specs.Jobs.{QueueData, is_empty, is_other_job, no_queue, tries_left_in, tries_left_of}
 use Rattle.pf_query.specs.Queueing.{AreWith, queue_in}
 use Rattle.pf_query.specs.Tables.{IsTable, hands_of, hands_with, is_of, jobs_in, tries_left_of as tries_left_in_table, waiting_of}
@@ -33,23 +34,23 @@ numbered_past f first zero i d h = refl
 numbered_past f first (suc n) zero d h = absurd (omega (arith, h))
 numbered_past f first (suc n) (suc i) d h = numbered_past f (first + 1) n i d (omega (arith, h))
 
-at_tenant : (f : ℕ → QueueHeads) (u : ℕ) → u < 1024 → slice_index_or (by_tenant f) u no_heads ≡ f u
+at_tenant : (f : ℕ → QueueHeads) (u : ℕ) → u < most_tenants → slice_index_or (by_tenant f) u no_heads ≡ f u
 unfolding by_tenant
-at_tenant f u h = numbered_get f 0 1024 u no_heads h ∙ ap f (omega arith)
+at_tenant f u h = numbered_get f 0 most_tenants u no_heads h ∙ ap f (omega arith)
 
-past_tenants : (f : ℕ → QueueHeads) (u : ℕ) → 1024 ≤ u → slice_index_or (by_tenant f) u no_heads ≡ no_heads
+past_tenants : (f : ℕ → QueueHeads) (u : ℕ) → most_tenants ≤ u → slice_index_or (by_tenant f) u no_heads ≡ no_heads
 unfolding by_tenant
-past_tenants f u h = numbered_past f 0 1024 u no_heads h
+past_tenants f u h = numbered_past f 0 most_tenants u no_heads h
 
 abbrev heads_of_queue : QueueData → QueueHeads
 heads_of_queue q = record { waiting = map head_of q.waiting; hands = q.hands }
 
 -- what is said of a tenant's jobs
 pub queue_is : (s : State) → IsTable s.table → (u : ℕ) → queue_at (core_of s) u ≡ heads_in s.table u
-queue_is s h u = elim (bool_cases (nat_lt u 1024)) [
+queue_is s h u = elim (bool_cases (nat_lt u most_tenants)) [
   | inl t ↦ at_tenant (heads_in s.table) u (grind (arith, nat_tests, t))
   | inr t ↦
-      let past : 1024 ≤ u = grind (arith, nat_tests, t) in
+      let past : most_tenants ≤ u = grind (arith, nat_tests, t) in
       let many = h.queues.many in
       let none : queue_in s.table.queues u ≡ no_queue = get_or_past s.table.queues.by_tenant.items u no_queue (omega (arith, many, past)) in
       past_tenants (heads_in s.table) u past ∙ sym (ap heads_of_queue none)

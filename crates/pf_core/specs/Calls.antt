@@ -1,8 +1,9 @@
 -- What the calls on jobs answer and leave: this project's own.
 use Rattle.std.specs.Arc.{arc_value}
-use Rattle.std.specs.Prelude.{◌≡◌, ◌⊎◌, ℕ, ◌+◌, ◌-◌, ◌<◌, ◌≤◌, Bool, true, false, cond, Option, Some, None, List, [], ◌∷◌, ◌++◌, length}
+use Rattle.std.specs.Prelude.{◌≡◌, ◌⊎◌, ℕ, ◌+◌, ◌-◌, ◌*◌, ◌<◌, ◌≤◌, Bool, true, false, cond, Option, Some, None, List, [], ◌∷◌, ◌++◌, length}
 use Rattle.pf_base.specs.declared.plain.JobHead.{JobHead}
 use Rattle.pf_block.specs.Snaps.{SnapData}
+use Rattle.pf_base.specs.GridLists.{GridData}
 use Rattle.pf_base.specs.Grids.{points}
 use Rattle.pf_base.specs.declared.plain.Limits.{Limits}
 use Rattle.pf_journal.specs.Machine.{Open, answer_of, code_of, open_at}
@@ -23,28 +24,29 @@ use Rattle.pf_query.specs.declared.job.Hand.{Hand}
 use Rattle.pf_query.specs.declared.job.Held.{Held}
 use Rattle.pf_query.specs.declared.stop.Stop.{Stop}
 use Rattle.pf_query.specs.declared.stop.Stop.TheVariants.{Cancelled, Exhausted, Starved}
-use Rattle.pf_shard.specs.Lawful.{ResolvedLegs, legs_data}
+use Rattle.pf_shard.specs.Lawful.{ResolvedLegs, leg_count, legs_data}
+use Rattle.pf_shard.specs.LegParts.{FitsNodes}
 use Rattle.pf_core.specs.Asks.{opened_at}
 use Rattle.pf_core.specs.Cores.{AreSameJobs, CoreData, HasQueue, IsLeft, IsSameHistory, in_hand_of, machine_of, queue_at, queued_of, tries_left}
-use Rattle.pf_core.specs.Jobs.{AreParts, IsForAsk, IsLegsOf, IsValueOver, QueueHeads, failures_after, planned_heads, runs_of}
+use Rattle.pf_core.specs.Jobs.{AreParts, IsForAsk, IsLegsOf, IsValueOver, QueueHeads, failures_after, legs_asked, planned_heads, runs_of}
 use Rattle.pf_core.specs.Progress.{QueryProgress, cancel_in, handed_out, planned, progress_at, stopped, with_progress}
 
 -- ---- conditions
 
 -- legs over a snapshot are those of a query, if it is open
-abbrev pub BindsOpen : ℕ → Option Open → ResolvedLegs → SnapData → Type 0
-BindsOpen window None legs snap = ⊥
-BindsOpen window (Some o) legs snap = IsLegsOf window o legs snap
+abbrev pub BindsOpen : Limits → Option Open → ResolvedLegs → SnapData → Type 0
+BindsOpen l None legs snap = ⊥
+BindsOpen l (Some o) legs snap = IsLegsOf l o legs snap
 
 -- a held job is one of a query that was asked in this journal
 abbrev pub StandsForAsk : CoreData → Held → Type 0
-StandsForAsk c h = IsForAsk c.journal c.limits.window h.head (arc_value h.legs) h.run (arc_value h.snap)
+StandsForAsk c h = IsForAsk c.journal c.limits h.head (arc_value h.legs) h.run (arc_value h.snap)
 
--- a part is the value of a held job's leg over its run
-abbrev pub IsPartOf : CoreData → Held → Part → Type 0
-IsPartOf c h part =
-    (at : Open) → opened_at c.journal h.head.query ≡ Some at
-    → IsValueOver (store_of c.limits.window at.log).samples (legs_data (arc_value h.legs)) h.head.leg h.run part
+-- a part is of the kind of a held job's leg, and its value over the job's run
+pub record IsPartOf (c : CoreData) (h : Held) (part : Part) : Type 0 where
+  pub fits : FitsNodes (arc_value h.legs).nodes part
+  pub value : (at : Open) → opened_at c.journal h.head.query ≡ Some at
+      → IsValueOver (store_of c.limits.window at.log).samples (legs_data (arc_value h.legs)) h.head.leg h.run part
 
 -- ---- what calls leave
 
@@ -171,17 +173,28 @@ pub record IsLacked (old : CoreData) (query : ℕ) (new : CoreData) : Type 0 whe
 abbrev pub ring_with : CoreData → ℕ → List JobHead → List ℕ
 ring_with c u heads = cond (is_empty heads) c.ring (cond (is_empty (queue_at c u).waiting) (put_last u c.ring) c.ring)
 
--- a query is planned: a job for each of its runs waits, last of its tenant's
+-- how many legs an open query has, and its runs
+abbrev pub leg_count_of : CoreData → Open → ℕ
+leg_count_of c o = leg_count (legs_asked c.limits.shards o)
+
+abbrev pub runs_in : CoreData → Open → List GridData
+runs_in c o = runs_of c.limits.interval o.asked.query.grid
+
+-- what is said of an open query's jobs once it is planned
+abbrev pub planned_for : CoreData → (query : ℕ) → Open → List JobHead
+planned_for c query o = planned_heads o.tenant query 0 (leg_count_of c o) (runs_in c o)
+
+-- a query is planned: a job for each of its runs and legs waits, last of its tenant's
 pub record IsPlanned (old : CoreData) (query : ℕ) (count : ℕ) (new : CoreData) : Type 0 where
   pub whole : IsWhole old query
   pub unplanned : whole.far.planned ≡ false
-  pub count_is : count ≡ length (runs_of old.limits.interval whole.opened.asked.query.grid)
+  pub count_is : count ≡ length (runs_in old whole.opened) * leg_count_of old whole.opened
   pub leaves : ChangesQueue old whole.opened.tenant
       (record {
-        waiting = (queue_at old whole.opened.tenant).waiting ++ planned_heads whole.opened.tenant query 0 (runs_of old.limits.interval whole.opened.asked.query.grid);
+        waiting = (queue_at old whole.opened.tenant).waiting ++ planned_for old query whole.opened;
         hands = (queue_at old whole.opened.tenant).hands;
       })
-      (ring_with old whole.opened.tenant (planned_heads whole.opened.tenant query 0 (runs_of old.limits.interval whole.opened.asked.query.grid)))
+      (ring_with old whole.opened.tenant (planned_for old query whole.opened))
       (with_progress query planned old.progress) new
 
 -- a query is open, and was planned
@@ -207,7 +220,7 @@ pub record AreCountedOf (c : CoreData) (query queued in_hand : ℕ) : Type 0 whe
 pub record IsGathered (c : CoreData) (query : ℕ) (g : Gathered) : Type 0 where
   pub counts : AreCountedOf c query 0 0
   pub first : counts.whole.far.given ≡ false
-  pub parts : AreParts c.limits.window counts.whole.opened (arc_value g.legs) g.runs.items g.parts.items
+  pub parts : AreParts c.limits counts.whole.opened (arc_value g.legs) g.runs.items g.parts.items
 
 -- a query's parts were handed out before
 pub record IsGivenBefore (c : CoreData) (query : ℕ) : Type 0 where

@@ -74,6 +74,8 @@ pub record AreLimits (l : Limits) : Type 0 where
   pub some : 1 ≤ l.outstanding
   pub interval : 1000 ≤ l.interval
   pub bounded : l.journal ≤ most_entries
+  pub shards : 1 ≤ l.shards
+  pub most_shards : l.shards ≤ 64
 
 -- each tenant with a job that waits is in the ring once, and no other is
 pub record AreServed (c : CoreData) : Type 0 where

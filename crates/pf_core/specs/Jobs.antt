@@ -1,22 +1,24 @@
 -- The jobs of a core as contracts see them, and what a job in an actor's hand stands for. This project's own.
 use Rattle.std.specs.List.{count_by, sum, sum_by}
-use Rattle.std.specs.Prelude.{◌≡◌, ℕ, zero, suc, ◌+◌, ◌-◌, ◌*◌, ◌<◌, Bool, not, pos, cond, nat_eq, nat_lt, Option, Some, None, List, [], ◌∷◌, ◌++◌, Contains, length, map, replicate, slice_get, slice_index_or, slice_set}
+use Rattle.std.specs.Prelude.{◌≡◌, ℕ, zero, suc, ◌+◌, ◌-◌, ◌*◌, ◌/◌, ◌%◌, ◌<◌, Bool, not, pos, cond, nat_eq, nat_lt, Option, Some, None, List, [], ◌∷◌, ◌++◌, Contains, length, map, replicate, slice_get, slice_index_or, slice_set}
 use Rattle.pf_base.specs.GridLists.{GridData, IsGrid}
 use Rattle.pf_base.specs.Grids.{points}
 use Rattle.pf_base.specs.declared.plain.JobHead.{JobHead}
+use Rattle.pf_base.specs.declared.plain.Limits.{Limits}
 use Rattle.pf_base.specs.declared.plain.Row.{Row}
 use Rattle.pf_block.specs.Snaps.{SnapData}
 use Rattle.pf_core.specs.Asks.{opened_at}
-use Rattle.pf_journal.specs.Machine.{Entry, Open}
+use Rattle.pf_journal.specs.Machine.{Entry, Open, most_tenants}
 use Rattle.pf_model.specs.Legs.{LegsData, leg_part}
 use Rattle.pf_model.specs.Lists.{Each}
 use Rattle.pf_model.specs.Log.{AreApart, store_of}
+use Rattle.pf_model.specs.Sharding.{legs_over}
 use Rattle.pf_query.specs.Tables.{is_of}
 use Rattle.pf_query.specs.Works.{last_of}
 use Rattle.pf_query.specs.declared.job.Hand.{Hand}
-use Rattle.pf_shard.specs.Bound.{IsBoundOver}
-use Rattle.pf_shard.specs.LegParts.{part_at}
-use Rattle.pf_shard.specs.Lawful.{ResolvedLegs, legs_data}
+use Rattle.pf_shard.specs.Bound.{AreBoundOver, AreEvaluable}
+use Rattle.pf_shard.specs.LegParts.{FitsNodes, part_at}
+use Rattle.pf_shard.specs.Lawful.{IsLawful, ResolvedLegs, leg_count, legs_data}
 use Rattle.pf_shard.specs.declared.parts.Part.{Part}
 use Rattle.pf_split.specs.Pieces.{pieces_of}
 use Rattle.pf_store.specs.Standing.{StandsFor}
@@ -38,7 +40,7 @@ numbered f first (suc n) = f first ∷ numbered f (first + 1) n
 
 -- the jobs of all tenants that there may be
 unfoldable pub by_tenant : (ℕ → QueueHeads) → List QueueHeads
-by_tenant f = numbered f 0 1024
+by_tenant f = numbered f 0 most_tenants
 
 -- how many jobs are of a query
 abbrev pub heads_with : ℕ → List JobHead → ℕ
@@ -83,22 +85,32 @@ steps_in (r ∷ rs) = points r ++ steps_in rs
 abbrev pub runs_of : ℕ → GridData → List GridData
 runs_of interval grid = map (λ p. p.run) (pieces_of interval grid.step (points grid))
 
--- what is said of the jobs of a query over its runs, from a number on: one job for each run, not tried yet
-abbrev pub planned_heads : (tenant query number : ℕ) → List GridData → List JobHead
-planned_heads tenant query number [] = []
-planned_heads tenant query number (r ∷ rs) =
-    record { tenant = tenant; query = query; job = number; leg = 0; first = r.start; last = last_of r; tries = 0 }
-    ∷ planned_heads tenant query (number + 1) rs
+-- what is said of the jobs of a query over one run: one for each leg from a first one on, so many, not tried yet
+abbrev pub heads_over : (tenant query number : ℕ) → GridData → (leg count : ℕ) → List JobHead
+heads_over tenant query number r leg zero = []
+heads_over tenant query number r leg (suc n) =
+    record { tenant = tenant; query = query; job = number; leg = leg; first = r.start; last = last_of r; tries = 0 }
+    ∷ heads_over tenant query (number + 1) r (leg + 1) n
+
+-- and over its runs, from a number on, where it has so many legs: run by run and leg by leg
+abbrev pub planned_heads : (tenant query number count : ℕ) → List GridData → List JobHead
+planned_heads tenant query number count [] = []
+planned_heads tenant query number count (r ∷ rs) =
+    heads_over tenant query number r 0 count ++ planned_heads tenant query (number + count) count rs
 
 -- ---- what jobs and parts stand for
 
--- legs over a snapshot are those of a query, as one leg over the samples that its tenant had at the ask
-pub record IsLegsOf (window : ℕ) (at : Open) (legs : ResolvedLegs) (snap : SnapData) : Type 0 where
-  pub query : legs.resolved.query ≡ at.asked.query.tree
-  pub whole : legs.nodes ≡ []
-  pub bound : IsBoundOver legs.resolved snap.labels
-  pub stands : StandsFor snap (store_of window at.log).samples
-  pub apart : AreApart (store_of window at.log).samples
+-- the legs of a query over so many shards
+abbrev pub legs_asked : (shards : ℕ) → Open → LegsData
+legs_asked shards o = record { query = o.asked.query.tree; nodes = legs_over o.asked.query.tree shards; shards = shards }
+
+-- legs over a snapshot are those of a query, over the samples that its tenant had at the ask
+pub record IsLegsOf (l : Limits) (at : Open) (legs : ResolvedLegs) (snap : SnapData) : Type 0 where
+  pub legs_are : legs_data legs ≡ legs_asked l.shards at
+  pub lawful : IsLawful (legs_data legs)
+  pub bound : AreBoundOver legs snap.labels
+  pub stands : StandsFor snap (store_of l.window at.log).samples
+  pub apart : AreApart (store_of l.window at.log).samples
 
 -- a run of a grid's steps
 pub record IsRunOf (grid run : GridData) : Type 0 where
@@ -116,10 +128,10 @@ pub record AreRunsOf (grid : GridData) (runs : List GridData) : Type 0 where
   pub steps : steps_in runs ≡ points grid
   pub each : Each (IsRunOf grid) runs
 
--- a job is about a run of a query's only leg
-pub record IsJobOf (at : Open) (head : JobHead) (run : GridData) : Type 0 where
+-- a job is about a run and one of so many legs of a query
+pub record IsJobOf (at : Open) (count : ℕ) (head : JobHead) (run : GridData) : Type 0 where
   pub tenant : head.tenant ≡ at.tenant
-  pub leg : head.leg ≡ 0
+  pub leg : head.leg < count
   pub run_is : IsRunOf at.asked.query.grid run
   pub first : head.first ≡ run.start
   pub last : head.last ≡ last_of run
@@ -130,17 +142,19 @@ IsValueOver samples legs leg run part =
     (k : ℕ) → k < run.len → part_at part k ≡ leg_part samples legs leg (pos (run.start + k * run.step))
 
 -- legs, a run and a snapshot are those of a job of the query that an entry of the journal asked
-pub record IsForAsk (journal : List Entry) (window : ℕ) (head : JobHead) (legs : ResolvedLegs) (run : GridData) (snap : SnapData) : Type 0 where
+pub record IsForAsk (journal : List Entry) (l : Limits) (head : JobHead) (legs : ResolvedLegs) (run : GridData) (snap : SnapData) : Type 0 where
   pub at : Open
   pub asked : opened_at journal head.query ≡ Some at
-  pub legs_of : IsLegsOf window at legs snap
-  pub job_of : IsJobOf at head run
+  pub legs_of : IsLegsOf l at legs snap
+  pub job_of : IsJobOf at (leg_count (legs_data legs)) head run
 
--- legs and parts are those of a query's runs, whose steps are the query's, run by run
-pub record AreParts (window : ℕ) (at : Open) (legs : ResolvedLegs) (runs : List GridData) (parts : List Part) : Type 0 where
-  pub query : legs.resolved.query ≡ at.asked.query.tree
-  pub whole : legs.nodes ≡ []
+-- legs and parts are those of a query's runs, whose steps are the query's, run by run and leg by leg
+pub record AreParts (l : Limits) (at : Open) (legs : ResolvedLegs) (runs : List GridData) (parts : List Part) : Type 0 where
+  pub legs_are : legs_data legs ≡ legs_asked l.shards at
+  pub lawful : IsLawful (legs_data legs)
+  pub evaluable : AreEvaluable legs.resolved
   pub steps : steps_in runs ≡ points at.asked.query.grid
-  pub many : length parts ≡ length runs
-  pub values : (i : ℕ) (run : GridData) (part : Part) → slice_get runs i ≡ Some run → slice_get parts i ≡ Some part
-      → IsValueOver (store_of window at.log).samples (legs_data legs) 0 run part
+  pub many : length parts ≡ length runs * leg_count (legs_data legs)
+  pub fits : Each (FitsNodes legs.nodes) parts
+  pub values : (i : ℕ) (run : GridData) (part : Part) → slice_get runs (i / leg_count (legs_data legs)) ≡ Some run → slice_get parts i ≡ Some part
+      → IsValueOver (store_of l.window at.log).samples (legs_data legs) (i % leg_count (legs_data legs)) run part

@@ -1,7 +1,7 @@
 -- What a core keeps beside its journal, and how its steps change it. This project's own.
 use Rattle.std.specs.Arc.{arc_value}
 use Rattle.std.specs.HashMap.{get}
-use Rattle.std.specs.Prelude.{◌≡◌, ◌⊎◌, ℕ, ◌+◌, ◌-◌, ◌*◌, ◌<◌, ◌≤◌, cond, map, nat_eq, IfSome, Option, Some, None, List, [], ◌∷◌, ◌++◌, length, slice_get, sum, vec_capacity}
+use Rattle.std.specs.Prelude.{◌≡◌, ◌⊎◌, ℕ, ◌+◌, ◌-◌, ◌*◌, ◌/◌, ◌%◌, ◌<◌, ◌≤◌, cond, map, nat_eq, IfSome, Option, Some, None, List, [], ◌∷◌, ◌++◌, length, slice_get, sum, vec_capacity}
 use Rattle.pf_base.specs.Batches.{BatchData}
 use Rattle.pf_base.specs.GridLists.{GridData}
 use Rattle.pf_base.specs.declared.plain.By.{By}
@@ -17,17 +17,19 @@ use Rattle.pf_model.specs.declared.expr.Matcher.{Matcher}
 use Rattle.pf_shard.specs.declared.parts.Part.{Part}
 use Rattle.pf_query.specs.Entries.{is_given_out, is_planned}
 use Rattle.pf_query.specs.Tables.{EntryData, IsClosed, IsSameTable, IsTable, entry_in, hands_of, ring_of, waiting_of}
-use Rattle.pf_query.specs.Works.{WorkData}
+use Rattle.pf_query.specs.Works.{WorkData, legs_in}
 use Rattle.pf_query.specs.declared.job.Job.{Job}
 use Rattle.pf_query.specs.declared.slot.Slot.TheVariants.{Filled}
 use Rattle.pf_query.specs.declared.table.Table.{Table}
+use Rattle.pf_shard.specs.Bound.{AreEvaluable}
 use Rattle.pf_shard.specs.Lawful.{legs_data}
+use Rattle.pf_shard.specs.LegParts.{FitsNodes}
 use Rattle.pf_store.specs.Standing.{IsLog, IsPin, LogData, deleted_after, verdicts_after}
 use Rattle.pf_store.specs.Verdicts.{VerdictsData}
 use Rattle.pf_store.specs.declared.tenant_log.Deleted.{Deleted}
 use Rattle.pf_core.specs.Cores.{AreLimits, CoreData, Stands, open_tries}
 use Rattle.pf_core.specs.Entries.{entry_of, what_of}
-use Rattle.pf_core.specs.Jobs.{AreRunsOf, IsForAsk, IsValueOver, QueueHeads, by_tenant}
+use Rattle.pf_core.specs.Jobs.{AreRunsOf, IsForAsk, IsValueOver, QueueHeads, by_tenant, legs_asked}
 use Rattle.pf_core.specs.Progress.{QueryProgress, begun, cancel_in}
 use Rattle.pf_core.specs.Seats.{TenantsData, counted_as, settled}
 use Rattle.pf_core.specs.declared.query.Query.{Query}
@@ -138,35 +140,36 @@ pub record HasHistory (s : State) : Type 0 where
 
 -- ---- jobs
 
--- what is kept of a planned query: its legs are one leg of what was asked, its runs are the steps of its grid, and each part that is
--- stored is the leg's value over the part's run
-pub record IsWorkOf (window : ℕ) (o : Open) (w : WorkData) : Type 0 where
-  pub query : w.legs.resolved.query ≡ o.asked.query.tree
-  pub whole : w.legs.nodes ≡ []
+-- what is kept of a planned query: its legs are those of what was asked, its runs are the steps of its grid, and each part that is
+-- stored is of the legs' kind, and the value of its leg over its run
+pub record IsWorkOf (l : Limits) (o : Open) (w : WorkData) : Type 0 where
+  pub legs_are : legs_data w.legs ≡ legs_asked l.shards o
+  pub evaluable : AreEvaluable w.legs.resolved
   pub runs : AreRunsOf o.asked.query.grid w.runs
-  pub values : (i : ℕ) (run : GridData) (part : Part) → slice_get w.runs i ≡ Some run → slice_get w.slots i ≡ Some (Filled part)
-      → IsValueOver (store_of window o.log).samples (legs_data w.legs) 0 run part
+  pub fits : (i : ℕ) (part : Part) → slice_get w.slots i ≡ Some (Filled part) → FitsNodes w.legs.nodes part
+  pub values : (i : ℕ) (run : GridData) (part : Part) → slice_get w.runs (i / legs_in w.legs) ≡ Some run → slice_get w.slots i ≡ Some (Filled part)
+      → IsValueOver (store_of l.window o.log).samples (legs_data w.legs) (i % legs_in w.legs) run part
 
 -- what the table keeps of an open query
-pub record IsEntryOf (window : ℕ) (o : Open) (e : EntryData) : Type 0 where
+pub record IsEntryOf (l : Limits) (o : Open) (e : EntryData) : Type 0 where
   pub tenant : e.tenant ≡ o.tenant
   pub stop : cancel_in e.stop ≡ o.cancelled
-  pub work : IfSome e.work (IsWorkOf window o)
+  pub work : IfSome e.work (IsWorkOf l o)
 
 -- the table keeps an entry of each open query, and of no other
-abbrev pub IsOutstanding : ℕ → Option Open → Option EntryData → Type 0
-IsOutstanding window None None = Unit {0}
-IsOutstanding window None (Some e) = ⊥
-IsOutstanding window (Some o) None = ⊥
-IsOutstanding window (Some o) (Some e) = IsEntryOf window o e
+abbrev pub IsOutstanding : Limits → Option Open → Option EntryData → Type 0
+IsOutstanding l None None = Unit {0}
+IsOutstanding l None (Some e) = ⊥
+IsOutstanding l (Some o) None = ⊥
+IsOutstanding l (Some o) (Some e) = IsEntryOf l o e
 
-abbrev pub JobStands : List machine.Entry → ℕ → Job → Type 0
-JobStands journal window j = IsForAsk journal window j.head (arc_value j.legs) j.run (arc_value j.snap)
+abbrev pub JobStands : List machine.Entry → Limits → Job → Type 0
+JobStands journal l j = IsForAsk journal l j.head (arc_value j.legs) j.run (arc_value j.snap)
 
 -- what the table keeps goes with the open queries, and each job that waits is one of its query's
-pub record AreJobs (journal : List machine.Entry) (window : ℕ) (qs : List Open) (entries : ℕ → Option EntryData) (waiting : ℕ → List Job) : Type 0 where
-  pub outstanding : (place : ℕ) → IsOutstanding window (open_at place qs) (entries place)
-  pub waiting_for : (u : ℕ) → Each (JobStands journal window) (waiting u)
+pub record AreJobs (journal : List machine.Entry) (l : Limits) (qs : List Open) (entries : ℕ → Option EntryData) (waiting : ℕ → List Job) : Type 0 where
+  pub outstanding : (place : ℕ) → IsOutstanding l (open_at place qs) (entries place)
+  pub waiting_for : (u : ℕ) → Each (JobStands journal l) (waiting u)
 
 -- the counts of failed tries
 pub record AreCounts (failed : List ℕ) (total : ℕ) : Type 0 where
@@ -182,7 +185,7 @@ pub record IsState (s : State) : Type 0 where
   pub stands : Stands (core_of s)
   pub history : HasHistory s
   pub table : IsTable s.table
-  pub jobs : AreJobs (map entry_of s.journal.items) s.limits.window (machine_in s).queries (entry_in s.table) (waiting_of s.table)
+  pub jobs : AreJobs (map entry_of s.journal.items) s.limits (machine_in s).queries (entry_in s.table) (waiting_of s.table)
   pub counts : AreCounts s.failed.items s.total
 
 -- the table and the counts are as they were

@@ -46,7 +46,7 @@ impl State {
         Some(asked.grid)
     }
 
-    /// Plans an open query over the runs of its grid.
+    /// Plans an open query over the runs of its grid, and its legs.
     #[tactic(auto, using(crate::proofs::Looked::never_unbound))]
     pub fn plan(
         &mut self,
@@ -55,7 +55,7 @@ impl State {
         snap: &Arc<Snap>,
     ) -> Result<Planned, PlanError>
         requires state { IsState self.old }
-        requires legs { BindsOpen self.old.limits.window (open_at query (machine_in self.old).queries) (arc_value legs) (arc_value snap.now) }
+        requires legs { BindsOpen self.old.limits (open_at query (machine_in self.old).queries) (arc_value legs) (arc_value snap.now) }
         ensures state { IsState self.new }
         ensures ok { IfOk result (λ p. IsPlanned (core_of self.old) query p.jobs (core_of self.new)) }
         ensures err { IfErr result (λ e. IsUnplanned (core_of self.old) query e (core_of self.new)) }

@@ -6,9 +6,9 @@
 //! core as it was; the open queries, with what they pinned, are those of the machine. What an open query needs for its cancel and
 //! its answer is kept at its ask, so these two calls take no memory.
 //!
-//! A query that is open goes so: `plan` divides its steps into jobs, `take` hands them to actors in turn, `finish` keeps their
-//! parts, or `fail` lets them wait again, and `collect` hands out all parts once they are there. A part is the value of the query
-//! over the samples that its tenant had at the ask.
+//! A query that is open goes so: `plan` divides its steps and its legs into jobs, `take` hands them to actors in turn, `finish` keeps
+//! their parts, or `fail` lets them wait again, and `collect` hands out all parts once they are there. A part is the value of a leg of
+//! the query over the samples that its tenant had at the ask.
 #![tactic(auto)]
 
 mod answers;
@@ -17,6 +17,7 @@ mod error;
 mod jobs;
 mod query;
 mod session;
+mod shared;
 mod state;
 mod tenants;
 

@@ -137,16 +137,24 @@ impl Core {
         self.state.answer(by, query, code);
     }
 
+    /// The number of shards over which queries are evaluated, from 1 to 64.
+    pub fn shards(&self) -> u32
+        ensures stands { Stands self.now }
+        ensures shards { result ≡ self.now.limits.shards }
+    {
+        self.state.limits.shards
+    }
+
     /// Plans the query that was asked at a place, which is open: its steps are divided into the runs of their intervals, and from
-    /// then on a job for each run waits, last of its tenant's. The snapshot is the one that the legs were bound over. Mimir, query
-    /// frontend: Splitting queries by interval.
+    /// then on a job for each run and each leg waits, last of its tenant's. The legs are those over the number of shards, and the
+    /// snapshot is the one that they were bound over. Mimir, query frontend: Splitting queries by interval, and Query sharding.
     pub fn plan(
         &mut self,
         query: u64,
         legs: Arc<Legs>,
         snap: Arc<Snap>,
     ) -> Result<Planned, PlanError>
-        requires legs { BindsOpen self.old.limits.window (open_at query (machine_of self.old).queries) (arc_value legs) (arc_value snap) }
+        requires legs { BindsOpen self.old.limits (open_at query (machine_of self.old).queries) (arc_value legs) (arc_value snap) }
         ensures stands { Stands self.new }
         ensures ok { IfOk result (λ p. IsPlanned self.old query p.jobs self.new) }
         ensures err { IfErr result (λ e. IsUnplanned self.old query e self.new) }

@@ -124,13 +124,13 @@ fn kept_for(cancelled: Option<u64>) -> u64
 }
 
 /// How many steps of an open query were evaluated: all, once it is planned.
-fn steps_of(open: &Opened<'_>) -> u32
-    ensures { result ≡ cond open.now.planned (length (points (arc_value open.now.asked.now).query.grid)) 0 }
+fn steps_of(query: &Opened<'_>) -> u32
+    ensures { result ≡ cond query.now.planned (length (points (arc_value query.now.asked.now).query.grid)) 0 }
 {
-    if !open.planned {
+    if !query.planned {
         return 0;
     }
-    let asked: &Asked = open.asked;
+    let asked: &Asked = query.asked;
     asked.grid.len()
 }
 
