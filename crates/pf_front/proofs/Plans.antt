@@ -1,11 +1,12 @@
 -- What a plan leaves.
-use Rattle.std.proofs.Common.{◌≡◌, inl, inr, ℕ, Option, None, Some, List, [], IsSome, IfErr, IfOk, refl, sym, ap, ◌∙◌, subst}
+use Rattle.std.proofs.Common.{◌≡◌, inl, inr, ℕ, Option, None, Some, List, IsSome, IfErr, IfOk, refl, sym, ap, ◌∙◌, subst}
 use Rattle.std.specs.Prelude.{Result, Ok, Err}
 use Rattle.std.proofs.lemmas.Bool.{false≢true}
+use Rattle.pf_base.specs.declared.plain.Limits.{Limits}
 use Rattle.pf_block.specs.Snaps.{SnapData}
 use Rattle.pf_core.specs.Calls.{BindsOpen, IsLacked, IsPlanned, IsUnplanned}
 use Rattle.pf_core.specs.Cores.{CoreData, HasQueue, Stands, machine_of, queue_at}
-use Rattle.pf_core.specs.Jobs.{QueueHeads}
+use Rattle.pf_core.specs.Jobs.{QueueHeads, legs_asked}
 use Rattle.pf_core.specs.Progress.{QueryProgress, planned, progress_at}
 use Rattle.pf_front.proofs.Hands.{by_tenant}
 use Rattle.pf_front.proofs.Progress.{at_changed, has_far, is_stopped}
@@ -19,8 +20,8 @@ use Rattle.pf_query.specs.declared.answers.PlanError.{PlanError}
 use Rattle.pf_query.specs.declared.answers.PlanError.TheVariants as plan_error
 use Rattle.pf_query.specs.declared.answers.Planned.{Planned}
 use Rattle.pf_query.specs.declared.stop.Stop.TheVariants.{Starved}
-use Rattle.pf_shard.specs.Bound.{IsBoundOver}
-use Rattle.pf_shard.specs.Lawful.{ResolvedLegs}
+use Rattle.pf_shard.specs.Bound.{AreBoundOver}
+use Rattle.pf_shard.specs.Lawful.{IsLawful, ResolvedLegs, legs_data}
 use Rattle.pf_store.specs.Standing.{IsPin, PinData, StandsFor}
 
 -- ---- the open query
@@ -35,17 +36,17 @@ none_shut (Some x) h e = cc
 
 -- ---- the legs
 
--- the leg of an open query over its pin
-pub binds_open : (window : ℕ) (o : Open) (found : Option Open) (pin : PinData) (legs : ResolvedLegs) (snap : SnapData) → found ≡ Some o
-    → IsPin pin window o.log → snap ≡ pin.snap → legs.resolved.query ≡ o.asked.query.tree → legs.nodes ≡ []
-    → IsBoundOver legs.resolved snap.labels → BindsOpen window found legs snap
-binds_open window o found pin legs snap there p is query whole bound =
-    subst (λ (f : Option Open). BindsOpen window f legs snap) (sym there)
+-- the legs of an open query over its pin
+pub binds_open : (l : Limits) (o : Open) (found : Option Open) (pin : PinData) (legs : ResolvedLegs) (snap : SnapData) → found ≡ Some o
+    → IsPin pin l.window o.log → snap ≡ pin.snap → legs_data legs ≡ legs_asked l.shards o → IsLawful (legs_data legs)
+    → AreBoundOver legs snap.labels → BindsOpen l found legs snap
+binds_open l o found pin legs snap there p is legs_are lawful bound =
+    subst (λ (f : Option Open). BindsOpen l f legs snap) (sym there)
     (record {
-      query = query;
-      whole = whole;
+      legs_are = legs_are;
+      lawful = lawful;
       bound = bound;
-      stands = subst (λ (s : SnapData). StandsFor s (store_of window o.log).samples) (sym is) p.samples;
+      stands = subst (λ (s : SnapData). StandsFor s (store_of l.window o.log).samples) (sym is) p.samples;
       apart = p.apart;
     })
 

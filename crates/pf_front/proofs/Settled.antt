@@ -15,7 +15,7 @@ use Rattle.pf_core.specs.Progress.{QueryProgress, cancel_in, handed_out, progres
 use Rattle.pf_front.proofs.Plans.{lacked_works}
 use Rattle.pf_front.proofs.Progress.{at_changed, not_none, some_is}
 use Rattle.pf_front.proofs.Tries.{same_sum, works_refl, works_trans}
-use Rattle.pf_front.specs.Answers.{IsAnswered, IsInHands, IsOutcomeOf, IsReplied, IsReplyOf, code_in}
+use Rattle.pf_front.specs.Answers.{GoesWithStop, IsAnswered, IsInHands, IsOutcomeOf, IsReplied, IsReplyOf, code_in}
 use Rattle.pf_front.specs.Settling.{HasParts, IsBegun, IsEvaluable, IsFound, IsSettled, IsWorkedOff, some_waits, stopped_as}
 use Rattle.pf_front.specs.Works.{WorksOn}
 use Rattle.pf_front.specs.declared.answering.Answering.{Answering}
@@ -130,6 +130,13 @@ outcome_found l o outcome.Cancelled un f = absurd f
 outcome_found l o (outcome.Exhausted job) un f = absurd f
 outcome_found l o outcome.Starved un f = absurd f
 
+stop_found : (c : CoreData) (query : ℕ) (a : Answer) (f : Outcome) → IsWhole c query → IsFound a f → GoesWithStop c query f
+stop_found c query a (outcome.Matrix rows) w f = w
+stop_found c query a (outcome.Failed step kind) w f = w
+stop_found c query a outcome.Cancelled w f = absurd f
+stop_found c query a (outcome.Exhausted job) w f = absurd f
+stop_found c query a outcome.Starved w f = absurd f
+
 code_found : (a : Answer) (f : Outcome) → IsFound a f → code_in f ≡ code_of a
 code_found a (outcome.Matrix rows) f = ap code_of (sym f)
 code_found a (outcome.Failed step kind) f = ap code_of (sym f)
@@ -160,6 +167,7 @@ settled_found c query f e found = record {
   opened = e.whole.opened;
   is_open = e.whole.is_open;
   outcome_of = outcome_found c.limits e.whole.opened f e.whole.cancelled_at found;
+  stop = stop_found c query (answer_of c.limits e.whole.opened) f e.whole found;
   answerable = record { stop = None; opened = e.whole; coded = (e.given, code_found (answer_of c.limits e.whole.opened) f found) };
   steps = inl (evaluated_all c query e.whole.opened e.whole.far e.whole.is_open e.whole.is_far e.was_planned);
 }
@@ -169,6 +177,11 @@ outcome_stopped : (l : Limits) (o : Open) (why : Stop) → o.cancelled ≡ cance
 outcome_stopped l o (Cancelled place) e = (place, e)
 outcome_stopped l o (Exhausted job) e = e
 outcome_stopped l o Starved e = e
+
+stop_stopped : (c : CoreData) (query : ℕ) (why : Stop) → IsStoppedBy c query why → GoesWithStop c query (stopped_as why)
+stop_stopped c query (Cancelled place) s = (place, s)
+stop_stopped c query (Exhausted job) s = s
+stop_stopped c query Starved s = s
 
 code_stopped : (l : Limits) (o : Open) (given : Bool) (why : Stop) → calls.IsCodeBy l o given (Some why) (code_in (stopped_as why))
 code_stopped l o given (Cancelled place) = refl
@@ -185,6 +198,7 @@ settled_stopped c query why s = record {
   opened = s.opened;
   is_open = s.is_open;
   outcome_of = outcome_stopped c.limits s.opened why s.cancelled_at;
+  stop = stop_stopped c query why s;
   answerable = record { stop = Some why; opened = s; coded = code_stopped c.limits s.opened s.far.given why };
   steps =
       subst (λ (n : ℕ). AreSteps (length (points s.opened.asked.query.grid)) (code_in (stopped_as why)) n)
@@ -218,6 +232,7 @@ replied c by query r new s code cached evaluated entered closed = record {
   is_open = s.is_open;
   middle = c;
   works = works_refl c;
+  stop = s.stop;
   entered = rw cached (rw evaluated entered);
   closed = closed;
   is = record {
@@ -237,6 +252,7 @@ answered_behind old mid by query (Answered r) new w a = record {
   is_open = open_over mid old query a.opened (sym w.history.journal) a.is_open;
   middle = a.middle;
   works = works_trans old mid a.middle w a.works;
+  stop = a.stop;
   entered = a.entered;
   closed = a.closed;
   is = subst (λ (l : Limits). IsReplyOf l a.opened r) w.history.limits a.is;

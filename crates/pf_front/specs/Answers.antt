@@ -3,7 +3,7 @@ use Rattle.std.specs.Prelude.{◌≡◌, ℕ, ◌+◌, ◌<◌, None, Some, leng
 use Rattle.pf_base.specs.Grids.{points}
 use Rattle.pf_base.specs.declared.plain.By.{By}
 use Rattle.pf_base.specs.declared.plain.Limits.{Limits}
-use Rattle.pf_core.specs.Calls.{IsWhole}
+use Rattle.pf_core.specs.Calls.{IsStoppedBy, IsWhole}
 use Rattle.pf_core.specs.Cores.{AreClosed, CoreData, Enters, in_hand_of, machine_of, queued_of}
 use Rattle.pf_front.specs.Works.{WorksOn}
 use Rattle.pf_front.specs.declared.answering.Answering.{Answering}
@@ -13,6 +13,7 @@ use Rattle.pf_front.specs.declared.outcome.Outcome.{Outcome}
 use Rattle.pf_front.specs.declared.outcome.Outcome.TheVariants as outcome
 use Rattle.pf_journal.specs.Machine.{AreSteps, Open, answer, answer_of, open_at}
 use Rattle.pf_model.specs.Direct.{failed, gathered}
+use Rattle.pf_query.specs.declared.stop.Stop.TheVariants.{Cancelled, Exhausted, Starved}
 
 -- the code that goes with what came out of a query
 abbrev pub code_in : Outcome → ℕ
@@ -31,6 +32,14 @@ IsOutcomeOf l o outcome.Cancelled = (place : ℕ) × (o.cancelled ≡ Some place
 IsOutcomeOf l o (outcome.Exhausted job) = o.cancelled ≡ None
 IsOutcomeOf l o outcome.Starved = o.cancelled ≡ None
 
+-- what came out of an open query goes with why it is stopped, if it is
+abbrev pub GoesWithStop : CoreData → (query : ℕ) → Outcome → Type 0
+GoesWithStop c query (outcome.Matrix rows) = IsWhole c query
+GoesWithStop c query (outcome.Failed step kind) = IsWhole c query
+GoesWithStop c query outcome.Cancelled = (place : ℕ) × IsStoppedBy c query (Cancelled place)
+GoesWithStop c query (outcome.Exhausted job) = IsStoppedBy c query (Exhausted job)
+GoesWithStop c query outcome.Starved = IsStoppedBy c query Starved
+
 -- a reply tells what came out, its code, and that no step was cached
 pub record IsReplyOf (l : Limits) (o : Open) (reply : Reply) : Type 0 where
   pub coded : reply.code ≡ code_in reply.outcome
@@ -44,6 +53,7 @@ pub record IsReplied (old : CoreData) (by : By) (query : ℕ) (reply : Reply) (n
   pub is_open : open_at query (machine_of old).queries ≡ Some opened
   pub middle : CoreData
   pub works : WorksOn old middle
+  pub stop : GoesWithStop middle query reply.outcome
   pub entered : Enters middle by (answer query reply.code reply.cached reply.evaluated) new
   pub closed : AreClosed middle query new
   pub is : IsReplyOf old.limits opened reply

@@ -1,22 +1,33 @@
 -- How far the work on an open query is, as contracts inside of this crate see it: this project's own.
 use Rattle.std.specs.Arc.{arc_value}
-use Rattle.std.specs.Prelude.{◌≡◌, ◌⊎◌, ℕ, Bool, true, false, nat_lt, Option, None, Some, length}
+use Rattle.std.specs.List.{slice_get}
+use Rattle.std.specs.Prelude.{◌≡◌, ◌⊎◌, ℕ, ◌*◌, ◌/◌, ◌%◌, Bool, true, false, nat_lt, Option, None, Some, List, length}
+use Rattle.pf_base.specs.GridLists.{GridData}
 use Rattle.pf_base.specs.Grids.{points}
+use Rattle.pf_base.specs.declared.plain.Row.{Row}
+use Rattle.pf_block.specs.Snaps.{SnapData}
 use Rattle.pf_core.specs.Calls.{IsAnswerable, IsStoppedBy, IsWhole, evaluated_of}
 use Rattle.pf_core.specs.Cores.{CoreData, machine_of}
-use Rattle.pf_core.specs.Jobs.{AreParts}
+use Rattle.pf_core.specs.Jobs.{AreParts, IsValueOver}
 use Rattle.pf_core.specs.Progress.{QueryProgress, progress_at}
-use Rattle.pf_front.specs.Answers.{IsInHands, IsOutcomeOf, code_in}
+use Rattle.pf_front.specs.Answers.{GoesWithStop, IsInHands, IsOutcomeOf, code_in}
 use Rattle.pf_front.specs.Works.{WorksOn}
 use Rattle.pf_front.specs.declared.outcome.Outcome.{Outcome}
 use Rattle.pf_front.specs.declared.outcome.Outcome.TheVariants as outcome
 use Rattle.pf_journal.specs.Machine.{AreSteps, Open, open_at}
 use Rattle.pf_model.specs.Direct.{Answer, failed, gathered}
+use Rattle.pf_model.specs.Lists.{Each}
+use Rattle.pf_model.specs.Log.{AreApart}
 use Rattle.pf_query.specs.declared.answers.Collected.{Collected}
 use Rattle.pf_query.specs.declared.answers.Collected.TheVariants as collected
 use Rattle.pf_query.specs.declared.gathered.Gathered.{Gathered}
 use Rattle.pf_query.specs.declared.stop.Stop.{Stop}
 use Rattle.pf_query.specs.declared.stop.Stop.TheVariants.{Cancelled, Exhausted, Starved}
+use Rattle.pf_shard.specs.Bound.{AreEvaluable}
+use Rattle.pf_shard.specs.Lawful.{IsLawful, ResolvedLegs, leg_count, legs_data}
+use Rattle.pf_shard.specs.LegParts.{FitsNodes}
+use Rattle.pf_shard.specs.declared.parts.Part.{Part}
+use Rattle.pf_store.specs.Standing.{StandsFor}
 
 -- a query is planned or stopped
 pub record IsBegun (c : CoreData) (query : ℕ) : Type 0 where
@@ -33,7 +44,27 @@ pub record IsEvaluable (c : CoreData) (query : ℕ) : Type 0 where
 -- legs and parts are those of a query that is open
 abbrev pub HasParts : CoreData → Option Open → Gathered → Type 0
 HasParts c None g = ⊥
-HasParts c (Some o) g = AreParts c.limits.window o (arc_value g.legs) g.runs.items g.parts.items
+HasParts c (Some o) g = AreParts c.limits o (arc_value g.legs) g.runs.items g.parts.items
+
+-- parts can be merged: they are of their legs' kind, as many a run as there are legs
+pub record AreMergeable (legs : ResolvedLegs) (runs : List GridData) (parts : List Part) : Type 0 where
+  pub lawful : IsLawful (legs_data legs)
+  pub evaluable : AreEvaluable legs.resolved
+  pub many : length parts ≡ length runs * leg_count (legs_data legs)
+  pub fits : Each (FitsNodes legs.nodes) parts
+
+-- parts are what legs are over runs, run by run and leg by leg
+abbrev pub AreLegValues : List Row → ResolvedLegs → List GridData → List Part → Type 0
+AreLegValues samples legs runs parts =
+    (i : ℕ) (run : GridData) (part : Part) → slice_get runs (i / leg_count (legs_data legs)) ≡ Some run → slice_get parts i ≡ Some part
+    → IsValueOver samples (legs_data legs) (i % leg_count (legs_data legs)) run part
+
+-- parts are what the first legs are over a run, so many
+pub record AreFirstParts (legs : ResolvedLegs) (snap : SnapData) (run : GridData) (count : ℕ) (parts : List Part) : Type 0 where
+  pub many : length parts ≡ count
+  pub fits : Each (FitsNodes legs.nodes) parts
+  pub values : (samples : List Row) → StandsFor snap samples → AreApart samples
+      → (i : ℕ) (part : Part) → slice_get parts i ≡ Some part → IsValueOver samples (legs_data legs) i run part
 
 -- one of a query's jobs waits
 abbrev pub some_waits : Collected → Bool
@@ -71,5 +102,6 @@ pub record IsSettled (c : CoreData) (query : ℕ) (found : Outcome) : Type 0 whe
   pub opened : Open
   pub is_open : open_at query (machine_of c).queries ≡ Some opened
   pub outcome_of : IsOutcomeOf c.limits opened found
+  pub stop : GoesWithStop c query found
   pub answerable : IsAnswerable c query (code_in found)
   pub steps : AreSteps (length (points opened.asked.query.grid)) (code_in found) (evaluated_of c query)

@@ -2,15 +2,15 @@
 //!
 //! What the layers above use:
 //!
-//! - `plan` binds an open query over its tenant's samples at the ask, and lets a job for each of its runs wait.
-//! - `work` does a job in hand: past its actor's hop and the gate it is evaluated, and its part is kept. A try fails only where the
-//!   count of the hop's faults rose.
+//! - `plan` binds an open query over its tenant's samples at the ask, and lets a job for each of its runs and legs wait.
+//! - `work` does a job in hand: past its actor's hop and the gate its leg is evaluated over its run, and the part is kept. A try fails
+//!   only where the count of the hop's faults rose.
 //! - `answer` does all that is left of an open query, and answers it. What comes out with code 200 or 422 is the direct evaluation of
-//!   the query over its tenant's samples at the ask; with 503 exactly that it was cancelled. 500 tells that one of its jobs failed five
-//!   times, and 507 that memory ran out; of these two the contract here says only that it was not cancelled, and `pf_core` asks for the
-//!   stop. Before the answer no entry is added, and the same jobs are in the hands of others.
+//!   the query over its tenant's samples at the ask; with 503 exactly that it was cancelled, with 500 that the job it names failed five
+//!   times, and with 507 that memory ran out, as the core's stop of the query says. Before the answer no entry is added, and the same
+//!   jobs are in the hands of others.
 //!
-//! An answer of a query of tenant A over two runs, while a job of tenant B waits in front:
+//! An answer of a query of tenant A of one leg over two runs, while a job of tenant B waits in front:
 //!
 //! ```text
 //! ring      jobs that wait     done

@@ -1,11 +1,12 @@
 //! Work on jobs.
 
 ghost use Rattle.std.specs.Arc.{arc_value};
-ghost use Rattle.std.specs.Prelude.{◌≡◌, ◌+◌, ◌-◌, ◌<◌, ◌≤◌, IfOk, List, [], ℕ};
+ghost use Rattle.std.specs.Prelude.{◌+◌, ◌-◌, ◌<◌, ◌≤◌, IfOk, ℕ};
 ghost use Rattle.pf_core.specs.Calls.{IsPartOf, StandsForAsk};
 ghost use Rattle.pf_core.specs.Cores.{CoreData, Stands, tries_left};
 ghost use Rattle.pf_front.specs.Works.{HasFailed, IsEvaluated, IsIdle, IsWorked};
-ghost use Rattle.pf_shard.specs.Bound.{IsBoundOver};
+ghost use Rattle.pf_shard.specs.Bound.{AreBoundOver};
+ghost use Rattle.pf_shard.specs.Lawful.{IsLawful, leg_count, legs_data};
 
 use pf_base::OutOfMemory;
 use pf_core::Core;
@@ -30,9 +31,9 @@ pub enum Worked {
 
 /// What a job's leg is over its run.
 fn part_of(alloc: Global, held: &Held) -> Result<Part, OutOfMemory>
-    requires whole { (arc_value held.now.legs).nodes ≡ [] }
-    requires leg { held.now.head.leg ≡ 0 }
-    requires bound { IsBoundOver (arc_value held.now.legs).resolved (arc_value held.now.snap).labels }
+    requires lawful { IsLawful (legs_data (arc_value held.now.legs)) }
+    requires leg { held.now.head.leg < leg_count (legs_data (arc_value held.now.legs)) }
+    requires bound { AreBoundOver (arc_value held.now.legs) (arc_value held.now.snap).labels }
     ensures { IfOk result (λ p. (c : CoreData) → StandsForAsk c held.now → IsPartOf c held.now p) }
 {
     let part = eval_leg(alloc, &held.legs, held.head.leg, &held.snap, &held.run)?;

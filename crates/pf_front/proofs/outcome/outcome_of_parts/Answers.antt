@@ -12,6 +12,6 @@ pub returns : goal.returns
 returns c o there =
     let p = parts_open c.args.core.now (open_at c.args.query (machine_of c.args.core.now).queries) c.args.gathered c.requires in
     let is = some_is p.0 o (sym p.1.0 ∙ there) in
-    c.in_ok-found.ensures c.args.core.now.limits.window o
-    (subst (λ (x : Open). AreParts c.args.core.now.limits.window x (arc_value c.args.gathered.legs) c.args.gathered.runs.items c.args.gathered.parts.items) is p.1.1)
+    c.in_ok-found.ensures c.args.core.now.limits o
+    (subst (λ (x : Open). AreParts c.args.core.now.limits x (arc_value c.args.gathered.legs) c.args.gathered.runs.items c.args.gathered.parts.items) is p.1.1)
     (c.grid_of-grid.ensures o there)
