@@ -3,7 +3,7 @@ use Rattle.std.proofs.Common.{◌≡◌, Bool, true, false, ◌||◌, cond, map,
 use Rattle.std.specs.List.{list_any}
 use Rattle.pf_script.specs.Lines.{line_of, numbered_of}
 use Rattle.pf_script.specs.declared.script.NumberedLine.{NumberedLine}
-use Rattle.pf_top.specs.Correct.{has_keep, is_keep}
+use Rattle.pf_client.specs.Replays.{has_keep, is_keep}
 
 either : (a b : Bool) → (a || b) ≡ cond a true b
 either true b = refl

@@ -1,30 +1,8 @@
-pub mod Answering
-pub mod Asking
 pub mod Batches
-pub mod Cancelling
-pub mod Cases
-pub mod DirectAnswers
-pub mod Driving
-pub mod FileReads
-pub mod Gone
-pub mod HandLines
-pub mod Hands
-pub mod Holding
 pub mod KeepLines
-pub mod Lines
-pub mod Lists
-pub mod Onward
 pub mod OutputLaws
 pub mod Printed
 pub mod RangeSteps
-pub mod Reports
-pub mod Runs
-pub mod SlotLaws
-pub mod StepLines
-pub mod Steps
-pub mod TextReads
-pub mod Texts
 pub mod WordLaws
 mod WorkedReads
 mod WorkedWords
-pub mod Works

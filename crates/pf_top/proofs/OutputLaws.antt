@@ -7,20 +7,21 @@ use Rattle.pf_io.specs.Outside.{Rose, Holds, Grows, LongerThan, StayKnown}
 use Rattle.pf_model.specs.Exposition.{file_lines}
 use Rattle.pf_journal.specs.Scripts.{Numbered, lines_from, most_bytes, script_of}
 use Rattle.pf_script.specs.Lines.{AllFollow}
-use Rattle.pf_top.specs.Correct.{Agree, AllRead, Correct, EndsWell, FilesSeen, HasFailed, Held, IsOutput, IsUnbuilt, Outside, Reaches, Reported, files_of, has_keep, needed, needed_by, script_files}
-use Rattle.pf_top.specs.Drives.{IsReport}
-use Rattle.pf_top.specs.Files.{AreHeld, AreLoaded, Contents, HasContent, IsKept, LetsGo, NamesFile, TellsContent}
+use Rattle.pf_client.specs.Replays.{Agree, HasFailed, Held, Reaches, files_of, has_keep}
+use Rattle.pf_top.specs.Correct.{AllRead, Correct, EndsWell, FilesSeen, IsOutput, IsUnbuilt, Outside, Reported, needed, needed_by, script_files}
+use Rattle.pf_client.specs.Drives.{IsReport}
+use Rattle.pf_client.specs.Files.{AreHeld, AreLoaded, Contents, HasContent, IsKept, LetsGo, NamesFile, TellsContent}
 use Rattle.pf_top.specs.Outputs.{IsPrinted, IsReplay, IsRun, IsScriptOutput, IsWordsOutput}
 use Rattle.pf_top.specs.Refusals.{refused_not_built, refused_read, refused_script}
 use Rattle.pf_top.specs.Words.{Replay, evaluation_words, limits_with, replay_words}
 use Rattle.std.specs.declared.vec.Vec.{Vec}
 use Rattle.std.specs.declared.alloc.Global.{Global}
-use Rattle.pf_top.specs.declared.loaded.Content.{Content}
-use Rattle.pf_top.specs.declared.loaded.Content.TheVariants.{Bytes, TooLong}
-use Rattle.pf_top.proofs.Holding.{holding, holding_bytes, holding_none, holding_one}
-use Rattle.pf_top.proofs.Gone.{left_held, left_there}
-use Rattle.pf_top.proofs.Lines.{all_first, last_behind}
-use Rattle.pf_top.proofs.Texts.{each_file, failed_since, read_there}
+use Rattle.pf_client.specs.declared.loaded.Content.{Content}
+use Rattle.pf_client.specs.declared.loaded.Content.TheVariants.{Bytes, TooLong}
+use Rattle.pf_client.proofs.Holding.{holding, holding_bytes, holding_none, holding_one}
+use Rattle.pf_client.proofs.Gone.{left_held, left_there}
+use Rattle.pf_client.proofs.Lines.{all_first, last_behind}
+use Rattle.pf_client.proofs.Texts.{each_file, failed_since, read_there}
 
 -- ---- once the script is read
 

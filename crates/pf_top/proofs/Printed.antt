@@ -23,18 +23,19 @@ use Rattle.pf_report.specs.Bodies.{code_in, text_of}
 use Rattle.pf_report.specs.declared.bodies.Body.{Body}
 use Rattle.pf_types.specs.Errors.{words_of_error}
 use Rattle.pf_types.specs.declared.query.QueryError.{QueryError}
-use Rattle.pf_top.specs.Correct.{AllRead, FilesSeen, Held, IsUnbuilt, Reaches, needed, needed_by}
+use Rattle.pf_client.specs.Replays.{Held, Reaches}
+use Rattle.pf_top.specs.Correct.{AllRead, FilesSeen, IsUnbuilt, needed, needed_by}
 use Rattle.pf_top.specs.Evaluations.{IsFileOutput, IsNamedOutput, IsText}
-use Rattle.pf_top.specs.Files.{HoldsContent, TellsContent}
+use Rattle.pf_client.specs.Files.{HoldsContent, TellsContent}
 use Rattle.pf_top.specs.Outputs.{IsPrinted, IsWordsOutput}
-use Rattle.pf_top.specs.Queries.{IsQueryRead}
+use Rattle.pf_client.specs.Queries.{IsQueryRead}
 use Rattle.pf_top.specs.Refusals.{refused_not_built}
 use Rattle.pf_top.specs.Words.{Evaluation, Replay, evaluation_words, replay_words}
 use Rattle.pf_types.specs.declared.bound.BoundQuery.{BoundQuery}
-use Rattle.pf_top.specs.declared.loaded.Content.{Content}
-use Rattle.pf_top.specs.declared.queries.QueryRead.{QueryRead}
-use Rattle.pf_top.specs.declared.queries.QueryRead.TheVariants as query
-use Rattle.pf_top.proofs.Holding.{holding_bytes, holding_none, holding_one}
+use Rattle.pf_client.specs.declared.loaded.Content.{Content}
+use Rattle.pf_client.specs.declared.queries.QueryRead.{QueryRead}
+use Rattle.pf_client.specs.declared.queries.QueryRead.TheVariants as query
+use Rattle.pf_client.proofs.Holding.{holding_bytes, holding_none, holding_one}
 
 -- the code of a refusal
 pub code_400 : decimal 400 ≡ codes "400"

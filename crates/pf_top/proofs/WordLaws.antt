@@ -7,9 +7,10 @@ use Rattle.std.specs.Str.{bytes_eq}
 use Rattle.std.proofs.lemmas.Bool.Decides.{nat_tests}
 use Rattle.pf_base.specs.DurationScans.{duration_of}
 use Rattle.pf_base.specs.declared.plain.Limits.{Limits}
+use Rattle.pf_core.specs.Cores.{AreLimits}
 use Rattle.pf_model.specs.Cuts.{◌>>=◌, kept}
 use Rattle.pf_journal.specs.Scripts.{number_of}
-use Rattle.pf_top.specs.Words.{OptionName, Part, Replay, Word, plain, last_dashes, named, valued, of_limit, of_window, of_interval, of_journal, at_most_once, duration_from, exactly_one, is_dashed, limits_with, number_within, option, others_of, parts_of, replay_behind, replay_of, replay_words, values_of, with_part, word_of}
+use Rattle.pf_top.specs.Words.{OptionName, Part, Replay, Word, plain, last_dashes, named, valued, of_limit, of_window, of_interval, of_shards, of_journal, at_most_once, duration_from, exactly_one, is_dashed, limits_with, number_within, option, others_of, parts_of, replay_behind, replay_of, replay_words, values_of, with_part, word_of}
 use Rattle.pf_top.specs.Words as words
 use Rattle.pf_top.specs.WordSteps.{Given, Next, any, before, nothing_given, once, read_all, replay_by, step, value_of, with_option, with_script, with_word}
 use Rattle.pf_top.specs.WordSteps as steps
@@ -29,14 +30,15 @@ script_with (w ∷ []) None = Some w
 script_with (w ∷ (x ∷ ws)) None = None
 script_with (w ∷ ws) (Some s) = None
 
-chosen : Option (Option ℕ) → Option (Option ℕ) → Option (Option ℕ) → Option (Option ℕ) → Option (List ℕ) → Option Replay
-chosen limits windows intervals journals scripts = do
+chosen : Option (Option ℕ) → Option (Option ℕ) → Option (Option ℕ) → Option (Option ℕ) → Option (Option ℕ) → Option (List ℕ) → Option Replay
+chosen limits windows intervals shards journals scripts = do
   limit ← limits
   window ← windows
   interval ← intervals
+  shards ← shards
   journal ← journals
   script ← scripts
-  Some (record { limit = limit; window = window; interval = interval; journal = journal; script = script })
+  Some (record { limit = limit; window = window; interval = interval; shards = shards; journal = journal; script = script })
 
 abbrev limits_in : Given → List Part → Option (Option ℕ)
 limits_in g ps = further (number_within 1 10000) (values_of of_limit ps) g.limit
@@ -47,6 +49,9 @@ windows_in g ps = further (duration_from 0) (values_of of_window ps) g.window
 abbrev intervals_in : Given → List Part → Option (Option ℕ)
 intervals_in g ps = further (duration_from 1000) (values_of of_interval ps) g.interval
 
+abbrev shards_in : Given → List Part → Option (Option ℕ)
+shards_in g ps = further (number_within 1 64) (values_of of_shards ps) g.shards
+
 abbrev journals_in : Given → List Part → Option (Option ℕ)
 journals_in g ps = further (number_within 1 4000000) (values_of of_journal ps) g.journal
 
@@ -54,39 +59,48 @@ abbrev scripts_in : Given → List Part → Option (List ℕ)
 scripts_in g ps = script_with (others_of ps) g.script
 
 replay_on : Given → List Part → Option Replay
-replay_on g ps = chosen (limits_in g ps) (windows_in g ps) (intervals_in g ps) (journals_in g ps) (scripts_in g ps)
+replay_on g ps = chosen (limits_in g ps) (windows_in g ps) (intervals_in g ps) (shards_in g ps) (journals_in g ps) (scripts_in g ps)
 
 -- ---- none of them, and the first of them
 
-chosen_1 : (b c d : Option (Option ℕ)) (e : Option (List ℕ)) → chosen None b c d e ≡ None
+chosen_1 : (b c d e : Option (Option ℕ)) (f : Option (List ℕ)) → chosen None b c d e f ≡ None
 unfolding chosen
-chosen_1 b c d e = refl
+chosen_1 b c d e f = refl
 
-chosen_2 : (a c d : Option (Option ℕ)) (e : Option (List ℕ)) → chosen a None c d e ≡ None
+chosen_2 : (a c d e : Option (Option ℕ)) (f : Option (List ℕ)) → chosen a None c d e f ≡ None
 unfolding chosen
-chosen_2 None c d e = refl
-chosen_2 (Some x) c d e = refl
+chosen_2 None c d e f = refl
+chosen_2 (Some x) c d e f = refl
 
-chosen_3 : (a b d : Option (Option ℕ)) (e : Option (List ℕ)) → chosen a b None d e ≡ None
+chosen_3 : (a b d e : Option (Option ℕ)) (f : Option (List ℕ)) → chosen a b None d e f ≡ None
 unfolding chosen
-chosen_3 None b d e = refl
-chosen_3 (Some x) None d e = refl
-chosen_3 (Some x) (Some y) d e = refl
+chosen_3 None b d e f = refl
+chosen_3 (Some x) None d e f = refl
+chosen_3 (Some x) (Some y) d e f = refl
 
-chosen_4 : (a b c : Option (Option ℕ)) (e : Option (List ℕ)) → chosen a b c None e ≡ None
+chosen_4 : (a b c e : Option (Option ℕ)) (f : Option (List ℕ)) → chosen a b c None e f ≡ None
 unfolding chosen
-chosen_4 None b c e = refl
-chosen_4 (Some x) None c e = refl
-chosen_4 (Some x) (Some y) None e = refl
-chosen_4 (Some x) (Some y) (Some z) e = refl
+chosen_4 None b c e f = refl
+chosen_4 (Some x) None c e f = refl
+chosen_4 (Some x) (Some y) None e f = refl
+chosen_4 (Some x) (Some y) (Some z) e f = refl
 
-chosen_5 : (a b c d : Option (Option ℕ)) → chosen a b c d None ≡ None
+chosen_5 : (a b c d : Option (Option ℕ)) (f : Option (List ℕ)) → chosen a b c d None f ≡ None
 unfolding chosen
-chosen_5 None b c d = refl
-chosen_5 (Some x) None c d = refl
-chosen_5 (Some x) (Some y) None d = refl
-chosen_5 (Some x) (Some y) (Some z) None = refl
-chosen_5 (Some x) (Some y) (Some z) (Some w) = refl
+chosen_5 None b c d f = refl
+chosen_5 (Some x) None c d f = refl
+chosen_5 (Some x) (Some y) None d f = refl
+chosen_5 (Some x) (Some y) (Some z) None f = refl
+chosen_5 (Some x) (Some y) (Some z) (Some w) f = refl
+
+chosen_6 : (a b c d e : Option (Option ℕ)) → chosen a b c d e None ≡ None
+unfolding chosen
+chosen_6 None b c d e = refl
+chosen_6 (Some x) None c d e = refl
+chosen_6 (Some x) (Some y) None d e = refl
+chosen_6 (Some x) (Some y) (Some z) None e = refl
+chosen_6 (Some x) (Some y) (Some z) (Some w) None = refl
+chosen_6 (Some x) (Some y) (Some z) (Some w) (Some v) = refl
 
 none_further : (read : List ℕ → Option ℕ) (v : List ℕ) (vs : List (List ℕ)) (o : Option ℕ) → once o (read v) ≡ None → further read (v ∷ vs) o ≡ None
 unfolding further
@@ -117,19 +131,28 @@ option_first : (g : Given) (name : OptionName) (value : List ℕ) (ps : List Par
 unfolding replay_on
 option_first g of_limit value ps =
     by_once (number_within 1 10000) value (values_of of_limit ps) g.limit
-    (λ a. chosen a (windows_in g ps) (intervals_in g ps) (journals_in g ps) (scripts_in g ps)) (chosen_1 (windows_in g ps) (intervals_in g ps) (journals_in g ps) (scripts_in g ps))
+    (λ a. chosen a (windows_in g ps) (intervals_in g ps) (shards_in g ps) (journals_in g ps) (scripts_in g ps))
+    (chosen_1 (windows_in g ps) (intervals_in g ps) (shards_in g ps) (journals_in g ps) (scripts_in g ps))
     ∙ sym (map_then (λ n. record g { limit = Some n }) (λ h. replay_on h ps) (once g.limit (number_within 1 10000 value)))
 option_first g of_window value ps =
     by_once (duration_from 0) value (values_of of_window ps) g.window
-    (λ b. chosen (limits_in g ps) b (intervals_in g ps) (journals_in g ps) (scripts_in g ps)) (chosen_2 (limits_in g ps) (intervals_in g ps) (journals_in g ps) (scripts_in g ps))
+    (λ b. chosen (limits_in g ps) b (intervals_in g ps) (shards_in g ps) (journals_in g ps) (scripts_in g ps))
+    (chosen_2 (limits_in g ps) (intervals_in g ps) (shards_in g ps) (journals_in g ps) (scripts_in g ps))
     ∙ sym (map_then (λ n. record g { window = Some n }) (λ h. replay_on h ps) (once g.window (duration_from 0 value)))
 option_first g of_interval value ps =
     by_once (duration_from 1000) value (values_of of_interval ps) g.interval
-    (λ c. chosen (limits_in g ps) (windows_in g ps) c (journals_in g ps) (scripts_in g ps)) (chosen_3 (limits_in g ps) (windows_in g ps) (journals_in g ps) (scripts_in g ps))
+    (λ c. chosen (limits_in g ps) (windows_in g ps) c (shards_in g ps) (journals_in g ps) (scripts_in g ps))
+    (chosen_3 (limits_in g ps) (windows_in g ps) (shards_in g ps) (journals_in g ps) (scripts_in g ps))
     ∙ sym (map_then (λ n. record g { interval = Some n }) (λ h. replay_on h ps) (once g.interval (duration_from 1000 value)))
+option_first g of_shards value ps =
+    by_once (number_within 1 64) value (values_of of_shards ps) g.shards
+    (λ d. chosen (limits_in g ps) (windows_in g ps) (intervals_in g ps) d (journals_in g ps) (scripts_in g ps))
+    (chosen_4 (limits_in g ps) (windows_in g ps) (intervals_in g ps) (journals_in g ps) (scripts_in g ps))
+    ∙ sym (map_then (λ n. record g { shards = Some n }) (λ h. replay_on h ps) (once g.shards (number_within 1 64 value)))
 option_first g of_journal value ps =
     by_once (number_within 1 4000000) value (values_of of_journal ps) g.journal
-    (λ d. chosen (limits_in g ps) (windows_in g ps) (intervals_in g ps) d (scripts_in g ps)) (chosen_4 (limits_in g ps) (windows_in g ps) (intervals_in g ps) (scripts_in g ps))
+    (λ e. chosen (limits_in g ps) (windows_in g ps) (intervals_in g ps) (shards_in g ps) e (scripts_in g ps))
+    (chosen_5 (limits_in g ps) (windows_in g ps) (intervals_in g ps) (shards_in g ps) (scripts_in g ps))
     ∙ sym (map_then (λ n. record g { journal = Some n }) (λ h. replay_on h ps) (once g.journal (number_within 1 4000000 value)))
 
 script_first : (w : List ℕ) (ws : List (List ℕ)) (s : Option (List ℕ)) (give : Option (List ℕ) → Option Replay)
@@ -143,8 +166,8 @@ script_first w (x ∷ ws) (Some s) give none = none
 other_first : (g : Given) (word : List ℕ) (ps : List Part) → replay_on g (words.other word ∷ ps) ≡ (with_script g word >>= λ h. replay_on h ps)
 unfolding replay_on
 other_first g word ps =
-    script_first word (others_of ps) g.script (chosen (limits_in g ps) (windows_in g ps) (intervals_in g ps) (journals_in g ps))
-    (chosen_5 (limits_in g ps) (windows_in g ps) (intervals_in g ps) (journals_in g ps))
+    script_first word (others_of ps) g.script (chosen (limits_in g ps) (windows_in g ps) (intervals_in g ps) (shards_in g ps) (journals_in g ps))
+    (chosen_6 (limits_in g ps) (windows_in g ps) (intervals_in g ps) (shards_in g ps) (journals_in g ps))
     ∙ sym (map_then (λ s. record g { script = Some s }) (λ h. replay_on h ps) (once g.script (Some word)))
 
 -- ---- word by word
@@ -184,7 +207,7 @@ further_none read o = refl
 last_one : (g : Given) (next : Next) → replay_by g g.script next ≡ (parts_in next [] >>= replay_on g)
 unfolding parts_in replay_on further script_with chosen
 last_one g next = by g.script refl next where
-  by : (s : Option (List ℕ)) → g.script ≡ s → (next : Next) → replay_by g s next ≡ (parts_in next [] >>= λ ps. chosen (limits_in g ps) (windows_in g ps) (intervals_in g ps) (journals_in g ps) (script_with (others_of ps) s))
+  by : (s : Option (List ℕ)) → g.script ≡ s → (next : Next) → replay_by g s next ≡ (parts_in next [] >>= λ ps. chosen (limits_in g ps) (windows_in g ps) (intervals_in g ps) (shards_in g ps) (journals_in g ps) (script_with (others_of ps) s))
   by s e (value_of name) = refl
   by None e any = refl
   by (Some x) e any = refl
@@ -232,14 +255,16 @@ one_script [] = refl
 one_script (w ∷ []) = refl
 one_script (w ∷ (x ∷ ws)) = refl
 
-same_chosen : (a a' b b' c c' d d' : Option (Option ℕ)) (e e' : Option (List ℕ)) → a ≡ a' → b ≡ b' → c ≡ c' → d ≡ d' → e ≡ e' → chosen a b c d e ≡ chosen a' b' c' d' e'
-same_chosen a a' b b' c c' d d' e e' p q r s t = cc
+same_chosen : (a a' b b' c c' d d' e e' : Option (Option ℕ)) (f f' : Option (List ℕ)) → a ≡ a' → b ≡ b' → c ≡ c' → d ≡ d' → e ≡ e' → f ≡ f'
+    → chosen a b c d e f ≡ chosen a' b' c' d' e' f'
+same_chosen a a' b b' c c' d d' e e' f f' p q r s t u = cc
 
 from_nothing : (ps : List Part) → replay_on nothing_given ps ≡ replay_of ps
 unfolding replay_on chosen
-from_nothing ps = same_chosen _ _ _ _ _ _ _ _ _ _
+from_nothing ps = same_chosen _ _ _ _ _ _ _ _ _ _ _ _
     (once_at_most (number_within 1 10000) (values_of of_limit ps)) (once_at_most (duration_from 0) (values_of of_window ps))
-    (once_at_most (duration_from 1000) (values_of of_interval ps)) (once_at_most (number_within 1 4000000) (values_of of_journal ps))
+    (once_at_most (duration_from 1000) (values_of of_interval ps)) (once_at_most (number_within 1 64) (values_of of_shards ps))
+    (once_at_most (number_within 1 4000000) (values_of of_journal ps))
     (one_script (others_of ps))
 
 read_behind : (ws : List (List ℕ)) → (read_all nothing_given any ws >>= λ s. replay_by s.0 s.0.script s.1) ≡ replay_behind ws
@@ -298,50 +323,60 @@ duration_in least v n e = by (result_ok (duration_of v)) e where
   by None e = cc
   by (Some k) e = tested k (nat_le least k) refl e
 
-chosen_is : (a b c d : Option (Option ℕ)) (e : Option (List ℕ)) (r : Replay) → chosen a b c d e ≡ Some r
-    → (a ≡ Some r.limit) × (c ≡ Some r.interval) × (d ≡ Some r.journal)
-unfolding chosen
-chosen_is None b c d e r h = cc
-chosen_is (Some x) None c d e r h = cc
-chosen_is (Some x) (Some y) None d e r h = cc
-chosen_is (Some x) (Some y) (Some z) None e r h = cc
-chosen_is (Some x) (Some y) (Some z) (Some w) None r h = cc
-chosen_is (Some x) (Some y) (Some z) (Some w) (Some s) r h =
-    let same : record { limit = x; window = y; interval = z; journal = w; script = s } ≡ r = cc in
-    (ap (λ (r : Replay). Some r.limit) same, ap (λ (r : Replay). Some r.interval) same, ap (λ (r : Replay). Some r.journal) same)
+-- of the values that make a replay those that have a range
+pub record AreChosen (a c d e : Option (Option ℕ)) (r : Replay) : Type 0 where
+  pub limit : a ≡ Some r.limit
+  pub interval : c ≡ Some r.interval
+  pub shards : d ≡ Some r.shards
+  pub journal : e ≡ Some r.journal
 
--- what is asked of limits
-pub record AreRight (l : Limits) : Type 0 where
-  pub some : 1 ≤ l.outstanding
-  pub bounded : l.journal ≤ 4000000
-  pub interval : 1000 ≤ l.interval
+chosen_is : (a b c d e : Option (Option ℕ)) (f : Option (List ℕ)) (r : Replay) → chosen a b c d e f ≡ Some r → AreChosen a c d e r
+unfolding chosen
+chosen_is None b c d e f r h = cc
+chosen_is (Some x) None c d e f r h = cc
+chosen_is (Some x) (Some y) None d e f r h = cc
+chosen_is (Some x) (Some y) (Some z) None e f r h = cc
+chosen_is (Some x) (Some y) (Some z) (Some w) None f r h = cc
+chosen_is (Some x) (Some y) (Some z) (Some w) (Some v) None r h = cc
+chosen_is (Some x) (Some y) (Some z) (Some w) (Some v) (Some s) r h =
+    let same : record { limit = x; window = y; interval = z; shards = w; journal = v; script = s } ≡ r = cc in
+    record {
+      limit = ap (λ (r : Replay). Some r.limit) same;
+      interval = ap (λ (r : Replay). Some r.interval) same;
+      shards = ap (λ (r : Replay). Some r.shards) same;
+      journal = ap (λ (r : Replay). Some r.journal) same;
+    }
 
 or_else : (P : ℕ → Type 0) (o : Option ℕ) (n : ℕ) → Chosen P o → P n → P (unwrap_or o n)
 or_else P None n h p = p
 or_else P (Some k) n h p = h
 
-right_by : (ps : List Part) (l : Limits) (r : Replay) → replay_of ps ≡ Some r → AreRight l → AreRight (limits_with l r)
+right_by : (ps : List Part) (l : Limits) (r : Replay) → replay_of ps ≡ Some r → AreLimits l → AreLimits (limits_with l r)
 unfolding chosen
 right_by ps l r e right =
     let is = chosen_is (at_most_once (number_within 1 10000) (values_of of_limit ps)) (at_most_once (duration_from 0) (values_of of_window ps))
-    (at_most_once (duration_from 1000) (values_of of_interval ps)) (at_most_once (number_within 1 4000000) (values_of of_journal ps))
-    (exactly_one (others_of ps)) r e in
+    (at_most_once (duration_from 1000) (values_of of_interval ps)) (at_most_once (number_within 1 64) (values_of of_shards ps))
+    (at_most_once (number_within 1 4000000) (values_of of_journal ps)) (exactly_one (others_of ps)) r e in
     record {
       some = or_else (λ n. 1 ≤ n) r.limit l.outstanding
-          (read_within (λ n. 1 ≤ n) (number_within 1 10000) (values_of of_limit ps) r.limit (λ v n h. (number_in 1 10000 v n h).0) is.0) right.some;
-      bounded = or_else (λ n. n ≤ 4000000) r.journal l.journal
-          (read_within (λ n. n ≤ 4000000) (number_within 1 4000000) (values_of of_journal ps) r.journal (λ v n h. (number_in 1 4000000 v n h).1) is.2) right.bounded;
+          (read_within (λ n. 1 ≤ n) (number_within 1 10000) (values_of of_limit ps) r.limit (λ v n h. (number_in 1 10000 v n h).0) is.limit) right.some;
       interval = or_else (λ n. 1000 ≤ n) r.interval l.interval
-          (read_within (λ n. 1000 ≤ n) (duration_from 1000) (values_of of_interval ps) r.interval (λ v n h. duration_in 1000 v n h) is.1) right.interval;
+          (read_within (λ n. 1000 ≤ n) (duration_from 1000) (values_of of_interval ps) r.interval (λ v n h. duration_in 1000 v n h) is.interval) right.interval;
+      shards = or_else (λ n. 1 ≤ n) r.shards l.shards
+          (read_within (λ n. 1 ≤ n) (number_within 1 64) (values_of of_shards ps) r.shards (λ v n h. (number_in 1 64 v n h).0) is.shards) right.shards;
+      most_shards = or_else (λ n. n ≤ 64) r.shards l.shards
+          (read_within (λ n. n ≤ 64) (number_within 1 64) (values_of of_shards ps) r.shards (λ v n h. (number_in 1 64 v n h).1) is.shards) right.most_shards;
+      bounded = or_else (λ n. n ≤ 4000000) r.journal l.journal
+          (read_within (λ n. n ≤ 4000000) (number_within 1 4000000) (values_of of_journal ps) r.journal (λ v n h. (number_in 1 4000000 v n h).1) is.journal) right.bounded;
     }
 
-pub limits_right : (ws : List (List ℕ)) (l : Limits) (r : Replay) → replay_words ws ≡ Some r → AreRight l → AreRight (limits_with l r)
+pub limits_right : (ws : List (List ℕ)) (l : Limits) (r : Replay) → replay_words ws ≡ Some r → AreLimits l → AreLimits (limits_with l r)
 limits_right [] l r e right = cc
 limits_right (command ∷ ws) l r e right = by (bytes_eq command (codes "replay")) e where
-  parts : (ps : Option (List Part)) → (ps >>= replay_of) ≡ Some r → AreRight (limits_with l r)
+  parts : (ps : Option (List Part)) → (ps >>= replay_of) ≡ Some r → AreLimits (limits_with l r)
   parts None h = cc
   parts (Some ps) h = right_by ps l r h right
 
-  by : (b : Bool) → cond b (replay_behind ws) None ≡ Some r → AreRight (limits_with l r)
+  by : (b : Bool) → cond b (replay_behind ws) None ≡ Some r → AreLimits (limits_with l r)
   by true h = parts (parts_of None ws) h
   by false h = cc

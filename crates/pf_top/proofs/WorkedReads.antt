@@ -2,7 +2,8 @@
 use Rattle.std.proofs.Common.{◌≡◌, ℕ, Bool, ◌||◌, Ok, Err, List, [], ◌∷◌, codes, refl, sym, ap, inl, inr, true≢false}
 use Rattle.std.specs.Str.{bytes_eq}
 use Rattle.pf_journal.specs.Scripts.{Numbered, ingest, ask, keep, plan}
-use Rattle.pf_top.specs.Correct.{Reaches, files_of, script_files}
+use Rattle.pf_client.specs.Replays.{Reaches, files_of}
+use Rattle.pf_top.specs.Correct.{script_files}
 
 abbrev lines : List Numbered
 lines =

@@ -3,7 +3,7 @@ use Rattle.std.specs.Prelude.{◌≡◌, ℕ, ◌⊎◌, Bool, true, false, cond
 use Rattle.pf_base.specs.Batches.{BatchData}
 use Rattle.pf_base.specs.Grids.{grid_of}
 use Rattle.pf_base.specs.declared.plain.Limits.{Limits}
-use Rattle.pf_io.specs.Outside.{Rose, Grows, Holds}
+use Rattle.pf_io.specs.Outside.{Rose, Grows}
 use Rattle.pf_model.specs.Lists.{Each}
 use Rattle.pf_model.specs.Log.{batch_samples}
 use Rattle.pf_model.specs.Queries.{IsReading, Reading, Readings}
@@ -11,12 +11,12 @@ use Rattle.pf_journal.specs.Asking.{asked_with}
 use Rattle.pf_journal.specs.Evaluations.{evaluated_text}
 use Rattle.pf_journal.specs.Files.{Gives, IsRefusedAs, Refusal}
 use Rattle.pf_journal.specs.Legal.{Legal, AreNames}
-use Rattle.pf_journal.specs.Machine.{Entry, What}
-use Rattle.pf_journal.specs.Machine as entry
+use Rattle.pf_journal.specs.Machine.{Entry}
 use Rattle.pf_journal.specs.Report.{report}
-use Rattle.pf_journal.specs.Rest.{Client, Rest, at_full}
-use Rattle.pf_journal.specs.Scripts.{Line, Numbered, ingest, keep, script_of}
+use Rattle.pf_journal.specs.Rest.{Rest}
+use Rattle.pf_journal.specs.Scripts.{Numbered, script_of}
 use Rattle.pf_journal.specs.Weave.{Weave}
+use Rattle.pf_client.specs.Replays.{Agree, HasFailed, HaveMetFull, Held, IsUncached, Reaches, files_of, has_keep}
 use Rattle.pf_top.specs.Refusals.{refused_file, refused_not_built, refused_read, refused_script}
 use Rattle.pf_top.specs.Words.{Evaluation, Replay, evaluation_words, limits_with, replay_words}
 
@@ -44,42 +44,12 @@ pub record Outside : Type 0 where
   pub old : Option (List ℕ)
   pub new : Option (List ℕ)
 
--- ---- what files hold
-
--- one reading of each file: bytes for every name
-abbrev pub Held : Type 0
-Held = List ℕ → List ℕ
-
--- the bytes are those that are told
-abbrev pub Agree : (List ℕ → Option (List ℕ)) → Held → Type 0
-Agree told held = (name : List ℕ) → Holds (told name) (held name)
-
--- a script with a `keep` line is of no form that is built
-abbrev pub is_keep : Line → Bool
-is_keep (keep id asked) = true
-is_keep _ = false
-
-abbrev pub has_keep : List Numbered → Bool
-has_keep [] = false
-has_keep (l ∷ ls) = cond (is_keep l.line) true (has_keep ls)
+-- ---- what is read
 
 -- the scripts are those that the words name: one that is not refused and has no `keep` line
 abbrev pub AreScripts : Held → Replay → List (List Numbered) → Type 0
 AreScripts held replay scripts =
     (lines : List Numbered) × ((scripts ≡ lines ∷ []) × ((script_of true (held replay.script) ≡ Ok lines) × (has_keep lines ≡ false)))
-
--- the file that a line names, and those that lines name, in the order of the lines
-abbrev pub file_of : Line → Option (List ℕ)
-file_of (ingest tenant file time) = Some file
-file_of _ = None
-
-abbrev pub with_file : Option (List ℕ) → List (List ℕ) → List (List ℕ)
-with_file None names = names
-with_file (Some file) names = file ∷ names
-
-abbrev pub files_of : List Numbered → List (List ℕ)
-files_of [] = []
-files_of (l ∷ ls) = with_file (file_of l.line) (files_of ls)
 
 abbrev pub script_files : Result (List Numbered) ℕ → List (List ℕ)
 script_files (Err line) = []
@@ -100,28 +70,7 @@ pub record AllRead (files : FilesSeen) (names : List (List ℕ)) : Type 0 where
   pub there : Each (λ name. files.lost name ≡ false) names
   pub steady : files.after ≡ files.before
 
--- who reads these files in order comes to this one, since none before it is lost
-abbrev pub Reaches : (List ℕ → Bool) → List (List ℕ) → List ℕ → Type 0
-Reaches lost [] name = ⊥
-Reaches lost (n ∷ ns) name = (n ≡ name) ⊎ ((lost n ≡ false) × Reaches lost ns name)
-
--- the last read failed, where it may have: the name is none that is sure, and the count of faults rose
-pub record HasFailed (sure : List ℕ → Bool) (before after : ℕ) (failed : Bool) (name : List ℕ) : Type 0 where
-  pub unsure : sure name ≡ false
-  pub rose : Rose before after
-  pub last : failed ≡ true
-
 -- ---- what is printed
-
--- a client met the full journal, or none did
-abbrev pub HaveMetFull : Bool → List Client → Type 0
-HaveMetFull false clients = Each (λ c. c.why ≡ at_full → ⊥) clients
-HaveMetFull true clients = (Each (λ c. c.why ≡ at_full → ⊥) clients) → ⊥
-
--- no step of an answer came from a cache
-abbrev pub IsUncached : What → Type 0
-IsUncached (entry.answer query code cached evaluated) = cached ≡ 0
-IsUncached _ = Unit {0}
 
 -- text is the report of a legal journal that is woven from the scripts, within the limits that the words choose
 pub record Reported (limits : Limits) (files : FilesSeen) (held : Held) (words : List (List ℕ)) (full : Bool) (text : List ℕ) : Type 0 where

@@ -8,7 +8,8 @@ use Rattle.pf_journal.specs.Asking.{asked_with}
 use Rattle.pf_journal.specs.Evaluations.{evaluated_text}
 use Rattle.pf_journal.specs.Files.{Gives, IsRefusedAs, Refusal}
 use Rattle.pf_io.specs.Outside.{Holds}
-use Rattle.pf_top.specs.Correct.{AllRead, FilesSeen, HasFailed}
+use Rattle.pf_client.specs.Replays.{HasFailed}
+use Rattle.pf_top.specs.Correct.{AllRead, FilesSeen}
 use Rattle.pf_top.specs.Refusals.{refused_file, refused_read}
 use Rattle.pf_top.specs.Words as words
 use Rattle.pf_top.specs.declared.words.Evaluation.{Evaluation}

@@ -1,13 +1,6 @@
-pub mod Asks
-pub mod Clients
 pub mod Correct
-pub mod Drives
 pub mod Evaluations
-pub mod Files
-pub mod Going
-pub mod Hands
 pub mod Outputs
-pub mod Queries
 pub mod Refusals
 pub mod WordSteps
 pub mod Words

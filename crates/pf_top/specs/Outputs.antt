@@ -2,8 +2,9 @@
 use Rattle.std.specs.Prelude.{◌≡◌, ℕ, ◌⊎◌, true, false, List}
 use Rattle.pf_base.specs.declared.plain.Limits.{Limits}
 use Rattle.pf_journal.specs.Scripts.{Numbered}
-use Rattle.pf_top.specs.Correct.{Agree, AllRead, Ended, FilesSeen, HasFailed, Held, Reaches, Refused, Reported, Unread, Unbuilt, files_of}
-use Rattle.pf_top.specs.Drives.{IsReport}
+use Rattle.pf_client.specs.Replays.{Agree, HasFailed, Held, Reaches, files_of}
+use Rattle.pf_top.specs.Correct.{AllRead, Ended, FilesSeen, Refused, Reported, Unread, Unbuilt}
+use Rattle.pf_client.specs.Drives.{IsReport}
 use Rattle.pf_top.specs.Refusals.{refused_read}
 
 -- a run without options: ten minutes of window, a day of interval

@@ -19,13 +19,15 @@ pub data OptionName : Type 0 where
   of_limit : OptionName
   of_window : OptionName
   of_interval : OptionName
+  of_shards : OptionName
   of_journal : OptionName
 
 abbrev pub option_name : List ℕ → Option OptionName
 option_name name =
     cond (bytes_eq name (codes "limit")) (Some of_limit)
     (cond (bytes_eq name (codes "window")) (Some of_window)
-    (cond (bytes_eq name (codes "interval")) (Some of_interval) (cond (bytes_eq name (codes "journal")) (Some of_journal) None)))
+    (cond (bytes_eq name (codes "interval")) (Some of_interval)
+    (cond (bytes_eq name (codes "shards")) (Some of_shards) (cond (bytes_eq name (codes "journal")) (Some of_journal) None))))
 
 -- a word where an option may stand
 pub data Word : Type 0 where
@@ -88,6 +90,7 @@ abbrev pub is_same : OptionName → OptionName → Bool
 is_same of_limit of_limit = true
 is_same of_window of_window = true
 is_same of_interval of_interval = true
+is_same of_shards of_shards = true
 is_same of_journal of_journal = true
 is_same _ _ = false
 
@@ -108,6 +111,7 @@ pub record Replay : Type 0 where
   pub limit : Option ℕ
   pub window : Option ℕ
   pub interval : Option ℕ
+  pub shards : Option ℕ
   pub journal : Option ℕ
   pub script : List ℕ
 
@@ -134,9 +138,10 @@ replay_of parts = do
   limit ← at_most_once (number_within 1 10000) (values_of of_limit parts)
   window ← at_most_once (duration_from 0) (values_of of_window parts)
   interval ← at_most_once (duration_from 1000) (values_of of_interval parts)
+  shards ← at_most_once (number_within 1 64) (values_of of_shards parts)
   journal ← at_most_once (number_within 1 4000000) (values_of of_journal parts)
   script ← exactly_one (others_of parts)
-  Some (record { limit = limit; window = window; interval = interval; journal = journal; script = script })
+  Some (record { limit = limit; window = window; interval = interval; shards = shards; journal = journal; script = script })
 
 -- by the words behind the command
 abbrev pub replay_behind : List (List ℕ) → Option Replay
@@ -152,7 +157,7 @@ limits_with l r = record {
   outstanding = unwrap_or r.limit l.outstanding;
   window = unwrap_or r.window l.window;
   interval = unwrap_or r.interval l.interval;
-  shards = l.shards;
+  shards = unwrap_or r.shards l.shards;
   extents = l.extents;
   journal = unwrap_or r.journal l.journal;
 }

@@ -2,26 +2,28 @@
 
 ghost use Rattle.std.specs.Prelude.{◌≡◌, ◌≢◌, ◌≤◌, ℕ, List, [], IfOk, None, false, length, true, vec_len};
 ghost use Rattle.pf_block.specs.Snaps.{are_timed};
+ghost use Rattle.pf_core.specs.Cores.{AreLimits};
 ghost use Rattle.pf_model.specs.Lists.{Each};
 ghost use Rattle.pf_script.specs.Lines.{AllFollow, IsRead, lines_of};
-ghost use Rattle.pf_top.specs.Correct.{Correct, FilesSeen, Held, Outside, has_keep};
+ghost use Rattle.pf_client.specs.Replays.{Held, has_keep};
+ghost use Rattle.pf_top.specs.Correct.{Correct, FilesSeen, Outside};
 ghost use Rattle.pf_io.specs.Outside.{Holds};
 ghost use Rattle.pf_journal.specs.Scripts.{most_bytes};
 ghost use Rattle.pf_report.specs.Replies.{fault_of};
 ghost use Rattle.pf_top.specs.Evaluations.{IsBatchOutput, IsFileOutput, IsNamedOutput, evaluation_in};
-ghost use Rattle.pf_top.specs.Files.{AreHeld, HaveLast, HoldsContent, IsKept, IsShort, NamesFile};
+ghost use Rattle.pf_client.specs.Files.{AreHeld, HaveLast, HoldsContent, IsKept, IsShort, NamesFile};
 ghost use Rattle.pf_top.specs.Outputs.{IsReplay, IsRun, IsWordsOutput, default_limits};
 ghost use Rattle.pf_top.specs.Refusals.{refused_file, refused_line, refused_not_built, refused_read, refused_script};
 ghost use Rattle.pf_top.specs.Words.{evaluation_words, replay_words};
 
-use crate::client::{FileRead, read_content};
-use crate::drive::run_script;
 use crate::evaluation::evaluation_of;
-use crate::loaded::{Content, Contents, LoadError, Loaded, let_go, load_all, only, read_file};
-use crate::queries::read_queries;
 use crate::unbuilt::has_keep;
 use crate::words::{Evaluation, evaluation_words, limits_with, replay_words};
 use pf_base::{Batch, Limits, OutOfMemory, Text};
+use pf_client::{
+    Content, Contents, FileRead, LoadError, Loaded, let_go, load_all, only, read_content,
+    read_file, read_queries, run_script,
+};
 use pf_io::{Doors, Files, Gate, Hop, ReadError, Sink, put_all};
 use pf_report::{FileFault, Word, push_line};
 use pf_script::{Script, ScriptError, read_script};
@@ -98,9 +100,7 @@ fn run_loaded<H: Hop, G: Gate>(
     hops: &mut [H],
     gate: &G,
 ) -> Result<Output, OutOfMemory>
-    requires journal { limits.journal ≤ 4000000 }
-    requires some { 1 ≤ limits.outstanding }
-    requires interval { 1000 ≤ limits.interval }
+    requires limits { AreLimits limits }
     requires actors { length hops.old ≡ 32 }
     requires there { (name : List ℕ) → NamesFile (lines_of script.now) name → IsKept files name }
     requires lasts { HaveLast (lines_of script.now) files }
@@ -131,9 +131,7 @@ fn replay_script<F: Files, H: Hop, G: Gate>(
     hops: &mut [H],
     gate: &G,
 ) -> Result<Output, OutOfMemory>
-    requires journal { limits.journal ≤ 4000000 }
-    requires some { 1 ≤ limits.outstanding }
-    requires interval { 1000 ≤ limits.interval }
+    requires limits { AreLimits limits }
     requires actors { length hops.old ≡ 32 }
     requires read { Each IsRead script.now.lines.items }
     requires following { AllFollow [] (lines_of script.now) }
@@ -259,9 +257,7 @@ fn run_words<F: Files, H: Hop, G: Gate>(
     hops: &mut [H],
     gate: &G,
 ) -> Result<Output, OutOfMemory>
-    requires journal { limits.journal ≤ 4000000 }
-    requires some { 1 ≤ limits.outstanding }
-    requires interval { 1000 ≤ limits.interval }
+    requires limits { AreLimits limits }
     requires actors { length hops.old ≡ 32 }
     ensures output { let seen : FilesSeen = record { told = F.told files.old; sure = F.sure files.old; lost = F.lost files.old; before = F.faults files.old; after = F.faults files.new; failed = F.failed files.new } in
         IfOk result (λ o. IsWordsOutput limits seen words.now o.status o.text.items) }
@@ -312,9 +308,7 @@ pub fn run_within<F: Files, O: Sink, H: Hop + Drop, G: Gate>(
     mut hops: Vec<H>,
     gate: &G,
 ) -> u8
-    requires journal { limits.journal ≤ 4000000 }
-    requires some { 1 ≤ limits.outstanding }
-    requires interval { 1000 ≤ limits.interval }
+    requires limits { AreLimits limits }
     requires actors { vec_len hops ≡ 32 }
     ensures claim { let seen : FilesSeen = record { told = F.told files.old; sure = F.sure files.old; lost = F.lost files.old; before = F.faults files.old; after = F.faults files.new; failed = F.failed files.new } in
         let outside : Outside = record { files = seen; out_before = O.faults out.old; out_after = O.faults out.new; old = O.told out.old; new = O.told out.new } in
@@ -332,8 +326,8 @@ pub fn run_within<F: Files, O: Sink, H: Hop + Drop, G: Gate>(
 
 /// Does all that the program does: takes its words, reads the files, writes what it prints and answers its status.
 ///
-/// Built are the words `replay SCRIPT`, with the options `--limit N`, `--window DURATION`, `--interval DURATION` and `--journal N`,
-/// and all scripts without a `keep` line; and the words `eval FILE QUERY START END STEP`, which print the code and the body of a
+/// Built are the words `replay SCRIPT`, with the options `--limit N`, `--window DURATION`, `--interval DURATION`,
+/// `--shards N` and `--journal N`, and all scripts without a `keep` line; and the words `eval FILE QUERY START END STEP`, which print the code and the body of a
 /// query over one file. Any text is read as a query or a selector, and one that is refused is answered so. The doors are of no use
 /// to these. The statuses are 0 for a report or an evaluation, 3 for a script with a line that is none, or an evaluation's file
 /// that is refused, 4 for a file that was not read, 5 for output that was not taken, 6 for want of memory, 8 for a report of a

@@ -19,7 +19,7 @@ use pf_report::Body;
 use std::alloc::Global;
 
 /// The answer of a query from the ids of the series that each of its selectors takes.
-#[tactic(auto, using(crate::proofs::DirectAnswers::all_among, crate::proofs::DirectAnswers::has_result, crate::proofs::DirectAnswers::has_failed))]
+#[tactic(auto, using(pf_client::proofs::DirectAnswers::all_among, pf_client::proofs::DirectAnswers::has_result, pf_client::proofs::DirectAnswers::has_failed))]
 fn body_of(
     alloc: Global,
     asked: &Asked,
@@ -45,7 +45,7 @@ fn body_of(
 
 /// The answer of a query over the samples that a snapshot stands for: a matrix over a range, a vector or a scalar at an instant,
 /// or the first step that has an error. Prometheus, HTTP API: Instant queries, Range queries.
-#[tactic(auto, using(crate::proofs::DirectAnswers::body_texts, crate::proofs::DirectAnswers::body_codes))]
+#[tactic(auto, using(pf_client::proofs::DirectAnswers::body_texts, pf_client::proofs::DirectAnswers::body_codes))]
 pub fn evaluate(alloc: Global, asked: &Asked, snap: &Snap) -> Result<Body, OutOfMemory>
     ensures text { IfOk result (λ b. (samples : List Row) → StandsFor snap.now samples → AreApart samples → text_of b ≡ body_text asked.now (direct samples asked.now.query)) }
     ensures code { IfOk result (λ b. (samples : List Row) → StandsFor snap.now samples → AreApart samples → code_in b ≡ code_of (direct samples asked.now.query)) }

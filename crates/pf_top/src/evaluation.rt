@@ -12,13 +12,13 @@ ghost use Rattle.pf_model.specs.Log.{AreApart, batch_samples};
 ghost use Rattle.pf_report.specs.Bodies.{code_in, text_of};
 ghost use Rattle.pf_store.specs.Standing.{StandsFor};
 ghost use Rattle.pf_top.specs.Evaluations.{IsEvaluationText, IsText, evaluation_in};
-ghost use Rattle.pf_top.specs.Queries.{IsQueryRead};
+ghost use Rattle.pf_client.specs.Queries.{IsQueryRead};
 ghost use Rattle.pf_types.specs.Errors.{words_of_error};
 
 use crate::evaluate::evaluate;
-use crate::queries::{QueryRead, read_text};
 use crate::words::Evaluation;
 use pf_base::{Batch, Grid, GridError, OutOfMemory, Text};
+use pf_client::{QueryRead, read_text};
 use pf_report::{Body, push_evaluation};
 use pf_store::{Pin, TenantLog};
 use pf_types::{BoundQuery, QueryError, When, error_text, grid_text};

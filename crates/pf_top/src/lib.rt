@@ -6,18 +6,10 @@
 //! does the same with any limits where the words choose none.
 #![tactic(auto)]
 
-mod answers;
-mod client;
-mod drive;
 mod driver;
 mod evaluate;
 mod evaluation;
-mod journal;
-mod loaded;
 mod options;
-mod queries;
-mod slots;
-mod step_lines;
 mod unbuilt;
 mod words;
 

@@ -16,6 +16,7 @@ enum Name {
     Limit,
     Window,
     Interval,
+    Shards,
     Journal,
 }
 
@@ -48,6 +49,7 @@ struct Given<'a> {
     limit: Option<u32>,
     window: Option<u64>,
     interval: Option<u64>,
+    shards: Option<u32>,
     journal: Option<u64>,
     script: Option<&'a str>,
 }
@@ -78,6 +80,8 @@ fn option_name(text: &[u8]) -> Option<Name>
         Some(Name::Window)
     } else if text == b"interval".as_slice() {
         Some(Name::Interval)
+    } else if text == b"shards".as_slice() {
+        Some(Name::Shards)
     } else if text == b"journal".as_slice() {
         Some(Name::Journal)
     } else {
@@ -147,6 +151,13 @@ fn limit_of(value: &[u8]) -> Option<u32>
     Some(number as u32)
 }
 
+fn shards_of(value: &[u8]) -> Option<u32>
+    ensures { result ≡ number_within 1 64 value.now }
+{
+    let number = number_within(value, 1, 64)?;
+    Some(number as u32)
+}
+
 fn millis_of(value: &[u8]) -> Option<u64>
     ensures { result ≡ result_ok (duration_of value.now) }
 {
@@ -183,6 +194,7 @@ impl<'a> Given<'a> {
                 self.interval,
                 duration_from(value, 1000),
             )?),
+            Name::Shards => given.shards = Some(once(self.shards, shards_of(value))?),
             Name::Journal => {
                 given.journal = Some(once(self.journal, number_within(value, 1, 4_000_000))?)
             }
@@ -240,6 +252,7 @@ impl<'a> Given<'a> {
             limit: self.limit,
             window: self.window,
             interval: self.interval,
+            shards: self.shards,
             journal: self.journal,
             script: self.script?,
         })
@@ -253,6 +266,7 @@ fn read_all(words: &[Text]) -> Option<(Given<'_>, Next)>
         limit: None,
         window: None,
         interval: None,
+        shards: None,
         journal: None,
         script: None,
     };

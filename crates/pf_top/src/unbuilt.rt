@@ -3,7 +3,7 @@
 ghost use Rattle.std.specs.Prelude.{◌≡◌};
 ghost use Rattle.std.specs.List.{list_any};
 ghost use Rattle.pf_script.specs.Lines.{line_of, lines_of};
-ghost use Rattle.pf_top.specs.Correct.{has_keep, is_keep};
+ghost use Rattle.pf_client.specs.Replays.{has_keep, is_keep};
 
 use pf_script::{Line, NumberedLine, Script};
 

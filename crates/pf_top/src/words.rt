@@ -15,6 +15,7 @@ pub struct Replay<'a> {
     pub limit: Option<u32>,
     pub window: Option<u64>,
     pub interval: Option<u64>,
+    pub shards: Option<u32>,
     pub journal: Option<u64>,
     pub script: &'a str,
 }
@@ -39,6 +40,7 @@ pub fn limits_with(limits: Limits, replay: &Replay<'_>) -> Limits
         outstanding: replay.limit.unwrap_or(limits.outstanding),
         window: replay.window.unwrap_or(limits.window),
         interval: replay.interval.unwrap_or(limits.interval),
+        shards: replay.shards.unwrap_or(limits.shards),
         journal: replay.journal.unwrap_or(limits.journal),
         ..limits
     }

@@ -1,7 +1,7 @@
 use Rattle.std.proofs.Common.{inl, inr, subst}
-use Rattle.pf_top.proofs.Cases.{if_ok_map}
+use Rattle.pf_client.proofs.Cases.{if_ok_map}
 use Rattle.pf_report.specs.Replies.{fault_of}
-use Rattle.pf_top.specs.Clients.{IsFileRead}
+use Rattle.pf_client.specs.Clients.{IsFileRead}
 use Rattle.pf_top.proofs.driver.evaluate_content.Goals as goal
 
 pub returns-in-Batch : goal.returns-in-Batch

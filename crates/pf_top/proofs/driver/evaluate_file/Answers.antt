@@ -1,7 +1,7 @@
 use Rattle.std.proofs.Common.{rules, inr}
 use Rattle.pf_top.proofs.Printed.{named_read}
-use Rattle.pf_top.proofs.Cases.{if_ok_map}
-use Rattle.pf_top.proofs.Texts.{short_by}
+use Rattle.pf_client.proofs.Cases.{if_ok_map}
+use Rattle.pf_client.proofs.Texts.{short_by}
 use Rattle.pf_top.specs.Correct.{FilesSeen}
 use Rattle.pf_top.specs.Evaluations.{evaluation_in}
 use Rattle.pf_top.proofs.driver.evaluate_file.Goals as goal

@@ -1,5 +1,5 @@
 use Rattle.std.proofs.Common.{rules, refl}
-use Rattle.pf_top.proofs.Cases.{if_ok_map}
+use Rattle.pf_client.proofs.Cases.{if_ok_map}
 use Rattle.pf_top.specs.Correct.{FilesSeen}
 use Rattle.pf_top.specs.Evaluations.{evaluation_in}
 use Rattle.pf_top.proofs.Printed.{named_printed, other_words}

@@ -1,8 +1,8 @@
 use Rattle.std.proofs.Common.{rules}
 use Rattle.pf_script.specs.Lines.{lines_of}
-use Rattle.pf_top.proofs.Gone.{left_last}
+use Rattle.pf_client.proofs.Gone.{left_last}
 use Rattle.pf_top.proofs.OutputLaws.{left_files, replay_failed, replayed}
-use Rattle.pf_top.proofs.Cases.{if_ok_map}
+use Rattle.pf_client.proofs.Cases.{if_ok_map}
 use Rattle.pf_top.specs.Correct.{FilesSeen}
 use Rattle.pf_top.proofs.driver.replay_script.Goals as goal
 

@@ -1,28 +1,19 @@
 -- What is given is what comes by the words.
 use Rattle.std.proofs.Common.{rules, subst, sym}
 use Rattle.pf_script.specs.Lines.{lines_of}
-use Rattle.pf_top.proofs.Cases.{if_ok_map}
+use Rattle.pf_client.proofs.Cases.{if_ok_map}
 use Rattle.pf_top.proofs.OutputLaws.{bytes_told, long_output, refused_output, unbuilt_output, unread_output, words_output}
-use Rattle.pf_top.proofs.WordLaws.{AreRight, limits_right}
+use Rattle.pf_core.specs.Cores.{AreLimits}
+use Rattle.pf_top.proofs.WordLaws.{limits_right}
 use Rattle.pf_top.specs.Correct.{FilesSeen}
 use Rattle.pf_top.specs.WordSteps.{replay_in}
 use Rattle.pf_top.proofs.driver.run_words.Goals as goal
 
 -- the limits that the words choose are within their ranges
-pub replay_script-requires-clause-journal : goal.replay_script-requires-clause-journal
-replay_script-requires-clause-journal g c =
-    let right : AreRight c.args.limits = record { some = c.requires.some; bounded = c.requires.journal; interval = c.requires.interval } in
-    (subst AreRight (sym c.limits_with-limits.ensures) (limits_right c.args.words.now c.args.limits (replay_in c.in-Some.replay) (sym c.in-Some.ensures) right)).bounded
-
-pub replay_script-requires-clause-some : goal.replay_script-requires-clause-some
-replay_script-requires-clause-some g c =
-    let right : AreRight c.args.limits = record { some = c.requires.some; bounded = c.requires.journal; interval = c.requires.interval } in
-    (subst AreRight (sym c.limits_with-limits.ensures) (limits_right c.args.words.now c.args.limits (replay_in c.in-Some.replay) (sym c.in-Some.ensures) right)).some
-
-pub replay_script-requires-clause-interval : goal.replay_script-requires-clause-interval
-replay_script-requires-clause-interval g c =
-    let right : AreRight c.args.limits = record { some = c.requires.some; bounded = c.requires.journal; interval = c.requires.interval } in
-    (subst AreRight (sym c.limits_with-limits.ensures) (limits_right c.args.words.now c.args.limits (replay_in c.in-Some.replay) (sym c.in-Some.ensures) right)).interval
+pub replay_script-requires-clause-limits : goal.replay_script-requires-clause-limits
+replay_script-requires-clause-limits g c =
+    subst AreLimits (sym c.limits_with-limits.ensures)
+    (limits_right c.args.words.now c.args.limits (replay_in c.in-Some.replay) (sym c.in-Some.ensures) c.requires.limits)
 
 pub returns-in-Ok-TooLong-clause-output : goal.returns-in-Ok-TooLong-clause-output
 returns-in-Ok-TooLong-clause-output g c =

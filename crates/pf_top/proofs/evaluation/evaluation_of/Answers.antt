@@ -1,6 +1,6 @@
 use Rattle.std.proofs.Common.{rules}
 use Rattle.pf_top.proofs.Printed.{times_printed}
-use Rattle.pf_top.proofs.Cases.{if_ok_map}
+use Rattle.pf_client.proofs.Cases.{if_ok_map}
 use Rattle.pf_top.proofs.evaluation.evaluation_of.Goals as goal
 
 pub returns-in-Ok : goal.returns-in-Ok

@@ -1,5 +1,5 @@
 use Rattle.std.proofs.Common.{subst}
-use Rattle.pf_top.specs.Queries.{IsQueryRead}
+use Rattle.pf_client.specs.Queries.{IsQueryRead}
 use Rattle.pf_top.proofs.Printed.{query_printed, refusal_printed}
 use Rattle.pf_top.proofs.evaluation.text_over.Goals as goal
 

@@ -1,0 +1,10 @@
+use Rattle.std.proofs.Common.{rules}
+use Rattle.pf_client.proofs.TextReads.{read_more}
+use Rattle.pf_client.proofs.queries.read_queries.Goals as goal
+
+pub loop-line-preserved : goal.loop-line-preserved
+loop-line-preserved c = record {
+  right = search rules;
+  kept = read_more c.args.script.now.lines.items c.loop-line.line-index c.line-item.result c.loop-line.queries c.read_line.new.queries
+      (search rules) (search rules) c.loop-line.invariant.kept (search rules);
+}

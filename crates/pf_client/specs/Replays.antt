@@ -1,0 +1,65 @@
+-- What a script names, how its files are read, and what its journal has: this project's own.
+use Rattle.std.specs.Prelude.{◌≡◌, ℕ, ◌⊎◌, Bool, true, false, cond, Option, Some, None, List, [], ◌∷◌}
+use Rattle.pf_io.specs.Outside.{Rose, Holds}
+use Rattle.pf_model.specs.Lists.{Each}
+use Rattle.pf_journal.specs.Machine.{What}
+use Rattle.pf_journal.specs.Machine as entry
+use Rattle.pf_journal.specs.Rest.{Client, at_full}
+use Rattle.pf_journal.specs.Scripts.{Line, Numbered, ingest, keep}
+
+-- ---- what files hold
+
+-- one reading of each file: bytes for every name
+abbrev pub Held : Type 0
+Held = List ℕ → List ℕ
+
+-- the bytes are those that are told
+abbrev pub Agree : (List ℕ → Option (List ℕ)) → Held → Type 0
+Agree told held = (name : List ℕ) → Holds (told name) (held name)
+
+-- the file that a line names, and those that lines name, in the order of the lines
+abbrev pub file_of : Line → Option (List ℕ)
+file_of (ingest tenant file time) = Some file
+file_of _ = None
+
+abbrev pub with_file : Option (List ℕ) → List (List ℕ) → List (List ℕ)
+with_file None names = names
+with_file (Some file) names = file ∷ names
+
+abbrev pub files_of : List Numbered → List (List ℕ)
+files_of [] = []
+files_of (l ∷ ls) = with_file (file_of l.line) (files_of ls)
+
+-- ---- how they are read
+
+-- who reads these files in order comes to this one, since none before it is lost
+abbrev pub Reaches : (List ℕ → Bool) → List (List ℕ) → List ℕ → Type 0
+Reaches lost [] name = ⊥
+Reaches lost (n ∷ ns) name = (n ≡ name) ⊎ ((lost n ≡ false) × Reaches lost ns name)
+
+-- the last read failed, where it may have: the name is none that is sure, and the count of faults rose
+pub record HasFailed (sure : List ℕ → Bool) (before after : ℕ) (failed : Bool) (name : List ℕ) : Type 0 where
+  pub unsure : sure name ≡ false
+  pub rose : Rose before after
+  pub last : failed ≡ true
+
+-- ---- what a run has
+
+-- a script with a `keep` line is of no form that is built
+abbrev pub is_keep : Line → Bool
+is_keep (keep id asked) = true
+is_keep _ = false
+
+abbrev pub has_keep : List Numbered → Bool
+has_keep [] = false
+has_keep (l ∷ ls) = cond (is_keep l.line) true (has_keep ls)
+
+-- a client met the full journal, or none did
+abbrev pub HaveMetFull : Bool → List Client → Type 0
+HaveMetFull false clients = Each (λ c. c.why ≡ at_full → ⊥) clients
+HaveMetFull true clients = (Each (λ c. c.why ≡ at_full → ⊥) clients) → ⊥
+
+-- no step of an answer came from a cache
+abbrev pub IsUncached : What → Type 0
+IsUncached (entry.answer query code cached evaluated) = cached ≡ 0
+IsUncached _ = Unit {0}

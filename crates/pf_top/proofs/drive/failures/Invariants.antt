@@ -1,5 +1,0 @@
-use Rattle.std.specs.Prelude.{◌≡◌, take}
-use Rattle.pf_top.proofs.drive.failures.Given as goal
-
-abbrev pub invariant-loop-actor : goal.invariant-loop-actor
-invariant-loop-actor l = l.failed.items ≡ take l.actor l.core.failed
