@@ -1,6 +1,7 @@
 //! Whole runs, over files and outputs in memory.
 
-ghost use Rattle.std.specs.Prelude.{◌≡◌, ◌≤◌, vec_len};
+ghost use Rattle.std.specs.Prelude.{◌≡◌, vec_len};
+ghost use Rattle.pf_core.specs.Cores.{AreLimits};
 
 use crate::hops::{ListedHop, hops_of};
 use cases_rows::base::texts_of;
@@ -57,9 +58,7 @@ fn words_of(out: &mut Output, setting: &Setting) -> Vec<Text> {
 
 /// The limits of the run.
 fn limits_of(out: &mut Output, setting: &Setting) -> Limits
-    ensures journal { result.journal ≤ 4000000 }
-    ensures some { 1 ≤ result.outstanding }
-    ensures interval { 1000 ≤ result.interval }
+    ensures { AreLimits result }
 {
     let outstanding = setting.number(out, "outstanding", 100).clamp(1, 1_000_000);
     let journal = setting.number(out, "journal", 4_000_000).min(4_000_000);

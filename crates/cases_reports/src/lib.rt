@@ -5,6 +5,7 @@ mod answers;
 mod entries;
 mod replies;
 mod reports;
+mod sessions;
 
 use cases_rows::output::Output;
 use cases_rows::setting::Setting;
@@ -17,6 +18,9 @@ pub enum Form {
     /// `script`: `SCRIPT => LINES`, each with its number and what was read of it, behind `stepped` where the script is a stepped
     /// one; or `refused N`. A part `step lines` above it allows these.
     Script,
+    /// `session`: `SEED => NAME LENGTH NUMBER FIRST_LINE; ..`, of each page that is generated, and then of the script. A text's number
+    /// is 31 times that of what is before its last byte, and the byte, modulo 2^32.
+    Session,
     Reports(reports::Form),
 }
 
@@ -26,6 +30,9 @@ impl Form {
         if name == "script" {
             return Some(Form::Script);
         }
+        if name == "session" {
+            return Some(Form::Session);
+        }
         Some(Form::Reports(reports::Form::named(name)?))
     }
 
@@ -33,6 +40,10 @@ impl Form {
     pub fn answer(self, out: &mut Output, setting: &Setting, given: &[u8]) {
         match self {
             Form::Script => script(out, setting, given),
+            Form::Session => {
+                let given = out.utf8(given);
+                sessions::answer(out, given);
+            }
             Form::Reports(form) => form.answer(out, setting, given),
         }
     }

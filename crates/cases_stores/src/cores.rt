@@ -23,18 +23,18 @@ use std::sync::Arc;
 /// Who makes all calls.
 const BY: By = By { client: 0, line: 1 };
 
-/// Limits of so many open queries for each tenant and so many entries, with a window of ten minutes.
-fn limits_of(outstanding: u32, journal: u64) -> Option<Limits>
+/// Limits of so many open queries for each tenant, so many entries and so many shards, with a window of ten minutes.
+fn limits_of(outstanding: u32, journal: u64, shards: u64) -> Option<Limits>
     ensures { IfSome result AreLimits }
 {
-    if outstanding == 0 || journal > 4_000_000 {
+    if outstanding == 0 || journal > 4_000_000 || shards == 0 || shards > 64 {
         return None;
     }
     Some(Limits {
         outstanding,
         window: 600_000,
         interval: 86_400_000,
-        shards: 1,
+        shards: shards as u32,
         extents: 1,
         journal,
     })
@@ -366,7 +366,8 @@ pub fn core(out: &mut Output, setting: &Setting, given: &str) {
     let (journal, calls) = cut(rest);
     let outstanding = out.number(outstanding);
     let journal = out.number(journal);
-    let Some(limits) = limits_of(outstanding, journal) else {
+    let shards = setting.number(out, "shards", 1);
+    let Some(limits) = limits_of(outstanding, journal, shards) else {
         return out.refuse();
     };
     let opened = Core::open(out.alloc(), limits);

@@ -45,7 +45,8 @@ pub enum Form {
     Recent,
     /// `core`: `OUTSTANDING JOURNAL CALL; CALL; .. => ANSWERS | ENTRIES TENANTS`, what the calls of a core answer whose tenants may
     /// have so many open queries each and whose journal so many entries: `append TENANT LINE`, `delete TENANT FROM TO SELECTOR`,
-    /// `ask TENANT QUERY` at one time, `look PLACE`, `cancel PLACE TENANT`, and `answer PLACE` of a query that is not planned.
+    /// `ask TENANT QUERY` at one time, `look PLACE`, `cancel PLACE TENANT`, and `answer PLACE` of a query that is not planned. The
+    /// part `shards` gives the number of shards, which is else 1.
     Core,
     /// `table`: `CALL; CALL; .. => ANSWERS`, what the calls of a table of outstanding queries answer: `open QUERY TENANT`, `plan QUERY
     /// RUNS SHARDS` with a job for each run and shard, `take ACTOR`, `finish ACTOR`, `fail ACTOR` and `lack ACTOR` of the job in the
