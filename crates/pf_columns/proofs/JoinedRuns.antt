@@ -1,5 +1,5 @@
 -- Rows of runs, and of those behind them, joined.
-use Rattle.std.proofs.Common.{◌≡◌, ◌<◌, ◌≤◌, ◌+◌, ℕ, zero, suc, List, [], ◌∷◌, ◌++◌, get_or, length, drop, refl, sym, ap, ◌∙◌, subst, append-nil, append_assoc}
+use Rattle.std.proofs.Common.{◌≡◌, ◌+◌, ℕ, zero, suc, List, [], ◌∷◌, ◌++◌, get_or, length, drop, refl, sym, ap, ◌∙◌, subst, append-nil, append_assoc}
 use Rattle.std.proofs.lemmas.List.{drop-drop}
 use Rattle.pf_base.specs.GridLists.{GridData}
 use Rattle.pf_base.specs.Grids.{points}
@@ -9,7 +9,7 @@ use Rattle.pf_model.specs.Direct.{MatrixRow, Step, gather, points_of}
 use Rattle.pf_model.specs.Lists.{joined}
 use Rattle.pf_columns.specs.Columns.{AreRising, ColumnData, cells_from, columns_labels, rows_in, timed}
 use Rattle.pf_columns.specs.Steps.{StepsData}
-use Rattle.pf_columns.specs.Runs.{AreRowsOver, full_rows, joined_rows, points_for, rows_labels, rows_of_columns, steps_over}
+use Rattle.pf_columns.specs.Runs.{AreRowsOver, full_rows, joined_rows, rows_of_columns, steps_over}
 use Rattle.pf_columns.proofs.FullRows.{gather_by}
 use Rattle.pf_columns.proofs.GatheredRows.{gather_is, rise_at, steps_at}
 use Rattle.pf_columns.proofs.JoinedRows.{joined_points, joined_rise}

@@ -27,3 +27,5 @@ pub mod Selected
 pub mod FullRows
 pub mod JoinedRows
 pub mod JoinedRuns
+pub mod JoinedColumns
+pub mod JoinedCells

@@ -1,5 +1,6 @@
 pub mod Columns
 pub mod Groups
+pub mod Joins
 pub mod Ranks
 pub mod Runs
 pub mod Steps

@@ -4,6 +4,7 @@ ghost use Rattle.std.specs.Prelude.{◌≡◌, ◌+◌, ◌<◌, ◌≤◌, Some
 ghost use Rattle.pf_base.specs.Grids.{points};
 ghost use Rattle.pf_model.specs.Direct.{gather};
 ghost use Rattle.pf_columns.specs.Columns.{AreRising, cells_from, columns_labels, timed};
+ghost use Rattle.pf_columns.specs.Joins.{AreColumnsOf};
 
 use crate::column::{Column, cell_of, cut_columns};
 use crate::gather::rows_of;
@@ -110,6 +111,14 @@ impl Cells {
         }
         let columns = cut_columns(alloc, &self.columns, self.from + from, len)?;
         Cells::of(alloc, columns, len)
+    }
+
+    /// Columns of these cells alone.
+    #[tactic(auto, using(crate::proofs::JoinedCells::columns_of_part))]
+    pub(crate) fn cut_columns(&self, alloc: Global) -> Result<Vec<Column>, OutOfMemory>
+        ensures { IfOk result (λ v. AreColumnsOf self.now v.items) }
+    {
+        cut_columns(alloc, &self.columns, self.from, self.len)
     }
 
     /// The matrix of the cells at the times of a grid, a cell for each time.

@@ -8,7 +8,7 @@
 //!   vector in label order, or `DoubleLabels`.
 //! - `Cells` are the cells of consecutive steps without errors. A copy and a `part` share all elements, and so does a `cut`
 //!   but where it keeps few of them. `gather` makes the matrix over a grid.
-//! - `gather_steps` makes the matrix of several runs, one after another.
+//! - `gather_steps` makes the matrix of several runs, one after another, and `join_cells` the cells.
 //! - `GroupIds` are the groups of columns, found once for all steps, `aggregated` the aggregations that have one value for
 //!   each group and no parameter, and `aggregated_by` those with one.
 //!
@@ -32,6 +32,8 @@ mod cells;
 mod column;
 mod gather;
 mod groups;
+mod halves;
+mod joining;
 mod ranked;
 mod runs;
 mod steps;
@@ -41,6 +43,7 @@ pub use aggregate::{GroupOp, aggregated, aggregated_by, group_value};
 pub use cells::Cells;
 pub use column::Column;
 pub use groups::GroupIds;
+pub use joining::join_cells;
 pub use runs::gather_steps;
 pub use steps::{BadStep, StepCells, normalised};
 pub use values::quantile;

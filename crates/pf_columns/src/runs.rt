@@ -10,6 +10,7 @@ ghost use Rattle.pf_columns.specs.Runs.{AreRowsOver, full_rows, heads_cmp, joine
 
 use crate::column::Column;
 use crate::gather::{push_points, rows_of};
+use crate::halves::halved;
 use crate::steps::StepCells;
 use pf_base::{Grid, Labels, OutOfMemory, Sample, Value};
 use pf_matrix::{Matrix, MatrixRow};
@@ -139,27 +140,6 @@ fn joined(
         found.push(strand)?;
     }
     Ok(found)
-}
-
-/// The first half of some runs, and the others.
-#[derive(Drop)]
-struct Halves<'a> {
-    front: &'a [Grid],
-    behind: &'a [Grid],
-}
-
-fn halved(runs: &[Grid]) -> Halves<'_>
-    requires { 2 ≤ length runs.now }
-    ensures all { runs.now ≡ result.front.now ++ result.behind.now }
-    ensures front { length result.front.now < length runs.now }
-    ensures behind { length result.behind.now < length runs.now }
-    ensures both { length result.front.now + length result.behind.now ≡ length runs.now }
-{
-    let half = runs.len() / 2;
-    Halves {
-        front: &runs[..half],
-        behind: &runs[half..],
-    }
 }
 
 /// The strands of runs, whose steps are taken. It calls itself as deep as the number of runs can be halved.

@@ -1,5 +1,5 @@
 use Rattle.std.proofs.Common.{ap}
-use Rattle.pf_columns.proofs.JoinedRuns.{left_over, of_both, of_one_run}
+use Rattle.pf_columns.proofs.JoinedRuns.{of_both, of_one_run}
 use Rattle.pf_columns.proofs.runs.+strands_over.Goals as goal
 
 pub returns-then-runs-eq1-clause-rows : goal.returns-then-runs-eq1-clause-rows

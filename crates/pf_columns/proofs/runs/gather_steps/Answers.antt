@@ -1,4 +1,4 @@
-use Rattle.std.proofs.Common.{rules, ◌≡◌, length, ap, ◌∙◌}
+use Rattle.std.proofs.Common.{ap, ◌∙◌}
 use Rattle.pf_model.specs.Direct.{gather}
 use Rattle.pf_base.specs.Grids.{points}
 use Rattle.pf_columns.specs.Columns.{rows_in}
