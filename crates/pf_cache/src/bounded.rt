@@ -67,6 +67,20 @@ impl<K: Eq + Hash + Drop, L: Drop> Bounded<K, L> {
         self.cache.get(key)
     }
 
+    /// What is kept under a key. This is no use of it.
+    pub fn peek(&self, key: &K) -> Option<&L>
+        ensures { option_copied result ≡ lookup (K.eq key.now) self.now.entries }
+    {
+        self.cache.peek(key)
+    }
+
+    /// Puts a key's pair first, as the one used last, if there is one. No memory is taken.
+    pub fn touch(&mut self, key: &K)
+        ensures { self.new ≡ lru_cache (promoted (K.eq key.now) self.old.entries) self.old.cap }
+    {
+        self.cache.promote(key);
+    }
+
     /// Keeps a value under a key, in place of the one that is there, as the pair used last. Where the key is new and the map
     /// full, the pair that wasn't used for longest goes. A refused call leaves the pairs as they were.
     pub fn set(&mut self, key: K, list: L) -> Result<(), OutOfMemory>

@@ -1,3 +1,4 @@
 pub mod Uses
 pub mod Steps
 pub mod Combining
+pub mod Done

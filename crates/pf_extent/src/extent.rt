@@ -62,8 +62,9 @@ pub struct Asker {
     pub generation: u64,
 }
 
-/// Whether the floor is above the reach. A query that reads nothing has no reach.
-fn is_below(reach: Option<i64>, floor: Option<u64>) -> bool
+/// Whether the floor is above the reach, the latest time in milliseconds that a query may read at a step: then no sample that is
+/// taken later changes its value there. A query that reads nothing has no reach.
+pub fn is_below(reach: Option<i64>, floor: Option<u64>) -> bool
     ensures { result ≡ is_below reach floor }
 {
     let Some(latest) = reach else {
