@@ -17,7 +17,7 @@ use Rattle.pf_model.specs.declared.functions.InstantFn.TheVariants as instant
 use Rattle.pf_model.specs.declared.functions.RangeFn.TheVariants as ranged
 use Rattle.pf_model.specs.Grammar.{Written, Arguments, IsLawful, AreLawful, AreKeys, AreModifiers, IsPositive, Derives, IsDerived, Keys, Group, meaning, meanings, both, matched_of, grouped_of, mods_of, side_of, include_of, ends_with_group, text_of, begins_with_bracket, is_nil}
 use Rattle.pf_model.specs.Grammar as grammar
-use Rattle.pf_lex.specs.CanonicalTokens.{HasTree}
+use Rattle.pf_lex.specs.CanonicalTokens.{HasTree, IsPrintable}
 use Rattle.pf_model.specs.Trees.{Tree, Trees}
 use Rattle.pf_model.specs.Trees as tree
 use Rattle.pf_model.specs.Words.{function_name, function_of, is_comparison}
@@ -25,13 +25,13 @@ use Rattle.pf_print.specs.Printed.{IsDerivedBy}
 use Rattle.pf_model.proofs.Levels.{level_positive}
 
 -- what derived trees have in common
-abbrev IsSided : Side → List (List ℕ) → Type 0
+abbrev pub IsSided : Side → List (List ℕ) → Type 0
 IsSided side.One include = include ≡ []
 IsSided side.Left include = Unit {0}
 IsSided side.Right include = Unit {0}
 
 abbrev mutual
-  IsWell : Tree → Type 0
+  pub IsWell : Tree → Type 0
   IsWell (tree.number n) = Unit {0}
   IsWell (tree.text s) = Unit {0}
   IsWell (tree.unary minus e) = IsWell e
@@ -43,7 +43,7 @@ abbrev mutual
   IsWell (tree.select ms range mods) = IfSome range IsPositive
   IsWell (tree.subquery e range resolution mods) = IsWell e × IsPositive range × IfSome resolution IsPositive
 
-  AreWell : Trees → Type 0
+  pub AreWell : Trees → Type 0
   AreWell tree.none = Unit {0}
   AreWell (tree.more e es) = IsWell e × AreWell es
 
@@ -263,10 +263,9 @@ mutual
       let p = both_parts tree.more (meaning e) (meanings es) ts h in
       subst AreWell p.made (well e p.first l.0 p.is_first, all_well es p.second l.1 p.is_second)
 
-pub canonical_derives : (text : List ℕ) (t : Tree) → HasTree text t → IsDerivedBy (canonical t) t
-canonical_derives text t h =
-    let p = can_be_printed text t h in
-    let w = well h.derives.written t h.derives.derived.lawful h.derives.means in
+-- the canonical text of a tree that can be printed, with what derived trees have in common, derives it
+pub well_derives : (t : Tree) → IsPrintable t → IsWell t → IsDerivedBy (canonical t) t
+well_derives t p w =
     let c = canonical_is_cut t p in
     record {
       tokens = c.tokens;
@@ -274,6 +273,12 @@ canonical_derives text t h =
       derives = subst (λ ss. Derives ss t) (sym c.same)
           (record { written = written_of t; derived = record { fits = canonical_fits t p; lawful = lawful t w }; means = back t w });
     }
+
+pub derived_well : (text : List ℕ) (t : Tree) → HasTree text t → IsWell t
+derived_well text t h = well h.derives.written t h.derives.derived.lawful h.derives.means
+
+pub canonical_derives : (text : List ℕ) (t : Tree) → HasTree text t → IsDerivedBy (canonical t) t
+canonical_derives text t h = well_derives t (can_be_printed text t h) (derived_well text t h)
 
 pub printed_derives : {E : Type 0} (t : Tree) (r : Result (List ℕ) E) → IfOk r (λ x. x ≡ canonical t) → (text : List ℕ) → HasTree text t
     → IfOk r (λ x. IsDerivedBy x t)

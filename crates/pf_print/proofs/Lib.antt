@@ -3,6 +3,8 @@
 mod CanonicalDerived
 -- it is read as its tree, and derives no other
 mod ReadBack
+-- no other tree has it, and a tree with its range put in has one
+mod OwnTexts
 -- ---- print: each part is written as its text
 -- what was written bit by bit
 mod Pushes

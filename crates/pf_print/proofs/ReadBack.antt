@@ -37,7 +37,7 @@ use Rattle.pf_model.specs.Trees as tree
 use Rattle.pf_model.specs.Words.{aggregation_word, function_name, function_of, is_keyword, match_text}
 use Rattle.pf_parse.proofs.OneTree.{one_derived}
 use Rattle.pf_print.specs.Printed.{IsDerivedBy}
-use Rattle.pf_print.proofs.CanonicalDerived.{canonical_derives}
+use Rattle.pf_print.proofs.CanonicalDerived.{IsWell, canonical_derives, well_derives}
 
 abbrev begins : List Sort → Bool
 begins [] = false
@@ -387,7 +387,7 @@ printed_back t (Err x) e text h low = tt
 -- ---- no other tree
 
 -- the canonical text of a tree of at most 64 levels derives no other tree, however long it is
-only_one : (text : List ℕ) (t u : Tree) → HasTree text t → height t ≤ 64 → IsDerivedBy (canonical t) u → u ≡ t
+pub only_one : (text : List ℕ) (t u : Tree) → HasTree text t → height t ≤ 64 → IsDerivedBy (canonical t) u → u ≡ t
 only_one text t u h low_one d =
     let p = can_be_printed text t h in
     let c = canonical_is_cut t p in
@@ -404,3 +404,18 @@ pub printed_only : {E : Type 0} (t : Tree) (r : Result (List ℕ) E) → IfOk r 
     → height t ≤ 64 → IfOk r (λ x. (u : Tree) → IsDerivedBy x u → u ≡ t)
 printed_only t (Ok x) e text h l = λ u d. only_one text t u h l (subst (λ y. IsDerivedBy y u) e d)
 printed_only t (Err x) e text h l = tt
+
+-- ---- a tree that can be printed has a text
+
+pub has_text : (t : Tree) → IsPrintable t → IsWell t → height t ≤ 64 → HasTree (canonical t) t
+has_text t p w low =
+    let c = canonical_is_cut t p in
+    let d = well_derives t p w in
+    let q = subst (Quiet 0) (append-nil (sorts_of t)) (fine t 0 [] p (omega (arith, low)) (record { is = tt })) in
+    let e : Quiet 0 (sorts c.tokens) = subst (Quiet 0) (sym c.same) q in
+    record {
+      tokens = c.tokens;
+      are_tokens = c.are;
+      times = not_late 0 false false c.tokens e.is;
+      derives = subst (λ ts. Derives (sorts ts) t) (tokens_are_one (canonical t) d.tokens c.tokens d.are_tokens c.are) d.derives;
+    }
