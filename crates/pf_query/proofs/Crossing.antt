@@ -5,6 +5,7 @@ use Rattle.std.proofs.Crossing.{crosses}
 use Rattle.std.proofs.MapsCrossing.{crosses as maps_cross}
 use Rattle.pf_block.specs.contracts.snap.Snap as Snap
 use Rattle.pf_columns.proofs.Crossing.{steps_cross}
+use Rattle.pf_extent.specs.contracts.done.DoneCells as DoneCells
 use Rattle.pf_match.proofs.Crossing.{patterns_cross}
 use Rattle.pf_model.proofs.Crossing.{matchers_cross}
 use Rattle.pf_model.proofs.expr.Expr.TheLaws.TheKnot as knot
@@ -59,11 +60,17 @@ Queues-sync = search (Job-sync, crosses, sendable) depth 60 fits 20000
 -- for a search over a type that holds jobs
 pub ruleset jobs_cross = (Snap-send, Snap-sync, Job-send, Job-sync, Held-send, Held-sync, Queues-send, Queues-sync)
 
+DoneCells-send : IsSend DoneCells.the_field.row
+DoneCells-send = search (crosses, sendable) depth 60 fits 20000
+
+DoneCells-sync : IsSync DoneCells.the_field.row
+DoneCells-sync = search (crosses, sendable) depth 60 fits 20000
+
 Work-send : IsSend Work.the_row
-Work-send = search (legs_cross, groups_cross, steps_cross, crosses, sendable) depth 60 fits 20000
+Work-send = search (DoneCells-send, legs_cross, groups_cross, steps_cross, crosses, sendable) depth 60 fits 20000
 
 Work-sync : IsSync Work.the_row
-Work-sync = search (legs_cross, groups_cross, steps_cross, crosses, sendable) depth 60 fits 20000
+Work-sync = search (DoneCells-sync, legs_cross, groups_cross, steps_cross, crosses, sendable) depth 60 fits 20000
 
 pub Table-send : IsSend Table.the_field.row
 Table-send = search (Work-send, Queues-send, maps_cross, crosses, sendable) depth 60 fits 20000

@@ -19,6 +19,13 @@ raw_at K q f = ap (λ b. cond b (option_map f (K q)) (K q)) (eq_same q)
 raw_past : (K : Raw) (q p : ℕ) (f : Entry → Entry) → (p ≡ q → ⊥) → with_change q f K p ≡ K p
 raw_past K q p f d = ap (λ b. cond b (option_map f (K p)) (K p)) (eq_apart q p (λ e. d (sym e)))
 
+-- nothing is kept of it
+pub raw_none : (K L : Raw) (q : ℕ) (f : Entry → Entry) → K q ≡ None → ((p : ℕ) → L p ≡ with_change q f K p) → (p : ℕ) → L p ≡ K p
+raw_none K L q f was set p = elim (num_cases p q) [
+  | inl t ↦ subst (λ x. L x ≡ K x) (sym t) (set q ∙ raw_at K q f ∙ ap (λ o. option_map f o) was ∙ sym was)
+  | inr d ↦ set p ∙ raw_past K q p f d
+]
+
 module _ (K L : Raw) (q : ℕ) (f : Entry → Entry) (e : Entry) (was : K q ≡ Some e) (set : (p : ℕ) → L p ≡ with_change q f K p) where
   pub raw_here : L q ≡ Some (f e)
   raw_here = set q ∙ raw_at K q f ∙ ap (λ o. option_map f o) was

@@ -534,6 +534,7 @@ module _ (old : Table) (query : ℕ) (s : EntryState) (h : Some s ≡ option_map
               legs_are = m.legs_are;
               runs_are = m.runs_are;
               parts_are = m.parts_are;
+              cached_are = m.cached_are;
               entries = λ r. data_sets (raw_of old) (raw_of new) query given_entry asked.entry asked.was set r
                   ∙ ap (λ (y : EntryData). cond (nat_eq query r) (Some y) (entry_in old r)) given_data;
               queues = are_same old.queues new.queues same;

@@ -1,11 +1,13 @@
 pub mod Agreeing
 pub mod Changing
 pub mod Counting
+pub mod Covering
 pub mod Crossing
 pub mod Entering
 pub mod Finishing
 pub mod Hands
 pub mod Moving
+pub mod Offering
 pub mod Naming
 pub mod Opening
 pub mod Serving

@@ -1,5 +1,5 @@
 -- Slots whose parts are moved out one by one, and jobs that are made one by one. This project's own.
-use Rattle.std.proofs.Common.{◌≡◌, ◌∙◌, ℕ, zero, suc, ◌+◌, ◌*◌, ◌/◌, ◌%◌, ◌<◌, false, Some, List, [], ◌∷◌, ◌++◌, length, length-append, map, take, get_or, append_assoc, add-one, mul-zero, div-lt_iff_lt-mul, refl, sym, ap, subst, arith, slice_get, slice_set}
+use Rattle.std.proofs.Common.{◌≡◌, ◌∙◌, ℕ, zero, suc, ◌+◌, ◌*◌, ◌/◌, ◌%◌, ◌<◌, Bool, false, Some, List, [], ◌∷◌, ◌++◌, length, length-append, map, take, get_or, append_assoc, add-one, mul-zero, div-lt_iff_lt-mul, refl, sym, ap, subst, arith, slice_get, slice_set}
 use Rattle.std.proofs.lemmas.Option.{slice_get_read}
 use Rattle.pf_base.specs.GridLists.{GridData}
 use Rattle.pf_base.specs.declared.plain.JobHead.{JobHead}
@@ -8,6 +8,8 @@ use Rattle.pf_model.specs.Lists.{Each}
 use Rattle.pf_shard.specs.Lawful.{ResolvedLegs}
 use Rattle.pf_shard.specs.declared.parts.Part.{Part}
 use Rattle.pf_query.specs.Works.{EachAt, IsFilled, IsJobOver, IsPlanned, WorkData, empty_slots, last_of, legs_in, planned_work}
+use Rattle.pf_extent.specs.Done.{steps_in}
+use Rattle.pf_extent.specs.declared.done.DoneCells.{DoneCells}
 use Rattle.pf_query.specs.declared.job.Job.{Job}
 use Rattle.pf_query.specs.declared.slot.Slot.{Slot}
 use Rattle.pf_query.specs.declared.slot.Slot.TheVariants.{Empty, Filled, Handed}
@@ -93,11 +95,13 @@ full_here n xs ys x f e h k =
     let same : get_or xs n x ≡ x = sym (h ∙ ap (λ zs. get_or zs n x) e ∙ upto_get n xs x) in
     subst (λ (z : Slot). IsFilled z) same (full_at n xs x f k)
 
-pub work_is : (legs : ResolvedLegs) (runs : List GridData) (xs : List Slot) (n : ℕ) → xs ≡ empty_slots n → n ≡ length runs * legs_in legs
-    → ◌≡◌ {A = WorkData} (record { legs = legs; runs = runs; slots = xs; given = false }) (planned_work legs runs)
-work_is legs runs xs n e f =
-    let whole : List Slot → WorkData = λ ys. record { legs = legs; runs = runs; slots = ys; given = false } in
-    ap whole (e ∙ ap empty_slots f)
+pub work_is : (legs : ResolvedLegs) (runs : List GridData) (cached : List DoneCells) (offered : Bool) (count : ℕ) (xs : List Slot) (n : ℕ)
+    → count ≡ steps_in cached → xs ≡ empty_slots n → n ≡ length runs * legs_in legs
+    → ◌≡◌ {A = WorkData} (record { legs = legs; runs = runs; slots = xs; cached = cached; cached_steps = count; offered = offered; given = false })
+    (planned_work legs runs cached offered)
+work_is legs runs cached offered count xs n c e f =
+    let whole : ℕ → List Slot → WorkData = λ m ys. record { legs = legs; runs = runs; slots = ys; cached = cached; cached_steps = m; offered = offered; given = false } in
+    ap (λ m. whole m xs) c ∙ ap (whole (steps_in cached)) (e ∙ ap empty_slots f)
 
 -- ---- jobs
 

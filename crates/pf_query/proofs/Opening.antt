@@ -1,5 +1,7 @@
 -- What is kept of queries and the queues agree after a query is opened, planned, collected or closed. This project's own.
-use Rattle.std.proofs.Common.{◌≡◌, ◌∙◌, ℕ, ◌+◌, ◌*◌, ◌<◌, ◌≤◌, inl, inr, false, nat_eq, Option, Some, None, List, [], ◌∷◌, ◌++◌, length, filter, refl, sym, ap, subst, arith, slice_get}
+use Rattle.std.proofs.Common.{◌≡◌, ◌∙◌, ℕ, ◌+◌, ◌*◌, ◌<◌, ◌≤◌, inl, inr, Bool, false, nat_eq, Option, Some, None, List, [], ◌∷◌, ◌++◌, length, filter, refl, sym, ap, subst, arith, slice_get}
+use Rattle.std.specs.Option.{option_map}
+use Rattle.std.specs.Prelude.{IfSome}
 use Rattle.pf_base.specs.GridLists.{GridData}
 use Rattle.pf_block.specs.Snaps.{SnapData}
 use Rattle.pf_model.specs.Lists.{Each}
@@ -7,15 +9,16 @@ use Rattle.pf_shard.specs.Lawful.{IsLawful, ResolvedLegs, legs_data}
 use Rattle.pf_query.specs.Jobs.{is_other_hand, is_other_job}
 use Rattle.pf_query.specs.Queueing.{AreSame, AreWith, hands_in, waiting_in}
 use Rattle.pf_query.specs.Tables.{Agree, EntryData, IsEntry, IsInHand, IsPlaced, IsWaiting, hands_named, hands_with, is_named, is_of, jobs_in, jobs_named, one_if_empty, wanted}
-use Rattle.pf_query.specs.Works.{ArePlanned, EachAt, IsPlanned, WorkData, handed_out, legs_in, planned_work}
+use Rattle.pf_query.specs.Works.{ArePlanned, EachAt, IsPlanned, IsWork, WorkData, handed_out, legs_in, offered, planned_work}
+use Rattle.pf_extent.specs.declared.done.DoneCells.{DoneCells}
 use Rattle.pf_query.specs.declared.job.Hand.{Hand}
 use Rattle.pf_query.specs.declared.job.Job.{Job}
 use Rattle.pf_query.specs.declared.queues.Queues.{Queues}
 use Rattle.pf_query.specs.declared.stop.Stop.{Stop}
-use Rattle.pf_query.proofs.Agreeing.{Changes, Kept, Unplanned, agree_after, entry_is, entry_with, goes_by, goes_on_by, never_planned, no_entry, no_hand_of, no_job_of, same_goes, same_goes_on, stays_in_hand, waits_on}
+use Rattle.pf_query.proofs.Agreeing.{Changes, Goes, GoesOn, Kept, Unplanned, agree_after, entry_is, entry_with, goes_by, goes_on_by, never_planned, no_entry, no_hand_of, no_job_of, same_goes, same_goes_on, stays_in_hand, waits_on}
 use Rattle.pf_query.proofs.Stepping.{agree_by, changes_by, entry_fact}
 use Rattle.pf_query.proofs.Naming.{eq_apart, eq_same, is_other, named_of, named_other, named_own, num_cases, num_within, other_hand, other_job}
-use Rattle.pf_query.proofs.Slotted.{empty_beyond, empty_within, handed_none, work_handed_out, work_planned}
+use Rattle.pf_query.proofs.Slotted.{empty_beyond, empty_within, handed_none, work_handed_out, work_offered, work_planned}
 use Rattle.pf_query.proofs.Tallies.{count_append, count_cons, count_kept, count_less, count_none, each_append, each_filter, each_map, one_if}
 
 -- ---- nothing is changed
@@ -135,9 +138,9 @@ module _ (q u : ℕ) (legs : ResolvedLegs) (runs : List GridData) (snap : SnapDa
   planned_each P f k [] h = tt
   planned_each P f k (j ∷ js) h = (f k j h.0, planned_each P f (k + 1) js h.1)
 
-module _ (E F : Kept) (old new : Queues) (a : Agree E (waiting_in old) (hands_in old)) (q u : ℕ) (legs : ResolvedLegs) (runs : List GridData) (snap : SnapData)
+module _ (E F : Kept) (old new : Queues) (a : Agree E (waiting_in old) (hands_in old)) (q u : ℕ) (legs : ResolvedLegs) (runs : List GridData) (cached : List DoneCells) (offered : Bool) (snap : SnapData)
     (jobs : List Job) (lawful : IsLawful (legs_data legs)) (few : length runs ≤ 11001) (p : ArePlanned u q legs runs snap jobs)
-    (was : E q ≡ Some (entry_with u None None)) (set : F q ≡ Some (entry_with u None (Some (planned_work legs runs))))
+    (was : E q ≡ Some (entry_with u None None)) (set : F q ≡ Some (entry_with u None (Some (planned_work legs runs cached offered))))
     (entries : (p : ℕ) → (p ≡ q → ⊥) → F p ≡ E p) (order : List ℕ)
     (aw : AreWith old u (waiting_in old u ++ jobs) (hands_in old u) order new) where
   unplanned : Unplanned (E q)
@@ -148,14 +151,14 @@ module _ (E F : Kept) (old new : Queues) (a : Agree E (waiting_in old) (hands_in
 
   planned_waits : (k : ℕ) (j : Job) → IsPlanned u q legs runs snap k j → IsWaiting F u j
   planned_waits k j h = record {
-    work = planned_work legs runs;
+    work = planned_work legs runs cached offered;
     entry = ap F h.query_is ∙ set;
     tenant_is = h.tenant_is;
     run = j.run;
     head = h.head;
   }
 
-  planned_wanted : (n : ℕ) → jobs_named q n jobs ≡ wanted (Some (planned_work legs runs)) n
+  planned_wanted : (n : ℕ) → jobs_named q n jobs ≡ wanted (Some (planned_work legs runs cached offered)) n
   planned_wanted n = elim (num_within n (length jobs)) [
     | inl l ↦
         let x = named_within q u legs runs snap n 0 jobs p.each (omega arith) (omega (arith, l)) in
@@ -165,7 +168,7 @@ module _ (E F : Kept) (old new : Queues) (a : Agree E (waiting_in old) (hands_in
         let y = empty_beyond (length runs * legs_in legs) n (let m = p.many in omega (arith, l, m)) in omega (arith, x, y)
   ]
 
-  planned_placed : (n : ℕ) → IsPlaced None (Some (planned_work legs runs)) n (jobs_named q n (waiting_in new u)) (hands_named q n (hands_in new u))
+  planned_placed : (n : ℕ) → IsPlaced None (Some (planned_work legs runs cached offered)) n (jobs_named q n (waiting_in new u)) (hands_named q n (hands_in new u))
   planned_placed n =
       let b = (a.all_kept q (entry_with u None None) was).placed n in
       let c = count_append (λ j. is_named q n j.head) (waiting_in old u) jobs in
@@ -191,8 +194,8 @@ module _ (E F : Kept) (old new : Queues) (a : Agree E (waiting_in old) (hands_in
       (planned_each q u legs runs snap (IsWaiting F u) planned_waits 0 jobs p.each))
       (each_map (IsInHand E u) (IsInHand F u)
       (λ x h. stays_in_hand E F u x (λ s w l. same_goes E F x.head.query u (entries x.head.query (another x.head.query u s w l)) s w l) h) (hands_in old u) (a.all_in_hand u))
-      (λ e h. subst (λ (x : EntryData). IsEntry q (waiting_in new) (hands_in new) x) (entry_is (F q) (entry_with u None (Some (planned_work legs runs))) e set h)
-      (entry_fact q (waiting_in new) (hands_in new) u None (Some (planned_work legs runs)) k.known (work_planned legs runs lawful few) planned_placed))
+      (λ e h. subst (λ (x : EntryData). IsEntry q (waiting_in new) (hands_in new) x) (entry_is (F q) (entry_with u None (Some (planned_work legs runs cached offered))) e set h)
+      (entry_fact q (waiting_in new) (hands_in new) u None (Some (planned_work legs runs cached offered)) k.known (work_planned legs runs cached offered lawful few) planned_placed))
 
 -- ---- its parts are handed out
 
@@ -228,6 +231,58 @@ module _ (E F : Kept) (old new : Queues) (a : Agree E (waiting_in old) (hands_in
       (λ x h. stays_in_hand E F u x (goes_by E F q u None None w (handed_out w) was set refl refl entries x.head.query u) h) (hands_in old u) (a.all_in_hand u))
       (λ e h. subst (λ (x : EntryData). IsEntry q (waiting_in new) (hands_in new) x) (entry_is (F q) (entry_with u None (Some (handed_out w))) e set h)
       (entry_fact q (waiting_in new) (hands_in new) u None (Some (handed_out w)) k.known (work_handed_out w k.work) collected_placed))
+
+-- ---- it is offered
+
+-- a query's entry once it is offered
+abbrev pub offers : EntryData → EntryData
+offers e = record e { work = option_map offered e.work }
+
+offered_work : (w : Option WorkData) → IfSome w IsWork → IfSome (option_map offered w) IsWork
+offered_work None h = tt
+offered_work (Some w) h = work_offered w h
+
+offered_placed : (s : Option Stop) (w : Option WorkData) (n j k : ℕ) → IsPlaced s w n j k → IsPlaced s (option_map offered w) n j k
+offered_placed None None n j k h = h
+offered_placed None (Some w) n j k h = h
+offered_placed (Some why) w n j k h = h
+
+module _ (E F : Kept) (old new : Queues) (a : Agree E (waiting_in old) (hands_in old)) (q : ℕ) (o : EntryData) (was : E q ≡ Some o)
+    (set : F q ≡ Some (offers o)) (entries : (p : ℕ) → (p ≡ q → ⊥) → F p ≡ E p) (same : AreSame old new) where
+  moved_on : (p v : ℕ) (r : Option Stop) (y : WorkData) → E p ≡ Some (entry_with v r (Some y)) → p ≡ q → F p ≡ Some (entry_with v r (Some (offered y)))
+  moved_on p v r y e d =
+      let is : o ≡ entry_with v r (Some y) = entry_is (E q) o (entry_with v r (Some y)) was (subst (λ z. E z ≡ Some (entry_with v r (Some y))) d e) in
+      subst (λ z. F z ≡ Some (entry_with v r (Some (offered y)))) (sym d) (set ∙ ap (λ (x : EntryData). Some (offers x)) is)
+
+  offered_goes : (p v : ℕ) (r : Option Stop) (y : WorkData) → E p ≡ Some (entry_with v r (Some y)) → Goes F p v y
+  offered_goes p v r y e = elim (num_cases p q) [
+    | inl d ↦ record { stop = r; work = offered y; entry = moved_on p v r y e d; legs = refl; runs = refl }
+    | inr d ↦ same_goes E F p v (entries p d) r y e
+  ]
+
+  offered_goes_on : (p v : ℕ) (y : WorkData) → E p ≡ Some (entry_with v None (Some y)) → GoesOn F p v y
+  offered_goes_on p v y e = elim (num_cases p q) [
+    | inl d ↦ record { work = offered y; entry = moved_on p v None y e d; legs = refl; runs = refl }
+    | inr d ↦ same_goes_on E F p v (entries p d) y e
+  ]
+
+  offered_entry_is : IsEntry q (waiting_in old) (hands_in old) o → IsEntry q (waiting_in new) (hands_in new) (offers o)
+  offered_entry_is k = record {
+    known = k.known;
+    work = offered_work o.work k.work;
+    placed = λ n. offered_placed o.stop o.work n _ _
+        (subst (λ (js : List Job). IsPlaced o.stop o.work n (jobs_named q n js) (hands_named q n (hands_in new o.tenant))) (sym (same.queues o.tenant).waiting)
+        (subst (λ (xs : List Hand). IsPlaced o.stop o.work n (jobs_named q n (waiting_in old o.tenant)) (hands_named q n xs)) (sym (same.queues o.tenant).hands) (k.placed n)));
+  }
+
+  pub agree_offered : Agree F (waiting_in new) (hands_in new)
+  agree_offered =
+      let u = o.tenant in
+      agree_alone E F old new q u same a (λ e h. ap (λ (x : EntryData). x.tenant) (entry_is (E q) e o h was)) entries
+      (each_map (IsWaiting E u) (IsWaiting F u) (λ j h. waits_on E F u j (offered_goes_on j.head.query u) h) (waiting_in old u) (a.all_waiting u))
+      (each_map (IsInHand E u) (IsInHand F u) (λ x h. stays_in_hand E F u x (offered_goes x.head.query u) h) (hands_in old u) (a.all_in_hand u))
+      (λ e h. subst (λ (x : EntryData). IsEntry q (waiting_in new) (hands_in new) x) (entry_is (F q) (offers o) e set h)
+      (offered_entry_is (a.all_kept q o was)))
 
 -- ---- a query is closed
 

@@ -1,12 +1,13 @@
 -- Slots: which are empty, and what is kept of a planned query. This project's own.
-use Rattle.std.proofs.Common.{◌≡◌, ◌∙◌, ℕ, zero, suc, ◌*◌, ◌<◌, ◌≤◌, true, false, Option, Some, None, List, [], ◌∷◌, length, map, mul-le-mul, inl, inr, refl, ap, subst, arith, slice_get, slice_set}
+use Rattle.std.proofs.Common.{◌≡◌, ◌∙◌, ℕ, zero, suc, ◌*◌, ◌<◌, ◌≤◌, Bool, true, false, Option, Some, None, List, [], ◌∷◌, length, map, mul-le-mul, inl, inr, refl, ap, subst, arith, slice_get, slice_set}
 use Rattle.pf_base.specs.GridLists.{GridData}
 use Rattle.pf_model.specs.Lists.{Each}
 use Rattle.pf_model.specs.Trees.{Tree}
 use Rattle.pf_shard.specs.Lawful.{IsLawful, ResolvedLegs, leg_count, legs_data}
 use Rattle.pf_shard.specs.declared.parts.Part.{Part}
 use Rattle.pf_query.specs.Tables.{one_if_empty, wanted}
-use Rattle.pf_query.specs.Works.{IsFilled, IsWork, WorkData, empty_slots, filled, handed_out, is_handed, legs_in, planned_work}
+use Rattle.pf_query.specs.Works.{IsFilled, IsWork, WorkData, empty_slots, filled, handed_out, is_handed, legs_in, offered, planned_work}
+use Rattle.pf_extent.specs.declared.done.DoneCells.{DoneCells}
 use Rattle.pf_query.specs.declared.slot.Slot.{Slot}
 use Rattle.pf_query.specs.declared.slot.Slot.TheVariants.{Empty, Filled, Handed}
 
@@ -87,8 +88,9 @@ empty_beyond zero n h = refl
 empty_beyond (suc m) zero h = absurd (omega (arith, h))
 empty_beyond (suc m) (suc n) h = empty_beyond m n (omega (arith, h))
 
-pub work_planned : (legs : ResolvedLegs) (runs : List GridData) → IsLawful (legs_data legs) → length runs ≤ 11001 → IsWork (planned_work legs runs)
-work_planned legs runs l f = record {
+pub work_planned : (legs : ResolvedLegs) (runs : List GridData) (cached : List DoneCells) (offered : Bool) → IsLawful (legs_data legs) → length runs ≤ 11001
+    → IsWork (planned_work legs runs cached offered)
+work_planned legs runs cached offered l f = record {
   lawful = l;
   few = f;
   many = empty_length (length runs * legs_in legs);
@@ -127,6 +129,9 @@ filled_by Handed h e = absurd cc
 pub all_filled : (xs : List Slot) → Each (λ s. is_handed s ≡ false) xs → ((n : ℕ) → one_if_empty (slice_get xs n) ≡ 0) → Each IsFilled xs
 all_filled [] h f = tt
 all_filled (x ∷ xs) h f = (filled_by x h.0 (f 0), all_filled xs h.1 (λ n. f (suc n)))
+
+pub work_offered : (w : WorkData) → IsWork w → IsWork (offered w)
+work_offered w h = record { lawful = h.lawful; few = h.few; many = h.many; handed = h.handed }
 
 -- ---- how many jobs there are
 

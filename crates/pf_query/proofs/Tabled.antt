@@ -1,5 +1,5 @@
 -- Every table stays one: calls that open, plan, close and look. This project's own.
-use Rattle.std.proofs.Common.{◌≡◌, ◌∙◌, ℕ, ◌+◌, ◌<◌, ◌≤◌, inl, inr, true, false, cond, nat_eq, Option, Some, None, List, length, filter, refl, sym, ap, subst, arith}
+use Rattle.std.proofs.Common.{◌≡◌, ◌∙◌, ℕ, ◌+◌, ◌<◌, ◌≤◌, inl, inr, Bool, true, false, cond, nat_eq, Option, Some, None, List, length, filter, refl, sym, ap, subst, arith}
 use Rattle.std.specs.HashMap.{get}
 use Rattle.std.specs.Option.{option_map}
 use Rattle.std.specs.Prelude.{IfErr, Result, Err}
@@ -15,6 +15,7 @@ use Rattle.pf_query.specs.Works.{ArePlanned, WorkData, planned_work}
 use Rattle.pf_query.specs.declared.answers.PlanError.{PlanError}
 use Rattle.pf_query.specs.declared.answers.PlanError.TheVariants as plan_error
 use Rattle.pf_query.specs.declared.answers.Planned.{Planned}
+use Rattle.pf_extent.specs.declared.done.DoneCells.{DoneCells}
 use Rattle.pf_query.specs.declared.entry.Entry.{Entry}
 use Rattle.pf_query.specs.declared.job.Hand.{Hand}
 use Rattle.pf_query.specs.declared.job.Job.{Job}
@@ -96,7 +97,7 @@ table_same old new t q s e = record {
 pub same_table : (old new : Table) → AreSame old.queues new.queues → tries_left new.queues ≡ tries_left old.queues → ((p : ℕ) → raw_of new p ≡ raw_of old p) → IsSameTable old new
 same_table old new s t e = record { entries = λ p. ap (λ (o : Option Entry). option_map data_of o) (e p); queues = s; tries = t }
 
-one_entry : (e f : Entry) → Some e ≡ Some f → e ≡ f
+pub one_entry : (e f : Entry) → Some e ≡ Some f → e ≡ f
 one_entry e f h = cc
 
 -- ---- a query is opened
@@ -245,9 +246,9 @@ refused old new query r e h same =
 -- ---- a query is planned
 
 module _ (old new : Table) (query : ℕ) (s : EntryState) (h : Some s ≡ option_map state_of (raw_of old query)) (p : s.planned ≡ false) (n : s.stop ≡ None)
-    (legs : ResolvedLegs) (runs : List GridData) (snap : SnapData) (jobs : List Job) (w : WorkData) (count : ℕ) (t : IsTable old)
+    (legs : ResolvedLegs) (runs : List GridData) (cached : List DoneCells) (offered : Bool) (snap : SnapData) (jobs : List Job) (w : WorkData) (count : ℕ) (t : IsTable old)
     (lawful : IsLawful (legs_data legs)) (few : length runs ≤ 11001)
-    (made : ArePlanned s.tenant query legs runs snap jobs) (w_is : w ≡ planned_work legs runs) (count_is : count ≡ length jobs)
+    (made : ArePlanned s.tenant query legs runs snap jobs) (w_is : w ≡ planned_work legs runs cached offered) (count_is : count ≡ length jobs)
     (added : AreAdded old.queues s.tenant jobs new.queues)
     (set : (r : ℕ) → raw_of new r ≡ with_change query (planned_entry w count) (raw_of old) r) where
   the : Told (raw_of old query) s
@@ -256,21 +257,21 @@ module _ (old new : Table) (query : ℕ) (s : EntryState) (h : Some s ≡ option
   was_idle : entry_in old query ≡ Some (entry_with s.tenant None None)
   was_idle = idle old query s h p n
 
-  same_data : data_of (planned_entry w count the.entry) ≡ entry_with s.tenant None (Some (planned_work legs runs))
+  same_data : data_of (planned_entry w count the.entry) ≡ entry_with s.tenant None (Some (planned_work legs runs cached offered))
   same_data =
       ap (λ u. entry_with u the.entry.stop (Some w)) (sym (ap (λ (x : EntryState). x.tenant) the.is))
       ∙ ap (λ (o : Option Stop). entry_with s.tenant o (Some w)) (sym (ap (λ (x : EntryState). x.stop) the.is) ∙ n)
       ∙ ap (λ (x : WorkData). entry_with s.tenant None (Some x)) w_is
 
-  now_planned : entry_in new query ≡ Some (entry_with s.tenant None (Some (planned_work legs runs)))
+  now_planned : entry_in new query ≡ Some (entry_with s.tenant None (Some (planned_work legs runs cached offered)))
   now_planned = data_here (raw_of old) (raw_of new) query (planned_entry w count) the.entry the.was set ∙ ap (λ (x : EntryData). Some x) same_data
 
-  planned_sets : (r : ℕ) → entry_in new r ≡ cond (nat_eq query r) (Some (entry_with s.tenant None (Some (planned_work legs runs)))) (entry_in old r)
+  planned_sets : (r : ℕ) → entry_in new r ≡ cond (nat_eq query r) (Some (entry_with s.tenant None (Some (planned_work legs runs cached offered)))) (entry_in old r)
   planned_sets r =
       data_sets (raw_of old) (raw_of new) query (planned_entry w count) the.entry the.was set r
       ∙ ap (λ (x : EntryData). cond (nat_eq query r) (Some x) (entry_in old r)) same_data
 
-  pub planned_is : tries_left new.queues ≡ tries_left old.queues + tries_left_in jobs → IsPlannedOver old query legs runs snap count new
+  pub planned_is : tries_left new.queues ≡ tries_left old.queues + tries_left_in jobs → IsPlannedOver old query legs runs cached offered snap count new
   planned_is l = record {
     tenant = s.tenant;
     was = was_idle;
@@ -307,7 +308,7 @@ module _ (old new : Table) (query : ℕ) (s : EntryState) (h : Some s ≡ option
       let held : the.entry.in_hand ≡ hands_with query (hands_in old.queues u) = counts.in_hand ∙ ap (λ v. hands_with query (hands_in old.queues v)) at in
       record {
         queues = q;
-        agree = agree_planned (entry_in old) (entry_in new) old.queues new.queues t.agree query u legs runs snap jobs lawful few made was_idle now_planned
+        agree = agree_planned (entry_in old) (entry_in new) old.queues new.queues t.agree query u legs runs cached offered snap jobs lawful few made was_idle now_planned
             (data_else (raw_of old) (raw_of new) query (planned_entry w count) the.entry the.was set) _ added;
         counted = counted_with (raw_of old) (raw_of new) old.queues new.queues query u _ _ _ added t.counted
             (raw_else (raw_of old) (raw_of new) query (planned_entry w count) the.entry the.was set)

@@ -3,7 +3,7 @@ use Rattle.std.specs.Arc.{arc_value}
 use Rattle.std.specs.Option.{option_map}
 use Rattle.std.specs.Prelude.{◌≡◌, ℕ, ◌+◌, ◌-◌, Bool, true, false, Option, Some, None, cond, nat_eq, map}
 use Rattle.pf_shard.specs.declared.parts.Part.{Part}
-use Rattle.pf_query.specs.Works.{WorkData, filled, handed_out}
+use Rattle.pf_query.specs.Works.{WorkData, filled, handed_out, offered}
 use Rattle.pf_query.specs.declared.entry.Entry.{Entry}
 use Rattle.pf_query.specs.declared.gathered.Gathered.{Gathered}
 use Rattle.pf_query.specs.declared.slot.Slot.TheVariants.{Filled}
@@ -38,6 +38,9 @@ stopped_entry why e = record e { stop = Some (stop_after e.stop why) }
 abbrev pub given_entry : Entry → Entry
 given_entry e = record e { work = option_map handed_out e.work }
 
+abbrev pub offered_entry : Entry → Entry
+offered_entry e = record e { work = option_map offered e.work }
+
 -- the entry of one query is changed so
 abbrev pub with_change : ℕ → (Entry → Entry) → (ℕ → Option Entry) → ℕ → Option Entry
 with_change query change entries q = cond (nat_eq query q) (option_map change (entries q)) (entries q)
@@ -51,14 +54,32 @@ abbrev pub is_given_out : Option WorkData → Bool
 is_given_out None = false
 is_given_out (Some w) = w.given
 
+abbrev pub is_offered : Option WorkData → Bool
+is_offered None = false
+is_offered (Some w) = w.offered
+
+abbrev pub cached_steps_of : Option WorkData → ℕ
+cached_steps_of None = 0
+cached_steps_of (Some w) = w.cached_steps
+
 abbrev pub state_of : Entry → EntryState
-state_of e = record { tenant = e.tenant; stop = e.stop; planned = is_planned e.work; given = is_given_out e.work; queued = e.queued; in_hand = e.in_hand }
+state_of e = record {
+  tenant = e.tenant;
+  stop = e.stop;
+  planned = is_planned e.work;
+  given = is_given_out e.work;
+  offered = is_offered e.work;
+  cached = cached_steps_of e.work;
+  queued = e.queued;
+  in_hand = e.in_hand;
+}
 
 -- what is handed out of a query that is planned
 pub record Gathers (w : WorkData) (g : Gathered) : Type 0 where
   pub legs_are : arc_value g.legs ≡ w.legs
   pub runs_are : g.runs.items ≡ w.runs
   pub parts_are : map (λ p. Filled p) g.parts.items ≡ w.slots
+  pub cached_are : g.cached.items ≡ w.cached
 
 abbrev pub GathersFrom : Option WorkData → Option Gathered → Type 0
 GathersFrom None g = g ≡ None

@@ -3,12 +3,18 @@ use Rattle.std.specs.Arc.{arc_value}
 use Rattle.std.specs.Prelude.{◌≡◌, ◌≤◌, Bool, true, false, Option, Some, None, List, [], length, vec_capacity}
 use Rattle.pf_base.specs.GridLists.{GridData}
 use Rattle.pf_shard.specs.Lawful.{ResolvedLegs}
+use Rattle.pf_extent.specs.declared.done.DoneCells.{DoneCells}
 use Rattle.pf_query.specs.declared.gathered.Gathered.{Gathered}
 use Rattle.pf_query.specs.declared.slot.Slot.{Slot}
 
 abbrev pub is_given : Option Gathered → Bool
 is_given None = true
 is_given (Some g) = false
+
+-- the cells that are handed out
+abbrev pub cached_in : Option Gathered → List DoneCells
+cached_in None = []
+cached_in (Some g) = g.cached.items
 
 -- the legs and the runs, and room for a part of each slot
 pub record AreReserved (legs : ResolvedLegs) (runs : List GridData) (slots : List Slot) (g : Gathered) : Type 0 where

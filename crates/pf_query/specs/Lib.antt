@@ -1,4 +1,5 @@
 pub mod Codes
+pub mod Covers
 pub mod Entries
 pub mod Gathering
 pub mod JobCode

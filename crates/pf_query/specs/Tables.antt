@@ -11,11 +11,13 @@ use Rattle.pf_model.specs.Lists.{Each}
 use Rattle.pf_queue.specs.Rings.{without}
 use Rattle.pf_shard.specs.Lawful.{ResolvedLegs}
 use Rattle.pf_query.specs.Jobs.{hand_of, has_hand, is_empty, is_other_hand, is_other_job, tries_left_in, without_hand}
-use Rattle.pf_query.specs.Entries.{is_planned, stop_after}
+use Rattle.pf_query.specs.Covers.{is_covered_by}
+use Rattle.pf_query.specs.Entries.{cached_steps_of, is_given_out, is_offered, is_planned, stop_after}
 use Rattle.pf_shard.specs.declared.parts.Part.{Part}
 use Rattle.pf_query.specs.Queueing as queues
 use Rattle.pf_query.specs.Queueing.{AreAdded, AreEmpty, AreQueues, AreSame, AreWith, IsPutBack, IsReleased, IsTaken, hands_in, ring_in, waiting_in}
-use Rattle.pf_query.specs.Works.{ArePlanned, IsHeadOf, IsWork, WorkData, filled, handed_out, planned_work}
+use Rattle.pf_query.specs.Works.{ArePlanned, IsHeadOf, IsWork, WorkData, filled, handed_out, offered, planned_work}
+use Rattle.pf_extent.specs.declared.done.DoneCells.{DoneCells}
 use Rattle.pf_query.specs.declared.job.Hand.{Hand}
 use Rattle.pf_query.specs.declared.job.Held.{Held}
 use Rattle.pf_query.specs.declared.job.Job.{Job}
@@ -193,13 +195,13 @@ abbrev pub IsClosed : Table → ℕ → Table → Type 0
 IsClosed old query new = MatchOption (entry_in old query) (IsSameTable old new) (λ e. Ends old query e new)
 
 -- a query is planned: all its jobs wait
-pub record IsPlannedOver (old : Table) (query : ℕ) (legs : ResolvedLegs) (runs : List GridData) (snap : SnapData) (count : ℕ) (new : Table) : Type 0 where
+pub record IsPlannedOver (old : Table) (query : ℕ) (legs : ResolvedLegs) (runs : List GridData) (cached : List DoneCells) (offered : Bool) (snap : SnapData) (count : ℕ) (new : Table) : Type 0 where
   pub tenant : ℕ
   pub was : entry_in old query ≡ Some (record { tenant = tenant; stop = None; work = None })
   pub jobs : List Job
   pub planned : ArePlanned tenant query legs runs snap jobs
   pub count_is : count ≡ length jobs
-  pub entries : SetsEntry old query (Some (record { tenant = tenant; stop = None; work = Some (planned_work legs runs) })) new
+  pub entries : SetsEntry old query (Some (record { tenant = tenant; stop = None; work = Some (planned_work legs runs cached offered) })) new
   pub queues : AreAdded old.queues tenant jobs new.queues
   pub tries : tries_left_of new ≡ tries_left_of old + tries_left_in jobs
 
@@ -320,6 +322,7 @@ pub record IsGathered (old : Table) (query : ℕ) (e : EntryData) (w : WorkData)
   pub legs_are : arc_value g.legs ≡ w.legs
   pub runs_are : g.runs.items ≡ w.runs
   pub parts_are : map (λ p. Filled p) g.parts.items ≡ w.slots
+  pub cached_are : g.cached.items ≡ w.cached
   pub entries : SetsEntry old query (Some (record e { work = Some (handed_out w) })) new
   pub queues : AreSame old.queues new.queues
   pub tries : tries_left_of new ≡ tries_left_of old
@@ -340,4 +343,25 @@ IsCollected old query (Some c) new = (e : EntryData) × (entry_in old query ≡ 
 
 -- what is told of a query
 abbrev pub progress_of : EntryData → Progress
-progress_of e = record { tenant = e.tenant; planned = is_planned e.work; stop = e.stop }
+progress_of e = record {
+  tenant = e.tenant;
+  planned = is_planned e.work;
+  given = is_given_out e.work;
+  offered = is_offered e.work;
+  cached = cached_steps_of e.work;
+  stop = e.stop;
+}
+
+-- a query is offered, if it is planned
+pub record Offers (old : Table) (query : ℕ) (e : EntryData) (new : Table) : Type 0 where
+  pub entries : SetsEntry old query (Some (record e { work = option_map offered e.work })) new
+  pub queues : AreSame old.queues new.queues
+  pub tries : tries_left_of new ≡ tries_left_of old
+
+abbrev pub IsOffered : Table → ℕ → Table → Type 0
+IsOffered old query new = MatchOption (entry_in old query) (IsSameTable old new) (λ e. Offers old query e new)
+
+-- whether cells cover the runs of a query's jobs
+abbrev pub is_covered_in : Option EntryData → List DoneCells → Bool
+is_covered_in None ds = false
+is_covered_in (Some e) ds = is_covered_by e.work ds

@@ -1,4 +1,4 @@
--- What is kept of a planned query: its legs, its runs, and a slot for each of its jobs. This project's own.
+-- What is kept of a planned query: its legs, its runs, a slot for each of its jobs, and the cells that were cached. This project's own.
 use Rattle.std.specs.Arc.{arc_value}
 use Rattle.std.specs.Prelude.{◌≡◌, ℕ, zero, suc, ◌+◌, ◌-◌, ◌*◌, ◌/◌, ◌%◌, ◌<◌, ◌≤◌, Bool, true, false, Some, List, [], ◌∷◌, length, slice_get, slice_set, map}
 use Rattle.pf_base.specs.GridLists.{GridData}
@@ -7,15 +7,21 @@ use Rattle.pf_block.specs.Snaps.{SnapData}
 use Rattle.pf_model.specs.Lists.{Each}
 use Rattle.pf_shard.specs.Lawful.{IsLawful, ResolvedLegs, leg_count, legs_data}
 use Rattle.pf_shard.specs.declared.parts.Part.{Part}
+use Rattle.pf_extent.specs.Done.{steps_in}
+use Rattle.pf_extent.specs.declared.done.DoneCells.{DoneCells}
 use Rattle.pf_query.specs.declared.job.Job.{Job}
 use Rattle.pf_query.specs.declared.slot.Slot.{Slot}
 use Rattle.pf_query.specs.declared.slot.Slot.TheVariants.{Empty, Filled, Handed}
 
--- the legs, the runs, the slots run by run and leg by leg, and whether all parts were handed out
+-- the legs, the runs, the slots run by run and leg by leg, the cells that were cached, until they are handed out with the parts, of
+-- how many steps they were, whether the query is offered, and whether all parts were handed out
 pub record WorkData : Type 0 where
   pub legs : ResolvedLegs
   pub runs : List GridData
   pub slots : List Slot
+  pub cached : List DoneCells
+  pub cached_steps : ℕ
+  pub offered : Bool
   pub given : Bool
 
 -- how many legs these are
@@ -46,16 +52,28 @@ pub record IsWork (w : WorkData) : Type 0 where
   pub handed : Each (λ s. is_handed s ≡ w.given) w.slots
 
 -- that of a query that was planned
-abbrev pub planned_work : ResolvedLegs → List GridData → WorkData
-planned_work legs runs = record { legs = legs; runs = runs; slots = empty_slots (length runs * legs_in legs); given = false }
+abbrev pub planned_work : ResolvedLegs → List GridData → List DoneCells → (offered : Bool) → WorkData
+planned_work legs runs cached offered = record {
+  legs = legs;
+  runs = runs;
+  slots = empty_slots (length runs * legs_in legs);
+  cached = cached;
+  cached_steps = steps_in cached;
+  offered = offered;
+  given = false;
+}
 
 -- with a job's part
 abbrev pub filled : (job : ℕ) → Part → WorkData → WorkData
 filled job part w = record w { slots = slice_set w.slots job (Filled part) }
 
--- with all parts handed out
+-- with all parts and the cached cells handed out
 abbrev pub handed_out : WorkData → WorkData
-handed_out w = record w { slots = map (λ s. Handed) w.slots; given = true }
+handed_out w = record w { slots = map (λ s. Handed) w.slots; cached = []; given = true }
+
+-- offered
+abbrev pub offered : WorkData → WorkData
+offered w = record w { offered = true }
 
 -- the last time of a run
 abbrev pub last_of : GridData → ℕ

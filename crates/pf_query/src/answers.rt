@@ -4,9 +4,10 @@ use crate::gathered::Gathered;
 use crate::stop::Stop;
 use pf_base::OutOfMemory;
 
-/// How many jobs a plan has.
+/// How many steps of a plan are cached, and how many jobs it has.
 #[derive(Clone, Copy, Debug, PartialEq, Eq)]
 pub struct Planned {
+    pub cached: u32,
     pub jobs: u32,
 }
 
@@ -58,10 +59,14 @@ pub enum Collected {
     Parts(Gathered),
 }
 
-/// What is told of a query: its tenant, whether it is planned, and why it was stopped, if it was.
+/// What is told of a query: its tenant, whether it is planned, whether its parts were handed out and it is offered, how many of its
+/// steps were cached, and why it was stopped, if it was.
 #[derive(Clone, Copy, Debug, PartialEq, Eq)]
 pub struct Progress {
     pub tenant: u32,
     pub planned: bool,
+    pub given: bool,
+    pub offered: bool,
+    pub cached: u32,
     pub stop: Option<Stop>,
 }

@@ -4,7 +4,8 @@ ghost use Rattle.std.specs.HashMap.{get};
 ghost use Rattle.std.specs.Option.{option_map};
 ghost use Rattle.std.specs.Prelude.{◌≡◌, ℕ, ◌<◌, false, IfSome, OnErr, OnOk, Some, cond, length, nat_eq};
 ghost use Rattle.pf_model.specs.Lists.{Each};
-ghost use Rattle.pf_query.specs.Entries.{GathersAt, back_entry, given_entry, opened_entry, planned_entry, state_of, stop_after, stopped_entry, stored_entry, taken_entry, with_change};
+ghost use Rattle.pf_query.specs.Entries.{GathersAt, back_entry, given_entry, offered_entry, opened_entry, planned_entry, state_of, stop_after, stopped_entry, stored_entry, taken_entry, with_change};
+ghost use Rattle.pf_query.specs.Tables.{data_of, is_covered_in};
 ghost use Rattle.pf_query.specs.Works.{IsFilled};
 
 use crate::gathered::Gathered;
@@ -12,6 +13,7 @@ use crate::state::EntryState;
 use crate::stop::Stop;
 use crate::work::Work;
 use pf_base::OutOfMemory;
+use pf_extent::DoneCells;
 use pf_shard::Part;
 use std::collections::HashMap;
 
@@ -38,11 +40,17 @@ pub fn state(entries: &Entries, query: u64) -> Option<EntryState>
         Some(work) => (true, work.is_given()),
         None => (false, false),
     };
+    let (offered, cached) = match &entry.work {
+        Some(work) => (work.is_offered(), work.cached_steps()),
+        None => (false, 0),
+    };
     Some(EntryState {
         tenant: entry.tenant,
         stop: entry.stop,
         planned,
         given,
+        offered,
+        cached,
         queued: entry.queued,
         in_hand: entry.in_hand,
     })
@@ -128,6 +136,30 @@ pub fn stop(entries: &mut Entries, query: u64, why: Stop)
 {
     if let Some(entry) = entries.get_mut(&query) {
         entry.stop = Some(stop_with(entry.stop, why));
+    }
+}
+
+/// Notes that a query is offered, if it is planned.
+pub fn offer(entries: &mut Entries, query: u64)
+    ensures { (q : ℕ) → get nat_eq entries.new q ≡ with_change query offered_entry (get nat_eq entries.old) q }
+{
+    if let Some(entry) = entries.get_mut(&query) {
+        if let Some(work) = &mut entry.work {
+            work.offer();
+        }
+    }
+}
+
+/// Whether cells cover the runs of a query's jobs: none do where it isn't planned.
+pub fn is_covered(entries: &Entries, query: u64, cells: &[DoneCells]) -> bool
+    ensures { result ≡ is_covered_in (option_map data_of (get nat_eq entries.now query)) cells.now }
+{
+    match entries.get(&query) {
+        Some(entry) => match &entry.work {
+            Some(work) => work.is_covered(cells),
+            None => false,
+        },
+        None => false,
     }
 }
 

@@ -5,7 +5,8 @@
 //! - `Asked`, which threads may share.
 //! - `Queues`, the jobs of each tenant: those that wait, first in first out, and those in the hands of actors. `take` serves the
 //!   tenants with a job that waits in turn; `put_back` lets a job wait again, tried once more.
-//! - `Table`, the outstanding queries over such queues, each with a slot for each of its jobs. Of a query that isn't stopped a job
+//! - `Table`, the outstanding queries over such queues, each with the cells of its steps that were cached, and a slot for each of
+//!   its jobs. Of a query that isn't stopped a job
 //!   waits or is in hand exactly where its slot is empty, and failed less than five times:
 //!
 //! ```text
@@ -21,6 +22,8 @@
 
 mod answers;
 mod asked;
+mod cover;
+mod done;
 mod entry;
 mod gathered;
 mod job;
@@ -36,6 +39,7 @@ mod work;
 
 pub use answers::{Collected, FailedTry, Finished, PlanError, Planned, Progress};
 pub use asked::Asked;
+pub use cover::cover_more;
 pub use gathered::Gathered;
 pub use job::{Hand, Held, Job};
 pub use queues::Queues;

@@ -6,7 +6,8 @@ ghost use Rattle.std.specs.Option.{option_map};
 ghost use Rattle.std.specs.Prelude.{◌≡◌, ℕ, ◌<◌, ◌≤◌, [], IfOk, IfErr, IfSome, IsSome, None, OnErr, OnOk, Some, length, nat_eq};
 ghost use Rattle.pf_shard.specs.Lawful.{IsLawful, legs_data};
 ghost use Rattle.pf_query.specs.Entries.{state_of};
-ghost use Rattle.pf_query.specs.Tables.{IsClosed, IsCollected, IsFailed, IsFinished, IsLacking, IsNew, IsOpened, IsPlannedOver, IsSameTable, IsStopped, IsTable, IsUnplanned, TakesFrom, entry_in, progress_of};
+ghost use Rattle.pf_extent.specs.Done.{steps_in};
+ghost use Rattle.pf_query.specs.Tables.{IsClosed, IsCollected, IsFailed, IsFinished, IsLacking, IsNew, IsOffered, IsOpened, IsPlannedOver, IsSameTable, IsStopped, IsTable, IsUnplanned, TakesFrom, entry_in, is_covered_in, progress_of};
 
 use crate::answers::{Collected, FailedTry, Finished, PlanError, Planned, Progress};
 use crate::entry::{self, Entries};
@@ -18,6 +19,7 @@ use crate::stop::Stop;
 use crate::work::Work;
 use pf_base::{Grid, OutOfMemory};
 use pf_block::Snap;
+use pf_extent::DoneCells;
 use pf_shard::{Legs, Part};
 use std::alloc::Global;
 use std::collections::HashMap;
@@ -70,21 +72,25 @@ impl Table {
         self.queues.drop_hands(entry.tenant, query);
     }
 
-    /// Plans a query over its runs: from then on one job waits for each run and each leg, run by run and leg by leg. A refused
-    /// call changes nothing.
+    /// Plans a query over its runs, with the cells of its other steps: from then on one job waits for each run and each leg, run by
+    /// run and leg by leg. It tells how many steps these cells are of. A refused call changes nothing.
     pub fn plan(
         &mut self,
         alloc: Global,
         query: u64,
         legs: Arc<Legs>,
         runs: Vec<Grid>,
+        cached: Vec<DoneCells>,
+        offered: bool,
         snap: &Arc<Snap>,
     ) -> Result<Planned, PlanError>
         requires table { IsTable self.old }
         requires outstanding { IsSome (entry_in self.old query) }
         requires lawful { IsLawful (legs_data (arc_value legs)) }
         requires few { length runs.items ≤ 11001 }
-        ensures ok { IfOk result (λ p. IsPlannedOver self.old query (arc_value legs) runs.items (arc_value snap.now) p.jobs self.new) }
+        requires few_cached { steps_in cached.items ≤ 11001 }
+        ensures ok { IfOk result (λ p. IsPlannedOver self.old query (arc_value legs) runs.items cached.items offered (arc_value snap.now) p.jobs self.new) }
+        ensures cached { IfOk result (λ p. p.cached ≡ steps_in cached.items) }
         ensures err { IfErr result (λ e. IsUnplanned (entry_in self.old query) e × IsSameTable self.old self.new) }
         ensures table { IsTable self.new }
     {
@@ -99,10 +105,14 @@ impl Table {
         }
         let jobs = planned_jobs(alloc, state.tenant, query, &legs, &runs, snap)?;
         let count = jobs.len() as u32;
-        let work = Work::new(alloc, legs, runs)?;
+        let work = Work::new(alloc, legs, runs, cached, offered)?;
+        let steps = work.cached_steps();
         self.queues.add(state.tenant, jobs)?;
         entry::plan(&mut self.entries, query, work, count);
-        Ok(Planned { jobs: count })
+        Ok(Planned {
+            cached: steps,
+            jobs: count,
+        })
     }
 
     /// Hands the first job of the first tenant in turn to an actor; the tenant is last from then on, if it has more jobs that
@@ -238,6 +248,22 @@ impl Table {
         Some(Collected::Parts(gathered))
     }
 
+    /// Notes that a query is offered, if it is planned.
+    pub fn offer(&mut self, query: u64)
+        requires { IsTable self.old }
+        ensures offered { IsOffered self.old query self.new }
+        ensures table { IsTable self.new }
+    {
+        entry::offer(&mut self.entries, query);
+    }
+
+    /// Whether evaluated cells cover the runs of a query's jobs, in their order: not where it isn't outstanding or planned.
+    pub fn is_covered(&self, query: u64, cells: &[DoneCells]) -> bool
+        ensures { result ≡ is_covered_in (entry_in self.now query) cells.now }
+    {
+        entry::is_covered(&self.entries, query, cells)
+    }
+
     /// What is told of a query. None exactly where it isn't outstanding.
     pub fn look(&self, query: u64) -> Option<Progress>
         ensures { result ≡ option_map progress_of (entry_in self.now query) }
@@ -246,6 +272,9 @@ impl Table {
         Some(Progress {
             tenant: state.tenant,
             planned: state.planned,
+            given: state.given,
+            offered: state.offered,
+            cached: state.cached,
             stop: state.stop,
         })
     }

@@ -4,30 +4,39 @@ ghost use Rattle.std.specs.Arc.{arc_value};
 ghost use Rattle.std.specs.Prelude.{◌≡◌, ◌<◌, ◌≤◌, ◌+◌, ◌++◌, false, IfOk, length, map, vec_capacity};
 ghost use Rattle.pf_model.specs.Lists.{Each};
 ghost use Rattle.pf_shard.specs.Lawful.{IsLawful, legs_data};
-ghost use Rattle.pf_query.specs.Works.{IsFilled, filled, handed_out, planned_work};
+ghost use Rattle.pf_query.specs.Covers.{covers};
+ghost use Rattle.pf_query.specs.Works.{IsFilled, filled, handed_out, offered, planned_work};
+ghost use Rattle.pf_extent.specs.Done.{steps_in};
 ghost use Rattle.pf_query.specs.declared.slot.Slot.TheVariants.{Filled, Handed};
 
+use crate::cover::covers;
+use crate::done::count_steps;
 use crate::gathered::Gathered;
 use crate::slot::Slot;
 use pf_base::{Grid, OutOfMemory};
+use pf_extent::DoneCells;
 use pf_shard::{Legs, Part, leg_count};
 use std::alloc::Global;
 use std::marker::Model;
 use std::mem;
 use std::sync::Arc;
 
-/// The legs and the runs of a planned query, and a slot for each run and leg, run by run and leg by leg.
+/// The legs and the runs of a planned query, a slot for each run and leg, run by run and leg by leg, and how many steps were
+/// cached, whose cells are handed out with the parts; and whether the query is offered, so that all that is to be kept of it was
+/// handed to the cache.
 #[derive(Drop)]
 pub struct Work {
     legs: Arc<Legs>,
     runs: Vec<Grid>,
     slots: Vec<Slot>,
     gathered: Option<Gathered>,
+    cached: u32,
+    offered: bool,
 }
 
 impl Model for Work {
     ghost use Rattle.std.specs.Arc.{arc_value};
-    ghost use Rattle.pf_query.specs.Gathering.{IsReserved, is_given};
+    ghost use Rattle.pf_query.specs.Gathering.{IsReserved, cached_in, is_given};
     ghost use Rattle.pf_query.specs.Works.{WorkData};
 
     ghost Value = { WorkData };
@@ -36,7 +45,7 @@ impl Model for Work {
 
     ghost coded = { work_code };
 
-    ghost view = { λ w. record { legs = arc_value w.legs; runs = w.runs.items; slots = w.slots.items; given = is_given w.gathered } };
+    ghost view = { λ w. record { legs = arc_value w.legs; runs = w.runs.items; slots = w.slots.items; cached = cached_in w.gathered; cached_steps = w.cached; offered = w.offered; given = is_given w.gathered } };
 
     ghost invariant = { λ w. IsReserved (arc_value w.legs) w.runs.items w.slots.items w.gathered };
 }
@@ -75,12 +84,21 @@ fn copied(alloc: Global, runs: &[Grid]) -> Result<Vec<Grid>, OutOfMemory>
 }
 
 impl Work {
-    /// What is kept of a query that is planned over these legs and runs: no part yet. All that is handed out is reserved here.
-    pub fn new(alloc: Global, legs: Arc<Legs>, runs: Vec<Grid>) -> Result<Work, OutOfMemory>
+    /// What is kept of a query that is planned over these legs and runs, with these cells of its other steps: no part yet. All that
+    /// is handed out is reserved here.
+    pub fn new(
+        alloc: Global,
+        legs: Arc<Legs>,
+        runs: Vec<Grid>,
+        cached: Vec<DoneCells>,
+        offered: bool,
+    ) -> Result<Work, OutOfMemory>
         requires lawful { IsLawful (legs_data (arc_value legs)) }
         requires few { length runs.items ≤ 11001 }
-        ensures { IfOk result (λ w. w ≡ planned_work (arc_value legs) runs.items) }
+        requires few_cached { steps_in cached.items ≤ 11001 }
+        ensures { IfOk result (λ w. w ≡ planned_work (arc_value legs) runs.items cached.items offered) }
     {
+        let count = count_steps(&cached);
         let jobs = runs.len() * leg_count(&legs) as usize;
         let mut slots = Vec::with_capacity(alloc, jobs)?;
         for _job in 0..jobs {
@@ -90,12 +108,15 @@ impl Work {
             legs: Arc::try_clone(&legs)?,
             runs: copied(alloc, &runs)?,
             parts: Vec::with_capacity(alloc, jobs)?,
+            cached,
         };
         Ok(Work {
             legs,
             runs,
             slots,
             gathered: Some(gathered),
+            cached: count,
+            offered,
         })
     }
 
@@ -114,13 +135,42 @@ impl Work {
         self.gathered.is_none()
     }
 
-    /// Hands out the parts, all of which are there. It takes no memory.
+    /// Whether the query is offered.
+    pub fn is_offered(&self) -> bool
+        ensures { result ≡ self.now.offered }
+    {
+        self.offered
+    }
+
+    /// How many steps were cached.
+    pub fn cached_steps(&self) -> u32
+        ensures { result ≡ self.now.cached_steps }
+    {
+        self.cached
+    }
+
+    /// Whether cells cover its runs.
+    pub fn is_covered(&self, cells: &[DoneCells]) -> bool
+        ensures { result ≡ covers self.now.runs cells.now }
+    {
+        covers(&self.runs, cells)
+    }
+
+    /// The query is offered from now on.
+    pub fn offer(&mut self)
+        ensures { self.new ≡ offered self.old }
+    {
+        self.offered = true;
+    }
+
+    /// Hands out the parts, all of which are there, and the cached cells. It takes no memory.
     pub fn hand_out(&mut self) -> Gathered
         requires given { self.old.given ≡ false }
         requires full { Each IsFilled self.old.slots }
         ensures legs { arc_value result.legs ≡ self.old.legs }
         ensures runs { result.runs.items ≡ self.old.runs }
         ensures parts { map (λ p. Filled p) result.parts.items ≡ self.old.slots }
+        ensures cached { result.cached.items ≡ self.old.cached }
         ensures after { self.new ≡ handed_out self.old }
     {
         let Some(mut gathered) = self.gathered.take() else {

@@ -18,7 +18,7 @@ returns-in_err-add-clause-table c = table_same c.args.self.now _ c.requires.tabl
 
 pub returns-clause-ok : goal.returns-clause-ok
 returns-clause-ok c =
-    planned_is c.args.self.now _ c.args.query c.in-Some.state (search rules) (search rules) (search rules) (arc_value c.args.legs) c.args.runs.items
+    planned_is c.args.self.now _ c.args.query c.in-Some.state (search rules) (search rules) (search rules) (arc_value c.args.legs) c.args.runs.items c.args.cached.items c.args.offered
     (arc_value c.args.snap.now) c.in_ok-jobs.jobs.items c.in_ok-work.work _ c.requires.table c.requires.lawful c.requires.few (search rules)
     c.in_ok-work.ensures (search rules) c.in_ok-add.ensures.ok c.plan.ensures c.in_ok-add.ensures.ok_tries
 
@@ -26,6 +26,6 @@ pub returns-clause-table : goal.returns-clause-table
 returns-clause-table c =
     let many : length c.in_ok-jobs.jobs.items ≤ 2816256 =
     jobs_few (arc_value c.args.legs) (length c.in_ok-jobs.jobs.items) (length c.args.runs.items) c.requires.lawful c.requires.few (search rules) in
-    planned_table c.args.self.now _ c.args.query c.in-Some.state (search rules) (search rules) (search rules) (arc_value c.args.legs) c.args.runs.items
+    planned_table c.args.self.now _ c.args.query c.in-Some.state (search rules) (search rules) (search rules) (arc_value c.args.legs) c.args.runs.items c.args.cached.items c.args.offered
     (arc_value c.args.snap.now) c.in_ok-jobs.jobs.items c.in_ok-work.work _ c.requires.table c.requires.lawful c.requires.few (search rules)
     c.in_ok-work.ensures (search rules) c.in_ok-add.ensures.ok c.plan.ensures c.in_ok-add.ensures.queues (omega (arith, many))
