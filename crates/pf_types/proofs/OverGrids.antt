@@ -6,6 +6,7 @@ use Rattle.std.specs.Cmp.{first_so, second_so}
 use Rattle.std.proofs.lemmas.Bool.Decides.{nat_tests}
 use Rattle.pf_base.specs.GridLists.{GridData}
 use Rattle.pf_base.specs.LabelSets.{is_label_name}
+use Rattle.pf_print.specs.OwnTexts.{HasText, KeepTexts}
 use Rattle.pf_query.specs.Lawful.{IsAsked}
 use Rattle.pf_model.specs.declared.expr.At.{At}
 use Rattle.pf_model.specs.declared.expr.At.TheVariants as at
@@ -20,7 +21,7 @@ use Rattle.pf_model.specs.Binding.{patterns_of, selectors_of}
 use Rattle.pf_model.specs.Built.{are_arguments, are_evaluated, are_near, is_distance, is_evaluated, is_lawful_call, is_range, is_range_argument, is_resolution, is_string, is_time, name_labels}
 use Rattle.pf_model.specs.Canonical.{canonical}
 use Rattle.pf_model.specs.Evaluation.{resolution_or_minute}
-use Rattle.pf_model.specs.Queries.{first_empty}
+use Rattle.pf_model.specs.Queries.{IsQuery, first_empty}
 use Rattle.pf_model.specs.Resolving.{resolved}
 use Rattle.pf_model.specs.Trees as tree
 use Rattle.pf_model.specs.Trees.{Tree, Trees, height}
@@ -155,9 +156,10 @@ same_kind start end (tree.subquery arg range resolution mods) = refl
 -- ---- bound, and put over a grid
 
 pub is_bound : (t : Tree) (matchers : List (List Matcher)) (patterns : List (List ℕ)) (kind : Kind)
-    → is_evaluated t ≡ true → height t ≤ 64 → kind ≡ kind_of t → matchers ≡ selectors_of t → patterns ≡ patterns_of t → first_empty t ≡ None
+    → HasText t → is_evaluated t ≡ true → height t ≤ 64 → kind ≡ kind_of t → matchers ≡ selectors_of t → patterns ≡ patterns_of t → first_empty t ≡ None
     → IsBound t matchers patterns kind
-is_bound t matchers patterns kind evaluated low typed selectors replacements selects = record {
+is_bound t matchers patterns kind written evaluated low typed selectors replacements selects = record {
+  written = written;
   evaluated = evaluated;
   low = low;
   small = evaluated_small t evaluated;
@@ -173,9 +175,10 @@ pub stays_evaluated : (start end : ℕ) (t put : Tree) → put ≡ resolved star
 stays_evaluated start end t put is first last = ap is_evaluated is ∙ same_evaluated start end first last t
 
 pub is_put_in : (start end : ℕ) (t put : Tree) (own matchers : List (List Matcher)) (written patterns : List (List ℕ)) (kind : Kind)
-    → IsBound t own written kind → put ≡ resolved start end t → is_evaluated put ≡ is_evaluated t → matchers ≡ own → patterns ≡ written
+    → KeepTexts → start ≤ 4398046511103 → end ≤ 4398046511103 → IsBound t own written kind → put ≡ resolved start end t → is_evaluated put ≡ is_evaluated t → matchers ≡ own → patterns ≡ written
     → IsPutIn put matchers patterns kind
-is_put_in start end t put own matchers written patterns kind b is same m p = record {
+is_put_in start end t put own matchers written patterns kind law first last b is same m p = record {
+  written = subst HasText (sym is) (law start end t first last b.written b.low);
   settled = ap is_settled is ∙ settled start end t;
   evaluated = same ∙ b.evaluated;
   low = subst (λ n. n ≤ 64) (sym (ap height is ∙ same_height start end t)) b.low;
@@ -194,6 +197,7 @@ is_asked : (t : Tree) (matchers : List (List Matcher)) (patterns : List (List �
     (instant : Bool) (text : List ℕ) → IsPutIn t matchers patterns kind → IsWhen w → grid ≡ grid_in w → instant ≡ is_instant w → text ≡ canonical t
     → IsAsked (record { query = record { tree = t; grid = grid }; kind = kind; instant = instant; text = text }) matchers patterns
 is_asked t matchers patterns kind w grid instant text p h g i c = record {
+  written = p.written;
   settled = p.settled;
   evaluated = p.evaluated;
   low = p.low;
@@ -213,3 +217,9 @@ pub is_shared_asked : (u t : Tree) (matchers : List (List Matcher)) (patterns : 
 is_shared_asked u t matchers patterns kind w grid instant text e p h g i c =
     subst (λ x. IsAsked (record { query = record { tree = x; grid = grid }; kind = kind; instant = instant; text = text }) matchers patterns) (sym e)
     (is_asked t matchers patterns kind w grid instant text p h g i c)
+
+-- a text that is a query has its tree
+pub query_has_text : (text : List ℕ) (t : Tree) → IsQuery text t → HasText t
+query_has_text text t q =
+    let i = q.parses.is_tree in
+    (text, record { tokens = i.tokens; are_tokens = i.known.written.shallow.cut.are_tokens; times = i.times; derives = i.derives })

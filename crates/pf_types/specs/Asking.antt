@@ -9,6 +9,7 @@ use Rattle.pf_model.specs.Built.{is_evaluated}
 use Rattle.pf_model.specs.Queries.{IsReading, first_empty, lawful}
 use Rattle.pf_model.specs.Trees.{Tree, height}
 use Rattle.pf_model.specs.Typing.{accepts, kind_of, scalar_or_instant}
+use Rattle.pf_print.specs.OwnTexts.{HasText}
 use Rattle.pf_resolve.specs.Bounds.{is_small}
 use Rattle.pf_resolve.specs.Settled.{is_settled}
 use Rattle.pf_types.specs.declared.asking.When.{When}
@@ -27,8 +28,9 @@ abbrev pub IsWhen : When → Type 0
 IsWhen (when.Range grid) = 0 < grid.step
 IsWhen (when.Instant grid) = grid.step ≡ 0
 
--- a query that is evaluated, whose times are small, with its matchers, its patterns and its kind, without an empty selector
+-- a query that some text derives and that is evaluated, whose times are small, with its matchers, its patterns and its kind, without an empty selector
 pub record IsBound (tree : Tree) (matchers : List (List Matcher)) (patterns : List (List ℕ)) (kind : Kind) : Type 0 where
+  pub written : HasText tree
   pub evaluated : is_evaluated tree ≡ true
   pub low : height tree ≤ 64
   pub small : is_small tree ≡ true
@@ -40,6 +42,7 @@ pub record IsBound (tree : Tree) (matchers : List (List Matcher)) (patterns : Li
 
 -- the same with a grid's range put in, without what follows from it
 pub record IsPutIn (tree : Tree) (matchers : List (List Matcher)) (patterns : List (List ℕ)) (kind : Kind) : Type 0 where
+  pub written : HasText tree
   pub settled : is_settled tree ≡ true
   pub evaluated : is_evaluated tree ≡ true
   pub low : height tree ≤ 64

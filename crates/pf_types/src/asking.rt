@@ -15,7 +15,7 @@ use crate::query::{QueryError, read_query};
 use pf_base::{Grid, OutOfMemory};
 use pf_match::Pattern;
 use pf_model::{Expr, Kind, Matchers};
-use pf_print::print;
+use pf_print::{keep_texts, print};
 use pf_query::Asked;
 use pf_resolve::{resolve, resolved_over};
 use std::alloc::Global;
@@ -89,6 +89,7 @@ impl BoundQuery {
         requires { IsWhen when }
         ensures { IfOk result (λ a. a ≡ asked_over (is_instant when) (grid_in when) self.now) }
     {
+        keep_texts();
         let grid = grid_in(&when);
         let expr = resolved_over(&self.expr, &grid)?;
         let matchers = Arc::try_clone(&self.matchers)?;
@@ -105,6 +106,7 @@ pub fn read_asked(alloc: Global, text: &str, when: When) -> Result<Asked, QueryE
     ensures asked { IfOk result (λ a. IsAskedBy text.now (is_instant when) (grid_in when) a) }
     ensures refused { IfErr result (λ e. IsFaultFor text.now (query_fault e)) }
 {
+    keep_texts();
     let expr = read_query(alloc, text)?;
     let BoundQuery {
         expr,

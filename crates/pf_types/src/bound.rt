@@ -7,6 +7,7 @@ ghost use Rattle.pf_model.specs.Queries.{counted, first_empty, is_empty_selector
 ghost use Rattle.pf_model.specs.Selection.{accepts_empty};
 ghost use Rattle.pf_model.specs.Built.{is_evaluated};
 ghost use Rattle.pf_model.specs.Trees.{Tree, height, instant, size, tree_of, trees_of};
+ghost use Rattle.pf_print.specs.OwnTexts.{HasText};
 ghost use Rattle.pf_types.specs.Counted.{IsBindFault, IsCallFault, IsNodeFault, all_counted, text_in};
 
 use crate::kinds::kind_of;
@@ -303,6 +304,7 @@ fn query_parts(alloc: Global, expr: &Expr) -> Result<Parts, BindError>
 /// deep as the tree is high.
 #[tactic(auto, using(crate::proofs::OverGrids::is_bound))]
 pub fn bind(alloc: Global, expr: Expr) -> Result<BoundQuery, BindError>
+    requires written { HasText (tree_of expr) }
     requires small { size (tree_of expr) ≤ 4294967295 }
     requires low { height (tree_of expr) ≤ 64 }
     requires evaluated { is_evaluated (tree_of expr) ≡ true }

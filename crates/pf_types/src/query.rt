@@ -5,6 +5,7 @@ ghost use Rattle.pf_model.specs.Built.{is_evaluated};
 ghost use Rattle.pf_model.specs.Queries.{IsQuery};
 ghost use Rattle.pf_model.specs.Trees.{Tree, height, size, tree_of};
 ghost use Rattle.pf_model.specs.Typing.{asked_fault, scalar_or_instant};
+ghost use Rattle.pf_print.specs.OwnTexts.{HasText};
 ghost use Rattle.pf_types.specs.Errors.{IsAnsweredWith, IsFaultFor, query_fault};
 ghost use Rattle.pf_types.specs.Faults.{fault_in};
 ghost use Rattle.pf_types.specs.Rules.{operand_fault};
@@ -113,6 +114,7 @@ fn asked(expr: &Expr) -> Result<(), TypeError>
 #[tactic(auto, using(crate::proofs::LawfulQueries::query_is_evaluated))]
 pub fn read_query(alloc: Global, text: &str) -> Result<Expr, QueryError>
     ensures query { IfOk result (λ e. IsQuery text.now (tree_of e)) }
+    ensures written { IfOk result (λ e. HasText (tree_of e)) }
     ensures small { IfOk result (λ e. size (tree_of e) ≤ 65536) }
     ensures low { IfOk result (λ e. height (tree_of e) ≤ 64) }
     ensures evaluated { IfOk result (λ e. is_evaluated (tree_of e) ≡ true) }

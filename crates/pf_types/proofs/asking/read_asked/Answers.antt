@@ -1,4 +1,4 @@
-use Rattle.std.proofs.Common.{refl, ◌+◌, ◌-◌, ◌*◌}
+use Rattle.std.proofs.Common.{rules, refl, ◌+◌, ◌-◌, ◌*◌}
 use Rattle.pf_model.specs.Trees.{tree_of}
 use Rattle.pf_types.proofs.OverGrids.{is_put_in}
 use Rattle.pf_types.proofs.asking.read_asked.Goals as goal
@@ -6,5 +6,5 @@ use Rattle.pf_types.proofs.asking.read_asked.Goals as goal
 pub asked_with-requires-clause-lawful : goal.asked_with-requires-clause-lawful
 asked_with-requires-clause-lawful c =
     let g = c.grid_in.result in
-    is_put_in g.start (g.start + (g.len - 1) * g.step) (tree_of c.expr.inside.expr) _ _ _ _ _ _ c.expr.invariant c.put_in-expr.ensures.tree
+    is_put_in g.start (g.start + (g.len - 1) * g.step) (tree_of c.expr.inside.expr) _ _ _ _ _ _ c.keep_texts.ensures (search rules) (search rules) c.expr.invariant c.put_in-expr.ensures.tree
     c.put_in-expr.ensures.evaluated refl refl
