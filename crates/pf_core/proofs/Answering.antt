@@ -26,7 +26,7 @@ takes_state old new actor (Some held) h k f t x = taken_state old new actor held
 
 pub takes : (old new : State) (actor : ℕ) (answer : Option Held) → IsState old → KeepsHistory old new → KeepsFailures old new → IsTable new.table
     → table.TakesFrom old.table actor answer new.table → Takes (core_of old) actor answer (core_of new)
-takes old new actor None h k f t x = (x.0, core_same old new k f.failed x.1)
+takes old new actor None h k f t x = (x.0, core_same old new k f x.1)
 takes old new actor (Some held) h k f t x = taken_core old new actor held h k f t x
 
 pub finished_state : (old new : State) (held : Held) (part : Part) (answer : Finished) → IsState old → KeepsHistory old new → KeepsFailures old new → IsTable new.table
@@ -40,7 +40,7 @@ pub finishes : (old new : State) (held : Held) (part : Part) (answer : Finished)
 finishes old new held part finished.Stored h k f t x =
     (whole_of old held x.work h x.held_of, (in_hand_as old held true h x.held_of.in_hand, stored_released old new held part h k f t x))
 finishes old new held part (finished.Gone why) h k f t x = (gone_by old held.head.query why h x.stopped, gone_released old new held why h k f t x)
-finishes old new held part finished.NotHeld h k f t x = (not_held old held h x.not_held, core_same old new k f.failed x.same)
+finishes old new held part finished.NotHeld h k f t x = (not_held old held h x.not_held, core_same old new k f x.same)
 
 pub tried_state : (old new : State) (held : Held) (answer : FailedTry) → IsState old → KeepsHistory old new → KeepsFailures old new → IsTable new.table
     → IsAhead (core_of old) → StandsForAsk (core_of old) held → table.IsFailed old.table held answer new.table → IsState new
@@ -54,7 +54,7 @@ pub tries_again : (old new : State) (held : Held) (answer : FailedTry) → IsSta
 tries_again old new held (failed.Again tries) h k f t x = again_core old new held tries h k f t x
 tries_again old new held (failed.Exhausted job) h k f t x = exhausted_core old new held job h k f t x
 tries_again old new held (failed.Gone why) h k f t x = (gone_by old held.head.query why h x.stopped, gone_released old new held why h k f t x)
-tries_again old new held failed.NotHeld h k f t x = (not_held old held h x.not_held, core_same old new k f.failed x.same)
+tries_again old new held failed.NotHeld h k f t x = (not_held old held h x.not_held, core_same old new k f x.same)
 
 pub lacks_job_state : (old new : State) (held : Held) → IsState old → KeepsHistory old new → KeepsFailures old new → IsTable new.table
     → table.IsLacking old.table held new.table → IsState new

@@ -7,7 +7,8 @@ use Rattle.pf_journal.specs.Machine.{Entry, started}
 use Rattle.pf_model.specs.Lists.{Each}
 use Rattle.pf_query.specs.Tables.{EntryData, IsNew, IsTable, entry_in, waiting_of}
 use Rattle.pf_query.specs.declared.job.Job.{Job}
-use Rattle.pf_core.specs.Cores.{AreCovered, AreLimits, started_core}
+use Rattle.lru.specs.LruCache.{lru_cache}
+use Rattle.pf_core.specs.Cores.{AreCovered, AreLimits, KeepsTruth, started_core}
 use Rattle.pf_core.specs.Entries.{entry_of}
 use Rattle.pf_core.specs.Jobs.{by_tenant}
 use Rattle.pf_core.specs.Seats.{TenantsData}
@@ -23,8 +24,8 @@ abbrev no_tenants : TenantsData
 no_tenants = record { names = []; logs = []; counts = [] }
 
 pub begun_core : (s : State) (limits : Limits) → s.limits ≡ limits → s.tenants ≡ no_tenants → s.journal.items ≡ [] → IsNew s.table → s.failed.items ≡ replicate 32 0
-    → core_of s ≡ started_core limits
-begun_core s limits l t j n f = λ i. record {
+    → s.results ≡ lru_cache [] limits.extents → core_of s ≡ started_core limits
+begun_core s limits l t j n f c = λ i. record {
   limits = l i;
   names = (t i).names;
   journal = map entry_of (j i);
@@ -32,6 +33,7 @@ begun_core s limits l t j n f = λ i. record {
   queues = by_tenant (λ u. record { waiting = map head_of (n.queues.waiting u i); hands = n.queues.hands u i });
   ring = n.queues.ring i;
   failed = f i;
+  kept = c i;
 }
 
 none_kept : (l : Limits) (t : TenantsData) (kept : ℕ → Option Query) (room : ℕ) → t ≡ no_tenants → ((place : ℕ) → kept place ≡ None) → room ≡ 0
@@ -67,9 +69,13 @@ begun_history s limits t kept room j =
 begun_covered : (l : Limits) → AreCovered (started_core l)
 begun_covered l = inr (let none = none_tried in omega (arith, none))
 
+-- nothing is kept
+begun_truth : (l : Limits) → KeepsTruth (started_core l)
+begun_truth l key es there = let within = there.1 in absurd (omega (arith, within))
+
 pub begun_state : (s : State) → AreLimits s.limits → s.tenants ≡ no_tenants → ((place : ℕ) → kept_in s place ≡ None) → s.reserved ≡ 0 → s.journal.items ≡ []
-    → IsNew s.table → IsTable s.table → s.failed.items ≡ replicate 32 0 → s.total ≡ 0 → IsState s
-begun_state s limits t kept room j n table f total =
+    → IsNew s.table → IsTable s.table → s.failed.items ≡ replicate 32 0 → s.total ≡ 0 → s.results ≡ lru_cache [] s.limits.extents → IsState s
+begun_state s limits t kept room j n table f total c =
     let entries : map entry_of s.journal.items ≡ [] = ap (map entry_of) j in
     let counts : AreCounts s.failed.items s.total = record {
       actors = ap (λ (xs : List ℕ). length xs) f;
@@ -82,7 +88,8 @@ begun_state s limits t kept room j n table f total =
     }) in
     record {
       stands = stands s (begun_history s limits t kept room j) table counts jobs.outstanding
-          (subst AreCovered (sym (begun_core s s.limits refl t j n f)) (begun_covered s.limits));
+          (subst AreCovered (sym (begun_core s s.limits refl t j n f c)) (begun_covered s.limits))
+          (subst KeepsTruth (sym (begun_core s s.limits refl t j n f c)) (begun_truth s.limits));
       history = begun_history s limits t kept room j;
       table = table;
       jobs = jobs;

@@ -4,9 +4,12 @@ use Rattle.std.specs.Arc.{arc_value}
 use Rattle.std.specs.Prelude.{MatchOption, sum}
 use Rattle.std.proofs.lemmas.Option.{slice_get_within}
 use Rattle.pf_base.specs.GridLists.{GridData}
+use Rattle.pf_base.specs.Grids.{points}
 use Rattle.pf_base.specs.declared.plain.JobHead.{JobHead}
 use Rattle.pf_base.specs.declared.plain.Limits.{Limits}
 use Rattle.pf_block.specs.Snaps.{SnapData}
+use Rattle.pf_extent.specs.Done.{steps_in}
+use Rattle.pf_extent.specs.declared.done.DoneCells.{DoneCells}
 use Rattle.pf_journal.specs.Legal.{machine_after}
 use Rattle.pf_journal.specs.Machine.{Entry, Open, open_at, started}
 use Rattle.pf_journal.specs.Weave.{failed_answers}
@@ -24,6 +27,7 @@ use Rattle.pf_query.specs.Works.{WorkData, filled, last_of, legs_in, planned_wor
 use Rattle.pf_query.specs.declared.answers.FailedTry.TheVariants as failed
 use Rattle.pf_query.specs.declared.answers.PlanError.{PlanError}
 use Rattle.pf_query.specs.declared.answers.PlanError.TheVariants as plan_error
+use Rattle.pf_query.specs.declared.answers.Planned.{Planned}
 use Rattle.pf_query.specs.declared.job.Hand.{Hand}
 use Rattle.pf_query.specs.declared.job.Held.{Held}
 use Rattle.pf_query.specs.declared.job.Job.{Job}
@@ -34,10 +38,12 @@ use Rattle.pf_query.specs.declared.stop.Stop.TheVariants.{Cancelled, Exhausted, 
 use Rattle.pf_shard.specs.Lawful.{ResolvedLegs, leg_count, legs_data}
 use Rattle.pf_shard.specs.LegParts.{FitsNodes}
 use Rattle.pf_core.specs.Asks.{as_opened, opened_at}
-use Rattle.pf_core.specs.Calls.{ChangesQueue, IsNotHeld, IsOpenWith, IsPartOf, IsPlanned, IsPlannedBefore, IsReleased, IsStoppedBy, IsTaken, IsTried, IsUnplanned, IsWhole, StandsForAsk, StopsQuery, counted, is_in_hand, leg_count_of, planned_for, ring_with}
+use Rattle.pf_core.specs.Cached.{cached_steps, is_offered_at_once, wanted_runs}
+use Rattle.pf_core.specs.Calls.{ChangesQueue, IsNotHeld, IsOpenWith, IsPartOf, IsPlannedBefore, IsReleased, IsStoppedBy, IsTaken, IsTried, IsUnplanned, IsWhole, StandsForAsk, StopsQuery, counted, is_in_hand, leg_count_of, planned_by, planned_for, ring_with}
 use Rattle.pf_core.specs.Cores.{AreCovered, CoreData, HasQueue, IsSameHistory, open_tries, queue_at}
 use Rattle.pf_core.specs.Entries.{entry_of}
-use Rattle.pf_core.specs.Jobs.{AreRunsOf, IsForAsk, IsLegsOf, IsRunOf, IsValueOver, QueueHeads, by_tenant, failures_after, legs_asked, planned_heads, runs_of, tried_in}
+use Rattle.pf_core.specs.Divisions.{IsPlannedFirst}
+use Rattle.pf_core.specs.Jobs.{AreDivided, IsForAsk, IsLegsOf, IsRunOf, IsValueOver, QueueHeads, by_tenant, failures_after, legs_asked, planned_heads, tried_in}
 use Rattle.pf_core.specs.Progress as progress
 use Rattle.pf_core.specs.Progress.{QueryProgress, begun, cancel_in, exhausted_in, planned, progress_at, with_progress}
 use Rattle.pf_core.specs.States.{AreCounts, IsAhead, IsEntryOf, IsOutstanding, IsState, IsWorkOf, JobStands, KeepsFailures, KeepsHistory, core_of, far_of, heads_in, machine_in, progress_of}
@@ -60,15 +66,16 @@ history_same old new k = record {
 }
 
 -- a core whose table is the same for contracts
-pub core_same : (old new : State) → KeepsHistory old new → new.failed ≡ old.failed → IsSameTable old.table new.table → core_of new ≡ core_of old
-core_same old new k failed e = λ i. record {
+pub core_same : (old new : State) → KeepsHistory old new → KeepsFailures old new → IsSameTable old.table new.table → core_of new ≡ core_of old
+core_same old new k f e = λ i. record {
   limits = k.limits i;
   names = (k.tenants i).names;
   journal = map entry_of (k.journal i).items;
   progress = progress_of (machine_after started (map entry_of (k.journal i).items)).queries (λ q. e.entries q i);
   queues = by_tenant (λ u. record { waiting = map head_of ((e.queues.queues u).waiting i); hands = (e.queues.queues u).hands i });
   ring = e.queues.ring i;
-  failed = (failed i).items;
+  failed = (f.failed i).items;
+  kept = f.results i;
 }
 
 -- how far the work on open queries is, by what the table keeps
@@ -104,10 +111,10 @@ covered_same old new h k f tries same = covered_beside old new h k f tries (let 
 -- and its state
 pub state_same : (old new : State) → IsState old → KeepsHistory old new → KeepsFailures old new → IsTable new.table → IsSameTable old.table new.table → IsState new
 state_same old new h k f t e =
-    state_beside old new h k t (counts_as old new f h.counts)
+    state_beside old new h k f.results t (counts_as old new f h.counts)
     (outstanding_same old.limits (machine_in old).queries (entry_in old.table) (entry_in new.table) h.jobs.outstanding e.entries)
     (λ u. subst (λ (js : List Job). Each (JobStands (map entry_of old.journal.items) old.limits) js) (sym (e.queues.queues u).waiting) (h.jobs.waiting_for u))
-    (subst AreCovered (sym (core_same old new k f.failed e)) h.stands.covered)
+    (subst AreCovered (sym (core_same old new k f e)) h.stands.covered)
 
 -- ---- entries and open queries
 
@@ -160,7 +167,7 @@ taken_state old new actor held h k f t taken =
     let q = taken.taken in
     let all : Each (JobStands (map entry_of old.journal.items) l) (q.job ∷ q.jobs) =
     subst (λ (js : List Job). Each (JobStands (map entry_of old.journal.items) l) js) q.waiting (h.jobs.waiting_for q.tenant) in
-    state_beside old new h k t (counts_as old new f h.counts)
+    state_beside old new h k f.results t (counts_as old new f h.counts)
     (outstanding_same l (machine_in old).queries (entry_in old.table) (entry_in new.table) h.jobs.outstanding taken.entries)
     (jobs_with (map entry_of old.journal.items) l q.tenant (waiting_of old.table) (waiting_of new.table) q.jobs h.jobs.waiting_for q.left.waiting all.1
     (λ v d. (q.left.others v d).waiting))
@@ -185,6 +192,7 @@ taken_core old new actor held h k f t taken = record {
     history = history_same old new k;
     failed = ap (λ (v : _). v.items) f.failed;
     progress_is = progress_same old new k taken.entries;
+    kept_is = f.results;
   };
   stands = subst (λ (x : Held). StandsForAsk (core_of new) x) (sym q.held_is)
       (subst (λ (js : List Entry). IsForAsk js new.limits q.job.head (arc_value q.job.legs) q.job.run (arc_value q.job.snap))
@@ -233,6 +241,7 @@ released old new held h k f t r same =
       history = history_same old new k;
       failed = ap (λ (v : _). v.items) f.failed;
       progress_is = same;
+      kept_is = f.results;
     }
 
 -- of a stopped query
@@ -250,7 +259,7 @@ stored_released old new held part h k f t stored =
 pub released_state : (old new : State) (held : Held) → IsState old → KeepsHistory old new → KeepsFailures old new → IsTable new.table
     → ((q : ℕ) → entry_in new.table q ≡ entry_in old.table q) → queues.IsReleased old.table.queues held new.table.queues → IsState new
 released_state old new held h k f t entries r =
-    state_beside old new h k t (counts_as old new f h.counts)
+    state_beside old new h k f.results t (counts_as old new f h.counts)
     (outstanding_same old.limits (machine_in old).queries (entry_in old.table) (entry_in new.table) h.jobs.outstanding entries)
     (jobs_with (map entry_of old.journal.items) old.limits held.head.tenant (waiting_of old.table) (waiting_of new.table) (waiting_of old.table held.head.tenant)
     h.jobs.waiting_for r.waiting (h.jobs.waiting_for held.head.tenant) (λ v d. (r.others v d).waiting))
@@ -323,6 +332,9 @@ work_filled l o w job part h inside fits new = record {
   legs_are = h.legs_are;
   evaluable = h.evaluable;
   runs = h.runs;
+  divided = h.divided;
+  few = h.few;
+  once = h.once;
   fits = λ i p g. elim (filled_at w.slots job i part p inside g) [
     | inl both ↦ subst (λ (x : Part). FitsNodes w.legs.nodes x) both.1 fits
     | inr was ↦ h.fits i p was
@@ -346,7 +358,7 @@ stored_state old new held part h k f t stands is stored =
     let inside = slice_get_within stored.work.slots held.head.job Empty stored.held_of.empty in
     let work = work_filled l a.opened stored.work held.head.job part a.is.work inside (stored_fits old held part stored.work a.opened stands is same a.is.work)
     (stored_value old held part stored.work a.opened stands is same stored.held_of a.is.work) in
-    state_beside old new h k t (counts_as old new f h.counts)
+    state_beside old new h k f.results t (counts_as old new f h.counts)
     (outstanding_set l held.head.query (machine_in old).queries a.opened _ (entry_in old.table) (entry_in new.table) h.jobs.outstanding a.there
     (record { tenant = a.is.tenant; stop = a.is.stop; work = work }) stored.entries)
     (jobs_with (map entry_of old.journal.items) l held.head.tenant (waiting_of old.table) (waiting_of new.table) (waiting_of old.table held.head.tenant)
@@ -364,13 +376,13 @@ stop_other (Some first) (Exhausted job) e = refl
 stop_other None Starved e = refl
 stop_other (Some first) Starved e = refl
 
-pub stopped_state : (old new : State) (query : ℕ) (why : Stop) (d : EntryData) (hands : List Hand) → IsState old → KeepsHistory old new → IsTable new.table
+pub stopped_state : (old new : State) (query : ℕ) (why : Stop) (d : EntryData) (hands : List Hand) → IsState old → KeepsHistory old new → new.results ≡ old.results → IsTable new.table
     → AreCounts new.failed.items new.total
     → entry_in old.table query ≡ Some d → cancel_in (Some why) ≡ None → Stops old.table query why d hands new.table → AreCovered (core_of new) → IsState new
-stopped_state old new query why d hands h k t counts there other stops covered =
+stopped_state old new query why d hands h k same t counts there other stops covered =
     let l = old.limits in
     let a = ask_of old query d h there in
-    state_beside old new h k t counts
+    state_beside old new h k same t counts
     (outstanding_set l query (machine_in old).queries a.opened (stopped why d) (entry_in old.table) (entry_in new.table) h.jobs.outstanding a.there
     (record { tenant = a.is.tenant; stop = stop_other d.stop why other ∙ a.is.stop; work = a.is.work }) stops.entries)
     (jobs_with (map entry_of old.journal.items) l d.tenant (waiting_of old.table) (waiting_of new.table) _ h.jobs.waiting_for stops.queues.waiting
@@ -387,14 +399,15 @@ stops_query old new query why d hands h k f t there stops = record {
   left = left_by old new d.tenant query hands h.table t stops.queues;
   history = history_same old new k;
   failed = ap (λ (v : _). v.items) f.failed;
+  kept = f.results;
   progress_is = stopped_progress old new query why d k there stops.entries;
 }
 
 -- ---- a job failed
 
-pub counted_core : (old new : State) (actor : ℕ) → KeepsHistory old new → new.table ≡ old.table → new.failed.items ≡ failures_after old.failed.items actor
+pub counted_core : (old new : State) (actor : ℕ) → KeepsHistory old new → new.results ≡ old.results → new.table ≡ old.table → new.failed.items ≡ failures_after old.failed.items actor
     → core_of new ≡ counted (core_of old) actor
-counted_core old new actor k table failed = λ i. record {
+counted_core old new actor k same table failed = λ i. record {
   limits = k.limits i;
   names = (k.tenants i).names;
   journal = map entry_of (k.journal i).items;
@@ -402,6 +415,7 @@ counted_core old new actor k table failed = λ i. record {
   queues = by_tenant (heads_in (table i));
   ring = ring_of (table i);
   failed = failed i;
+  kept = same i;
 }
 
 -- the table tells of as many tries as before
@@ -430,10 +444,10 @@ ahead_covered : (c : CoreData) → IsAhead c → AreCovered c
 ahead_covered c (inl most) = inl most
 ahead_covered c (inr more) = inr (omega (arith, more))
 
-pub counted_state : (old new : State) → IsState old → KeepsHistory old new → new.table ≡ old.table → AreCounts new.failed.items new.total → IsAhead (core_of new)
+pub counted_state : (old new : State) → IsState old → KeepsHistory old new → new.results ≡ old.results → new.table ≡ old.table → AreCounts new.failed.items new.total → IsAhead (core_of new)
     → IsState new
-counted_state old new h k table counts ahead =
-    state_beside old new h k (subst IsTable (sym table) h.table) counts
+counted_state old new h k same table counts ahead =
+    state_beside old new h k same (subst IsTable (sym table) h.table) counts
     (λ p. subst (λ (t : Table). IsOutstanding old.limits (open_at p (machine_in old).queries) (entry_in t p)) (sym table) (h.jobs.outstanding p))
     (λ u. subst (λ (t : Table). Each (JobStands (map entry_of old.journal.items) old.limits) (waiting_of t u)) (sym table) (h.jobs.waiting_for u))
     (ahead_covered (core_of new) ahead)
@@ -452,7 +466,7 @@ pub again_state : (old new : State) (held : Held) (tries : ℕ) → IsState old 
 again_state old new held tries h k f t ahead stands again =
     let l = old.limits in
     let u = held.head.tenant in
-    state_beside old new h k t (counts_as old new f h.counts)
+    state_beside old new h k f.results t (counts_as old new f h.counts)
     (outstanding_same l (machine_in old).queries (entry_in old.table) (entry_in new.table) h.jobs.outstanding again.entries)
     (jobs_with (map entry_of old.journal.items) l u (waiting_of old.table) (waiting_of new.table) _ h.jobs.waiting_for again.queues.waiting
     (each_front _ (waiting_of old.table u) (job_of_held (held.head.tries + 1) held ∷ []) (h.jobs.waiting_for u) (again_job old held stands, tt))
@@ -493,6 +507,7 @@ again_core old new held tries h k f t again =
               history = history_same old new k;
               failed = ap (λ (v : _). v.items) f.failed;
               progress_is = progress_same old new k again.entries;
+              kept_is = f.results;
             },
           ),
         ),
@@ -507,7 +522,7 @@ exhausted_state old new held job h k f t ahead e =
     let stops : Stops old.table held.head.query (Exhausted job) (record { tenant = held.head.tenant; stop = None; work = Some e.work })
     (without_hand (hand_of held) (hands_of old.table held.head.tenant)) new.table =
     record { entries = e.entries; queues = e.queues; tries = e.tries } in
-    stopped_state old new held.head.query (Exhausted job) _ (without_hand (hand_of held) (hands_of old.table held.head.tenant)) h k t (counts_as old new f h.counts)
+    stopped_state old new held.head.query (Exhausted job) _ (without_hand (hand_of held) (hands_of old.table held.head.tenant)) h k f.results t (counts_as old new f h.counts)
     e.held_of.entry refl stops
     (covered_ahead (core_of old) (core_of new) (ap (λ (v : _). v.items) f.failed) (ap (λ (v : _). map entry_of v.items) k.journal)
     (let tries = tried_dropped old.table new.table held _ e.held_of.in_hand e.queues known in
@@ -543,7 +558,7 @@ pub lacked_state : (old new : State) (query : ℕ) (entry : Option EntryData) (h
     → MatchOption entry (IsSameTable old.table new.table) (λ d. Stops old.table query Starved d (hands d) new.table) → IsState new
 lacked_state old new query None hands h k f t there less s = state_same old new h k f t s
 lacked_state old new query (Some d) hands h k f t there less s =
-    stopped_state old new query Starved d (hands d) h k t (counts_as old new f h.counts) there refl s
+    stopped_state old new query Starved d (hands d) h k f.results t (counts_as old new f h.counts) there refl s
     (covered_beside old new h k f (tried_left old.table new.table d.tenant query (hands d) _ s.queues (less d))
     (let far = ap exhausted_in (stopped_progress old new query Starved d k there s.entries) in
     let none = exhausted_no_more query (progress.stopped Starved) (not_by_want Starved refl) (core_of old).progress in
@@ -554,7 +569,7 @@ pub lacked_none : (old new : State) (query : ℕ) (hands : EntryData → List Ha
     → open_at query (machine_in old).queries ≡ None → core_of new ≡ core_of old
 lacked_none old new query hands h k f s e =
     let none = none_there old.limits (open_at query (machine_in old).queries) (entry_in old.table query) (h.jobs.outstanding query) e in
-    core_same old new k f.failed (subst (λ (x : Option EntryData). MatchOption x (IsSameTable old.table new.table)
+    core_same old new k f (subst (λ (x : Option EntryData). MatchOption x (IsSameTable old.table new.table)
     (λ d. Stops old.table query Starved d (hands d) new.table)) none s)
 
 pub lacked_some : (old new : State) (query : ℕ) (hands : ℕ → List Hand) (told : ℕ → List Hand) → IsState old → KeepsHistory old new → KeepsFailures old new → IsTable new.table
@@ -572,45 +587,60 @@ lacked_some old new query hands told h k f t s same o e =
 
 -- ---- a query is planned
 
-work_planned : (l : Limits) (o : Open) (legs : ResolvedLegs) (snap : SnapData) (rs : List GridData) → IsLegsOf l o legs snap → AreRunsOf o.asked.query.grid rs
-    → IsWorkOf l o (planned_work legs rs)
-work_planned l o legs snap rs h runs = record {
+work_planned : (l : Limits) (o : Open) (legs : ResolvedLegs) (snap : SnapData) (cached : List DoneCells) (rs : List GridData) (offered : Bool) → IsLegsOf l o legs snap
+    → AreDivided l o cached rs → steps_in cached ≤ length (points o.asked.query.grid) → (o.asked.instant ≡ true → offered ≡ true)
+    → IsWorkOf l o (planned_work legs rs cached offered)
+work_planned l o legs snap cached rs offered h divided few once = record {
   legs_are = h.legs_are;
   evaluable = record { evaluated = h.bound.resolved.evaluated; low = h.bound.resolved.low; patterns = h.bound.resolved.patterns };
-  runs = runs;
+  runs = record { others = cached; woven = divided.woven; each = divided.each; alone = λ e. (divided.alone e).1 };
+  divided = λ _. divided;
+  few = few;
+  once = once;
   fits = λ i part g. absurd (empty_unfilled (length rs * legs_in legs) i part g);
   values = λ i run part there g. absurd (empty_unfilled (length rs * legs_in legs) i part g);
 }
 
-pub planned_state : (old new : State) (query count : ℕ) (legs : ResolvedLegs) (rs : List GridData) (snap : SnapData) (o : Open) → IsState old → KeepsHistory old new
+-- how far it is then
+planned_progress : (old new : State) (query count : ℕ) (legs : ResolvedLegs) (rs : List GridData) (cached : List DoneCells) (offered : Bool) (snap : SnapData)
+    → KeepsHistory old new → table.IsPlannedOver old.table query legs rs cached offered snap count new.table
+    → (core_of new).progress ≡ with_progress query (planned rs (steps_in cached) offered) (core_of old).progress
+planned_progress old new query count legs rs cached offered snap k p =
+    progress_set old new query (planned rs (steps_in cached) offered) _ _ k p.was p.entries refl
+
+pub planned_state : (old new : State) (query count : ℕ) (legs : ResolvedLegs) (cached : List DoneCells) (rs : List GridData) (offered : Bool) (snap : SnapData) (o : Open)
+    → IsState old → KeepsHistory old new
     → KeepsFailures old new → IsTable new.table → open_at query (machine_in old).queries ≡ Some o → IsLegsOf old.limits o legs snap
-    → AreRunsOf o.asked.query.grid rs → table.IsPlannedOver old.table query legs rs snap count new.table → IsState new
-planned_state old new query count legs rs snap o h k f t there is runs p =
+    → AreDivided old.limits o cached rs → steps_in cached ≤ length (points o.asked.query.grid) → (o.asked.instant ≡ true → offered ≡ true)
+    → table.IsPlannedOver old.table query legs rs cached offered snap count new.table → IsState new
+planned_state old new query count legs cached rs offered snap o h k f t there is divided few once p =
     let l = old.limits in
     let a = ask_of old query _ h p.was in
     let both : Some a.opened ≡ Some o = sym a.there ∙ there in
     let same : a.opened ≡ o = cc in
     let entry = subst (λ (x : Open). IsEntryOf l x (record { tenant = p.tenant; stop = None; work = None })) same a.is in
     let J = map entry_of old.journal.items in
-    state_beside old new h k t (counts_as old new f h.counts)
+    state_beside old new h k f.results t (counts_as old new f h.counts)
     (outstanding_set l query (machine_in old).queries o _ (entry_in old.table) (entry_in new.table) h.jobs.outstanding there
-    (record { tenant = entry.tenant; stop = entry.stop; work = work_planned l o legs snap rs is runs }) p.entries)
+    (record { tenant = entry.tenant; stop = entry.stop; work = work_planned l o legs snap cached rs offered is divided few once }) p.entries)
     (jobs_with J l p.tenant (waiting_of old.table) (waiting_of new.table) _ h.jobs.waiting_for p.queues.waiting
     (each_front _ (waiting_of old.table p.tenant) p.jobs (h.jobs.waiting_for p.tenant)
     (jobs_planned J l p.tenant query (as_opened o) legs rs snap 0 p.jobs (asked_open J query o there) (sym entry.tenant)
-    (record { legs_are = is.legs_are; lawful = is.lawful; bound = is.bound; stands = is.stands; apart = is.apart }) runs.each p.planned.each))
+    (record { legs_are = is.legs_are; lawful = is.lawful; bound = is.bound; stands = is.stands; apart = is.apart }) divided.each p.planned.each))
     (λ v d. (p.queues.others v d).waiting))
     (covered_beside old new h k f
     (tried_added old.table new.table p.tenant p.jobs _ p.queues (untried p.tenant query legs rs snap 0 p.jobs p.planned.each))
-    (let far = ap exhausted_in (progress_set old new query planned _ _ k p.was p.entries refl) in
-    let none = exhausted_no_more query planned (λ _. omega arith) (core_of old).progress in
+    (let far = ap exhausted_in (planned_progress old new query count legs rs cached offered snap k p) in
+    let none = exhausted_no_more query (planned rs (steps_in cached) offered) (λ _. omega arith) (core_of old).progress in
     omega (arith, far, none)))
 
-pub planned_core : (old new : State) (query count : ℕ) (legs : ResolvedLegs) (rs : List GridData) (snap : SnapData) (o : Open) → IsState old → KeepsHistory old new
+pub planned_core : (old new : State) (query : ℕ) (told : Planned) (legs : ResolvedLegs) (cached : List DoneCells) (rs : List GridData) (offered : Bool) (snap : SnapData) (o : Open)
+    → IsState old → KeepsHistory old new
     → KeepsFailures old new → IsTable new.table → open_at query (machine_in old).queries ≡ Some o → IsLegsOf old.limits o legs snap
-    → rs ≡ runs_of old.limits.interval o.asked.query.grid
-    → table.IsPlannedOver old.table query legs rs snap count new.table → IsPlanned (core_of old) query count (core_of new)
-planned_core old new query count legs rs snap o h k f t there is runs p =
+    → rs ≡ wanted_runs old.limits old.results o → offered ≡ is_offered_at_once old.limits old.results o
+    → told.cached ≡ steps_in cached → steps_in cached ≡ length (cached_steps old.limits old.results o)
+    → table.IsPlannedOver old.table query legs rs cached offered snap told.jobs new.table → IsPlannedFirst (core_of old) query told (core_of new)
+planned_core old new query told legs cached rs offered snap o h k f t there is runs once steps found p =
     let a = ask_of old query _ h p.was in
     let both : Some a.opened ≡ Some o = sym a.there ∙ there in
     let same : a.opened ≡ o = cc in
@@ -619,14 +649,18 @@ planned_core old new query count legs rs snap o h k f t there is runs p =
     let heads : map head_of p.jobs ≡ planned_for (core_of old) query o =
     heads_planned p.tenant query legs rs snap p.jobs p.planned
     ∙ (λ i. planned_heads (owner i) query 0 (legs_count i) (runs i)) in
+    let far : (core_of new).progress ≡ with_progress query (planned_by (core_of old) told.cached o) (core_of old).progress =
+    planned_progress old new query told.jobs legs rs cached offered snap k p
+    ∙ (λ i. with_progress query (planned (runs i) (sym steps i) (once i)) (core_of old).progress) in
     let changed = has_queue old new p.tenant (waiting_of old.table p.tenant ++ p.jobs) (hands_of old.table p.tenant)
     (cond (is_empty p.jobs) (ring_of old.table) (cond (is_empty (waiting_of old.table p.tenant)) (put_last p.tenant (ring_of old.table)) (ring_of old.table)))
     h.table t p.queues in
     let was = queue_is old h.table p.tenant in
     let front = map_front head_of (waiting_of old.table p.tenant) p.jobs in
-    let told : ChangesQueue (core_of old) p.tenant
+    let told_so : ChangesQueue (core_of old) p.tenant
     (record { waiting = (queue_at (core_of old) p.tenant).waiting ++ map head_of p.jobs; hands = (queue_at (core_of old) p.tenant).hands })
-    (ring_with (core_of old) p.tenant (map head_of p.jobs)) (with_progress query planned (core_of old).progress) (core_of new) = record {
+    (ring_with (core_of old) p.tenant (map head_of p.jobs)) (with_progress query (planned_by (core_of old) told.cached o) (core_of old).progress) (core_of old).kept
+    (core_of new) = record {
       queue_is = record {
         here = changed.here
             ∙ (λ i. record { waiting = front i; hands = hands_of old.table p.tenant })
@@ -639,7 +673,8 @@ planned_core old new query count legs rs snap o h k f t there is runs p =
       };
       history = history_same old new k;
       failed = ap (λ (v : _). v.items) f.failed;
-      progress_is = progress_set old new query planned _ _ k p.was p.entries refl;
+      progress_is = far;
+      kept_is = f.results;
     } in
     record {
       whole = record {
@@ -651,20 +686,22 @@ planned_core old new query count legs rs snap o h k f t there is runs p =
         stop_is = refl;
       };
       unplanned = refl;
+      cached_is = steps ∙ found;
       count_is = p.count_is ∙ p.planned.many ∙ (λ i. length (runs i) * legs_count i);
       leaves = subst (λ u. ChangesQueue (core_of old) u
           (record { waiting = (queue_at (core_of old) u).waiting ++ planned_for (core_of old) query o; hands = (queue_at (core_of old) u).hands })
           (ring_with (core_of old) u (planned_for (core_of old) query o))
-          (with_progress query planned (core_of old).progress) (core_of new)) owner
+          (with_progress query (planned_by (core_of old) told.cached o) (core_of old).progress) (core_of old).kept (core_of new)) owner
           (subst (λ (hs : List JobHead). ChangesQueue (core_of old) p.tenant
           (record { waiting = (queue_at (core_of old) p.tenant).waiting ++ hs; hands = (queue_at (core_of old) p.tenant).hands })
-          (ring_with (core_of old) p.tenant hs) (with_progress query planned (core_of old).progress) (core_of new)) heads told);
+          (ring_with (core_of old) p.tenant hs) (with_progress query (planned_by (core_of old) told.cached o) (core_of old).progress) (core_of old).kept (core_of new))
+          heads told_so);
     }
 
 -- why it isn't
 pub unplanned : (old new : State) (query : ℕ) (error : PlanError) → IsState old → KeepsHistory old new → KeepsFailures old new
     → table.IsUnplanned (entry_in old.table query) error → IsSameTable old.table new.table → IsUnplanned (core_of old) query error (core_of new)
-unplanned old new query plan_error.PlannedBefore h k f u e = (planned_before (entry_in old.table query) refl u, core_same old new k f.failed e) where
+unplanned old new query plan_error.PlannedBefore h k f u e = (planned_before (entry_in old.table query) refl u, core_same old new k f e) where
   planned_before : (x : Option EntryData) → entry_in old.table query ≡ x → table.IsUnplanned x plan_error.PlannedBefore → IsPlannedBefore (core_of old) query
   planned_before None e u = absurd u
   planned_before (Some d) e u = record {
@@ -672,8 +709,8 @@ unplanned old new query plan_error.PlannedBefore h k f u e = (planned_before (en
     opened = open_with old query d d.stop (ask_of old query d h e) e refl;
     was_planned = ap is_planned u.1;
   }
-unplanned old new query (plan_error.Stopped why) h k f u e = (gone_by old query why h (stop_of (entry_in old.table query) u), core_same old new k f.failed e) where
+unplanned old new query (plan_error.Stopped why) h k f u e = (gone_by old query why h (stop_of (entry_in old.table query) u), core_same old new k f e) where
   stop_of : (x : Option EntryData) → table.IsUnplanned x (plan_error.Stopped why) → table.IsGone x why
   stop_of None u = absurd u
   stop_of (Some d) u = u.1
-unplanned old new query plan_error.OutOfMemory h k f u e = core_same old new k f.failed e
+unplanned old new query plan_error.OutOfMemory h k f u e = core_same old new k f e

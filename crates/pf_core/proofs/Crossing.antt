@@ -4,10 +4,14 @@ use Rattle.std.proofs.Crossing.{crosses}
 use Rattle.std.proofs.MapsCrossing.{crosses as maps_cross}
 use Rattle.pf_model.proofs.Crossing.{matchers_cross}
 use Rattle.pf_query.proofs.Crossing.{asked_cross, jobs_cross, table_cross}
+use Rattle.lru.proofs.Crosses.{Deed-send, Deed-sync, KeyRef-send, KeyRef-sync, List-send, List-sync}
 use Rattle.pf_core.specs.contracts.entry.Entry as Entry
 use Rattle.pf_core.specs.contracts.query.Query as Query
 use Rattle.pf_core.specs.contracts.session.Core as Core
 use Rattle.pf_core.specs.contracts.tenants.Tenants as Tenants
+use Rattle.pf_extent.specs.contracts.key.Key as Key
+use Rattle.pf_extent.specs.contracts.list.List as Extents
+use Rattle.pf_results.specs.contracts.results.Results as Results
 use Rattle.pf_store.specs.contracts.tenant_log.Pin as Pin
 use Rattle.pf_store.specs.contracts.tenant_log.TenantLog as TenantLog
 
@@ -41,11 +45,29 @@ Entry-send = search (asked_cross, matchers_cross, crosses, sendable) depth 60 fi
 Entry-sync : IsSync Entry.the_field.row
 Entry-sync = search (asked_cross, matchers_cross, crosses, sendable) depth 60 fits 20000
 
+Key-send : IsSend Key.the_row
+Key-send = search (crosses, sendable) depth 60 fits 20000
+
+Key-sync : IsSync Key.the_row
+Key-sync = search (crosses, sendable) depth 60 fits 20000
+
+Extents-send : IsSend Extents.the_row
+Extents-send = search (crosses, sendable) depth 60 fits 20000
+
+Extents-sync : IsSync Extents.the_row
+Extents-sync = search (crosses, sendable) depth 60 fits 20000
+
+Results-send : IsSend Results.the_row
+Results-send = search (Key-send, Key-sync, Extents-send, KeyRef-send, List-send, Deed-send, maps_cross, crosses, sendable) depth 60 fits 20000
+
+Results-sync : IsSync Results.the_row
+Results-sync = search (Key-sync, Extents-sync, KeyRef-sync, List-sync, Deed-sync, maps_cross, crosses, sendable) depth 60 fits 20000
+
 pub Core-send : IsSend Core.the_row
-Core-send = search (Tenants-send, Query-send, Entry-send, table_cross, maps_cross, crosses, sendable) depth 60 fits 20000
+Core-send = search (Results-send, Tenants-send, Query-send, Entry-send, table_cross, maps_cross, crosses, sendable) depth 60 fits 20000
 
 pub Core-sync : IsSync Core.the_row
-Core-sync = search (Tenants-sync, Query-sync, Entry-sync, table_cross, maps_cross, crosses, sendable) depth 60 fits 20000
+Core-sync = search (Results-sync, Tenants-sync, Query-sync, Entry-sync, table_cross, maps_cross, crosses, sendable) depth 60 fits 20000
 
 -- for a search over a type that holds the core
 pub ruleset core_crosses = (Core-send, Core-sync)

@@ -8,12 +8,15 @@ mod Covered
 pub mod Crossing
 mod Entered
 mod Failures
-mod Kept
+mod KeptQueries
+mod Divided
 mod Keeping
 mod Lists
+mod Logs
 mod Looked
 mod Machines
 mod Numbers
+mod Offering
 mod OpenQueries
 mod Outstanding
 mod Planning

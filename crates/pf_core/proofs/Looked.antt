@@ -4,9 +4,7 @@ use Rattle.std.specs.Arc.{arc_value}
 use Rattle.std.specs.Option.{option_map}
 use Rattle.std.specs.Prelude.{IsSome, OnErr, Result, Ok, Err}
 use Rattle.pf_block.specs.Snaps.{SnapData}
-use Rattle.pf_base.specs.GridLists.{GridData}
 use Rattle.pf_base.specs.declared.plain.Limits.{Limits}
-use Rattle.pf_journal.specs.Asking.{Asked}
 use Rattle.pf_journal.specs.Machine.{Open, most_tenants, open_at}
 use Rattle.pf_query.specs.Tables as table
 use Rattle.pf_query.specs.Tables.{EntryData, IsClosed, IsTable, entry_in, progress_of}
@@ -16,14 +14,14 @@ use Rattle.pf_store.specs.Standing.{IsPin, PinData}
 use Rattle.pf_shard.specs.Lawful.{ResolvedLegs}
 use Rattle.pf_core.specs.Calls.{BindsOpen}
 use Rattle.pf_core.specs.Cores.{IsOpened}
-use Rattle.pf_core.specs.Jobs.{HasGrid, IsLegsOf}
+use Rattle.pf_core.specs.Jobs.{IsLegsOf}
 use Rattle.pf_core.specs.Progress.{cancel_in}
 use Rattle.pf_core.specs.Seats.{AreTenants, IsFree, TenantsData}
 use Rattle.pf_core.specs.States.{IsSame, IsState, core_of, far_of, kept_in, machine_in}
 use Rattle.pf_core.specs.declared.answers.Opened.{Opened}
 use Rattle.pf_core.specs.declared.query.Query.{Query}
 use Rattle.pf_core.specs.declared.state.State.{State}
-use Rattle.pf_core.proofs.Kept.{kept_is, kept_none}
+use Rattle.pf_core.proofs.KeptQueries.{kept_is, kept_none}
 use Rattle.pf_core.proofs.Outstanding.{closed_there, entry_there, open_there}
 use Rattle.pf_core.proofs.Progressing.{far_at}
 use Rattle.pf_core.proofs.Standing.{undone}
@@ -53,8 +51,8 @@ progressing (Some d) p h = record { entry = d; there = refl; is = cc }
 
 pub told : (s : State) (query : ℕ) (q : Query) (p : Progress) (o : Opened) → IsState s → kept_in s query ≡ Some q → option_map progress_of (entry_in s.table query) ≡ Some p
     → o.tenant ≡ q.tenant → arc_value o.asked.now ≡ arc_value q.asked → o.pin.now ≡ q.pin → o.cancelled ≡ q.cancelled → o.planned ≡ p.planned → o.stop ≡ p.stop
-    → IsOpened (core_of s) query o
-told s query q p o h kept progress tenant asked pin cancelled planned stop =
+    → o.cached ≡ p.cached → o.offered ≡ p.offered → IsOpened (core_of s) query o
+told s query q p o h kept progress tenant asked pin cancelled planned stop cached offered =
     let found = kept_is s.limits.window (kept_in s query) (open_at query (machine_in s).queries) q (h.history.keeps.keeps_queries query) kept in
     let e = progressing (entry_in s.table query) p progress in
     let opened = open_there s.limits (open_at query (machine_in s).queries) (entry_in s.table query) e.entry (h.jobs.outstanding query) e.there in
@@ -71,6 +69,8 @@ told s query q p o h kept progress tenant asked pin cancelled planned stop =
       is_far = far_at query (machine_in s).queries (entry_in s.table) found.opened found.there ∙ ap (λ (x : Option EntryData). Some (far_of query x)) e.there;
       planned = ap (λ (x : Progress). x.planned) e.is ∙ sym planned;
       stop = ap (λ (x : Progress). x.stop) e.is ∙ sym stop;
+      cached = ap (λ (x : Progress). x.cached) e.is ∙ sym cached;
+      offered = ap (λ (x : Progress). x.offered) e.is ∙ sym offered;
       by_cancel = ap cancel_in (stop ∙ ap (λ (x : Progress). x.stop) (sym e.is)) ∙ opened.is.stop ∙ ap (λ (x : Open). x.cancelled) same;
     }
 
@@ -88,8 +88,8 @@ on_err (Err e) P p = p
 pub unsettled : (old new : State) (before opened : Table) (place u : ℕ) → IsState old → entry_in old.table place ≡ None → before ≡ old.table
     → table.IsOpened before place u opened → IsClosed opened place new.table → IsTable new.table
     → new.limits ≡ old.limits → new.tenants ≡ old.tenants → ((p : ℕ) → kept_in new p ≡ kept_in old p) → new.reserved ≡ old.reserved
-    → new.journal.items ≡ old.journal.items → vec_capacity old.journal ≤ vec_capacity new.journal → new.failed ≡ old.failed → new.total ≡ old.total → IsSame old new
-unsettled old new before opened place u h none same o c t limits tenants queries reserved journal capacity failed total = record {
+    → new.journal.items ≡ old.journal.items → vec_capacity old.journal ≤ vec_capacity new.journal → new.failed ≡ old.failed → new.total ≡ old.total → new.results ≡ old.results → IsSame old new
+unsettled old new before opened place u h none same o c t limits tenants queries reserved journal capacity failed total results = record {
   limits = limits;
   tenants = tenants;
   queries = queries;
@@ -101,6 +101,7 @@ unsettled old new before opened place u h none same o c t limits tenants queries
     lawful = λ _. t;
     failed = failed;
     total = total;
+    results = results;
   };
 }
 
@@ -127,13 +128,3 @@ pub outstanding : (s : State) (query : ℕ) (o : Open) → IsState s → open_at
 outstanding s query o h there =
     let entry = entry_there s.limits (open_at query (machine_in s).queries) (entry_in s.table query) o (h.jobs.outstanding query) there in
     some_entry (entry_in s.table query) entry.kept entry.there
-
-pub has_grid : (s : State) (query : ℕ) (q : Query) (grid : GridData) → IsState s → kept_in s query ≡ Some q → grid ≡ (arc_value q.asked).query.grid
-    → HasGrid (open_at query (machine_in s).queries) grid
-has_grid s query q grid h kept e =
-    let found = kept_is s.limits.window (kept_in s query) (open_at query (machine_in s).queries) q (h.history.keeps.keeps_queries query) kept in
-    subst (λ (x : Option Open). HasGrid x grid) (sym found.there) (e ∙ ap (λ (a : Asked). a.query.grid) (sym found.is.asked))
-
-pub grid_is : (found : Option Open) (o : Open) (grid : GridData) → HasGrid found grid → found ≡ Some o → grid ≡ o.asked.query.grid
-grid_is None o grid h e = absurd h
-grid_is (Some p) o grid h e = let same : p ≡ o = cc in h ∙ ap (λ (x : Open). x.asked.query.grid) same

@@ -18,7 +18,7 @@ use Rattle.pf_core.specs.declared.state.Opening.{Opening}
 use Rattle.pf_core.specs.declared.state.State.{State}
 use Rattle.pf_core.specs.declared.tenants.Seat.{Seat}
 use Rattle.pf_core.proofs.Keeping.{are_open_answered, are_open_asked, are_open_cancelled, counts_answered, counts_asked}
-use Rattle.pf_core.proofs.Kept.{keeps_answered, keeps_cancelled, keeps_opened}
+use Rattle.pf_core.proofs.KeptQueries.{keeps_answered, keeps_cancelled, keeps_opened}
 use Rattle.pf_core.proofs.Lists.{get_set_other, get_set_same}
 use Rattle.pf_core.proofs.Machines.{bool_cases, open_at_pushed, open_cancelled, open_closed, open_each, reserved_cancelled, reserved_closed, reserved_pushed, reserved_some}
 use Rattle.pf_core.proofs.Seated.{count_there, names_of, placed, settled_count, settled_counts, settled_logs, settled_many, settled_names, settled_tenants, stored}

@@ -125,7 +125,16 @@ outstanding_opened l place qs o before after h sets below here whole =
 -- what is kept of a planned query doesn't ask whether it was cancelled
 work_as : (l : Limits) (place : ℕ) (o : Open) (work : Option WorkData) → IfSome work (IsWorkOf l o) → IfSome work (IsWorkOf l (cancelled_as place o))
 work_as l place o None h = tt
-work_as l place o (Some d) h = record { legs_are = h.legs_are; evaluable = h.evaluable; runs = h.runs; fits = h.fits; values = h.values }
+work_as l place o (Some d) h = record {
+  legs_are = h.legs_are;
+  evaluable = h.evaluable;
+  runs = record { others = h.runs.others; woven = h.runs.woven; each = h.runs.each; alone = h.runs.alone };
+  divided = λ g. record { woven = (h.divided g).woven; each = (h.divided g).each; values = (h.divided g).values; alone = (h.divided g).alone };
+  few = h.few;
+  once = h.once;
+  fits = h.fits;
+  values = h.values;
+}
 
 -- it is cancelled
 pub outstanding_cancelled : (l : Limits) (query place : ℕ) (qs : List Open) (o : Open) (d : EntryData) (before after : ℕ → Option EntryData)

@@ -1,5 +1,6 @@
 -- How far the work on open queries is goes with them, change by change.
 use Rattle.std.proofs.Common.{◌≡◌, ℕ, ◌+◌, ◌<◌, ◌≤◌, inl, inr, Bool, true, false, cond, nat_eq, Option, Some, None, List, [], ◌∷◌, ◌++◌, refl, sym, ap, ◌∙◌, arith, subst}
+use Rattle.std.specs.Prelude.{IfSome}
 use Rattle.std.proofs.lemmas.Bool.Decides.{nat_tests}
 use Rattle.std.proofs.lemmas.List.Sums.{sum_by-cons, sum_by_push}
 use Rattle.pf_base.specs.declared.plain.Limits.{Limits}
@@ -7,10 +8,11 @@ use Rattle.pf_journal.specs.Machine.{Open, cancelled_at, closed, open_at}
 use Rattle.pf_model.specs.Lists.{Each}
 use Rattle.pf_query.specs.Entries.{stop_after}
 use Rattle.pf_query.specs.Tables.{EntryData}
+use Rattle.pf_query.specs.Works.{WorkData}
 use Rattle.pf_query.specs.declared.stop.Stop.{Stop}
 use Rattle.pf_query.specs.declared.stop.Stop.TheVariants.{Cancelled, Exhausted, Starved}
-use Rattle.pf_core.specs.Progress.{GoesWith, QueryProgress, begun, cancel_in, exhausted_in, is_exhausted, progress_at, stopped, with_progress, without_progress}
-use Rattle.pf_core.specs.States.{Above, IsOutstanding, far_of, progress_of}
+use Rattle.pf_core.specs.Progress.{GoesWith, IsProgressOf, QueryProgress, begun, exhausted_in, is_exhausted, progress_at, stopped, with_progress, without_progress}
+use Rattle.pf_core.specs.States.{Above, IsOutstanding, IsWorkOf, far_of, progress_of}
 use Rattle.pf_core.proofs.Machines.{bool_cases}
 
 -- ---- by place
@@ -51,12 +53,16 @@ each_open least (o ∷ os) h =
     let own : nat_eq o.place o.place ≡ true = grind (arith, nat_tests) in
     (rw own refl, each_later o.place o (o.place + 1) os os refl (omega arith) h.1 (each_open (o.place + 1) os h.1))
 
-goes_by : (l : Limits) (qs : List Open) (entries : ℕ → Option EntryData) → Each (λ o. IsOutstanding l (Some o) (entries o.place)) qs → GoesWith qs (progress_of qs entries)
+progress_by : (l : Limits) (o : Open) (e : Option EntryData) → IsOutstanding l (Some o) e → IsProgressOf l o (far_of o.place e)
+progress_by l o None h = absurd h
+progress_by l o (Some d) h = by d.work h.work where
+  by : (w : Option WorkData) → IfSome w (IsWorkOf l o) → IsProgressOf l o (far_of o.place (Some (record d { work = w })))
+  by None k = record { place = refl; stop = h.stop; few = omega arith; none = λ p. refl; runs = λ p. cc; alone = λ p once. cc }
+  by (Some w) k = record { place = refl; stop = h.stop; few = k.few; none = λ p. cc; runs = λ p. k.runs; alone = λ p once. k.once once }
+
+goes_by : (l : Limits) (qs : List Open) (entries : ℕ → Option EntryData) → Each (λ o. IsOutstanding l (Some o) (entries o.place)) qs → GoesWith l qs (progress_of qs entries)
 goes_by l [] entries h = tt
-goes_by l (o ∷ os) entries h = ((far_query o.place (entries o.place), stop_is o (entries o.place) h.0), goes_by l os entries h.1) where
-  stop_is : (o : Open) (e : Option EntryData) → IsOutstanding l (Some o) e → cancel_in (far_of o.place e).stop ≡ o.cancelled
-  stop_is o None k = absurd k
-  stop_is o (Some d) k = k.stop
+goes_by l (o ∷ os) entries h = (progress_by l o (entries o.place) h.0, goes_by l os entries h.1)
 
 each_outstanding : (l : Limits) (qs rs : List Open) (entries : ℕ → Option EntryData) → ((p : ℕ) → IsOutstanding l (open_at p qs) (entries p))
     → Each (λ q. open_at q.place qs ≡ Some q) rs → Each (λ o. IsOutstanding l (Some o) (entries o.place)) rs
@@ -65,7 +71,7 @@ each_outstanding l qs (r ∷ rs) entries h k =
     (subst (λ (x : Option Open). IsOutstanding l x (entries r.place)) k.0 (h r.place), each_outstanding l qs rs entries h k.1)
 
 pub goes_with : (l : Limits) (qs : List Open) (entries : ℕ → Option EntryData) → Above 0 qs → ((p : ℕ) → IsOutstanding l (open_at p qs) (entries p))
-    → GoesWith qs (progress_of qs entries)
+    → GoesWith l qs (progress_of qs entries)
 goes_with l qs entries above h = goes_by l qs entries (each_outstanding l qs qs entries h (each_open 0 qs above))
 
 -- ---- what changes

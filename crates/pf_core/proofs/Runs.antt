@@ -1,13 +1,10 @@
--- The runs of a query's grid, the jobs over them, and their parts.
+-- Runs of a query's grid, the jobs over them, and their parts.
 use Rattle.std.proofs.Common.{◌≡◌, ◌⊎◌, ℕ, zero, suc, ◌+◌, ◌-◌, ◌*◌, ◌/◌, ◌%◌, ◌<◌, ◌≤◌, inl, inr, map, nat_eq, Some, List, [], ◌∷◌, ◌++◌, length, refl, sym, ap, ◌∙◌, arith, subst, slice_get, slice_set}
 use Rattle.std.specs.Arc.{arc_value}
-use Rattle.std.specs.Prelude.{Contains, ◌==◌}
 use Rattle.std.proofs.Math.Nat.{add-mul, mod-eq_of_lt, mod-lt, mul-add-mod_self_right, mul-div_cancel, mul-le-mul}
 use Rattle.std.proofs.lemmas.Bool.Decides.{nat_tests}
 use Rattle.std.proofs.lemmas.Nat.{div-mul-add}
-use Rattle.std.proofs.lemmas.List.Elements.{Contains-append_left, Contains-append_right}
-use Rattle.pf_base.specs.GridLists.{GridData, IsGrid, times_from}
-use Rattle.pf_base.specs.Grids.{points}
+use Rattle.pf_base.specs.GridLists.{GridData}
 use Rattle.pf_base.specs.declared.plain.JobHead.{JobHead}
 use Rattle.pf_base.specs.declared.plain.Limits.{Limits}
 use Rattle.pf_block.specs.Snaps.{SnapData}
@@ -20,10 +17,8 @@ use Rattle.pf_query.specs.declared.slot.Slot.{Slot}
 use Rattle.pf_query.specs.declared.slot.Slot.TheVariants.{Filled, Handed}
 use Rattle.pf_shard.specs.declared.parts.Part.{Part}
 use Rattle.pf_shard.specs.Lawful.{IsLawful, ResolvedLegs, leg_count, legs_data}
-use Rattle.pf_split.specs.Pieces.{pieces_of, points_of, put_before, steps_of}
-use Rattle.pf_split.specs.declared.splitting.Piece.{Piece}
 use Rattle.pf_core.specs.Asks.{opened_at}
-use Rattle.pf_core.specs.Jobs.{AreRunsOf, IsJobOf, IsLegsOf, IsRunOf, heads_over, planned_heads, runs_of, steps_in}
+use Rattle.pf_core.specs.Jobs.{IsJobOf, IsLegsOf, IsRunOf, heads_over, planned_heads}
 use Rattle.pf_core.specs.States.{JobStands}
 use Rattle.pf_core.proofs.Lists.{get_set_other, get_set_same}
 use Rattle.pf_core.proofs.Machines.{bool_cases}
@@ -85,70 +80,6 @@ same_run grid a b ha hb start last = λ i. record { start = start i; step = step
 
   len : a.len ≡ b.len
   len = by a.step refl
-
-pub runs_steps : (ps : List Piece) → steps_in (map (λ (p : Piece). p.run) ps) ≡ steps_of ps
-runs_steps [] = refl
-runs_steps (p ∷ ps) = ap (λ (ts : List ℕ). points_of p ++ ts) (runs_steps ps)
-
--- the distance of the steps of a piece
-
-stepped_before : (length step t : ℕ) (ps : List Piece) → Each (λ (p : Piece). p.run.step ≡ step) ps → Each (λ (p : Piece). p.run.step ≡ step) (put_before length step t ps)
-stepped_before length step t [] h = (refl, tt)
-stepped_before length step t (p ∷ ps) h = elim (bool_cases (p.interval == t / length)) [
-  | inl e ↦ rw e (refl, h.1)
-  | inr e ↦ rw e (refl, (h.0, h.1))
-]
-
-stepped_pieces : (length step : ℕ) (ts : List ℕ) → Each (λ (p : Piece). p.run.step ≡ step) (pieces_of length step ts)
-stepped_pieces length step [] = tt
-stepped_pieces length step (t ∷ ts) = stepped_before length step t (pieces_of length step ts) (stepped_pieces length step ts)
-
-among_all : (grid : GridData) (whole : List ℕ) (rs : List GridData) → Each IsGrid rs → Each (λ (r : GridData). r.step ≡ grid.step) rs
-    → ((t : ℕ) → Contains (steps_in rs) t → Contains (points grid) t) → Each (IsRunOf grid) rs
-among_all grid whole [] lawful steps among = tt
-among_all grid whole (r ∷ rs) lawful steps among = (
-  record { lawful = lawful.0; step = steps.0; among = λ t c. among t (Contains-append_left (points r) (steps_in rs) t c) },
-  among_all grid whole rs lawful.1 steps.1 (λ t c. among t (Contains-append_right (points r) (steps_in rs) t c)),
-)
-
-steps_each : (step : ℕ) (ps : List Piece) → Each (λ (p : Piece). p.run.step ≡ step) ps → Each (λ (r : GridData). r.step ≡ step) (map (λ (p : Piece). p.run) ps)
-steps_each step [] h = tt
-steps_each step (p ∷ ps) h = (h.0, steps_each step ps h.1)
-
-pub are_runs : (interval : ℕ) (grid : GridData) → steps_of (pieces_of interval grid.step (points grid)) ≡ points grid
-    → Each IsGrid (runs_of interval grid) → AreRunsOf grid (runs_of interval grid)
-are_runs interval grid all lawful =
-    let steps : steps_in (runs_of interval grid) ≡ points grid = runs_steps (pieces_of interval grid.step (points grid)) ∙ all in
-    record {
-      steps = steps;
-      each = among_all grid (points grid) (runs_of interval grid) lawful
-          (steps_each grid.step (pieces_of interval grid.step (points grid)) (stepped_pieces interval grid.step (points grid)))
-          (λ t c. subst (λ (ts : List ℕ). Contains ts t) steps c);
-    }
-
-length_times : (t step n : ℕ) → length (times_from t step n) ≡ n
-length_times t step zero = refl
-length_times t step (suc n) = ap suc (length_times (t + step) step n)
-
-length_joined : {X : Type 0} (xs ys : List X) → length (xs ++ ys) ≡ length xs + length ys
-length_joined [] ys = omega arith
-length_joined (x ∷ xs) ys = let rest = length_joined xs ys in omega (arith, rest)
-
-few_runs : (grid : GridData) (rs : List GridData) → Each (IsRunOf grid) rs → length rs ≤ length (steps_in rs)
-few_runs grid [] h = omega arith
-few_runs grid (r ∷ rs) h =
-    let rest = few_runs grid rs h.1 in
-    let all = length_joined (points r) (steps_in rs) in
-    let own = length_times r.start r.step r.len in
-    let some = h.0.lawful.some in
-    omega (arith, rest, all, own, some)
-
--- there are at most as many runs as steps
-pub runs_within : (grid : GridData) (rs : List GridData) (n : ℕ) → n ≡ length (points grid) → n ≤ 11001 → AreRunsOf grid rs → length rs ≤ 11001
-runs_within grid rs n all most h =
-    let few = few_runs grid rs h.each in
-    let same : length (steps_in rs) ≡ length (points grid) = ap length h.steps in
-    omega (arith, few, same, all, most)
 
 -- ---- jobs
 

@@ -6,10 +6,11 @@ use Rattle.std.proofs.lemmas.Bool.Decides.{nat_tests}
 use Rattle.pf_base.specs.declared.plain.By.{By}
 use Rattle.pf_base.specs.declared.plain.Limits.{Limits}
 use Rattle.pf_journal.specs.Legal.{machine_after}
-use Rattle.pf_journal.specs.Machine.{Entry, Machine, Open, What, answer, answer_of, cancel, cancelled_at, closed, code_of, open_at, queries_after, started}
+use Rattle.pf_journal.specs.Machine.{Entry, Machine, Open, What, answer, answer_of, cancel, cancelled_at, closed, code_of, log_of, logs_after, open_at, queries_after, started}
 use Rattle.pf_journal.specs.Weave.{is_500}
 use Rattle.pf_model.specs.Direct.{Answer, gathered, failed}
 use Rattle.pf_model.specs.Lists.{Each}
+use Rattle.pf_model.specs.Log.{Change}
 use Rattle.pf_queue.specs.Rings.{waits, without}
 use Rattle.pf_query.specs.Jobs.{is_empty, is_other_hand, is_other_job}
 use Rattle.pf_query.specs.Tables as table
@@ -19,24 +20,70 @@ use Rattle.pf_query.specs.declared.job.Job.{Job}
 use Rattle.pf_query.specs.declared.stop.Stop.{Stop}
 use Rattle.pf_query.specs.declared.stop.Stop.TheVariants.{Cancelled, Exhausted, Starved}
 use Rattle.pf_query.specs.declared.table.Table.{Table}
+use Rattle.pf_results.specs.Truth.{AreTrue, HaveGrown, StayTrue}
+use Rattle.pf_core.specs.Cached.{KeptData}
 use Rattle.pf_core.specs.Calls.{IsAnswerable, IsCodeBy}
-use Rattle.pf_core.specs.Cores.{AreBegun, AreClosed, AreCovered, AreSameJobs, AreSameWork, CoreData, Enters, IsLeft, Stands, machine_of, open_tries, others_waiting, queue_at}
+use Rattle.pf_core.specs.Cores.{AreBegun, AreClosed, AreCovered, AreSameJobs, AreSameWork, CoreData, Enters, IsLeft, KeepsTruth, Stands, machine_of, open_tries, others_waiting, queue_at}
 use Rattle.pf_core.specs.Entries.{entry_of}
 use Rattle.pf_core.specs.Jobs.{QueueHeads, by_tenant, is_other_head, tried_in, tries_in}
 use Rattle.pf_core.specs.Progress.{begun, exhausted_in, is_exhausted, stopped, with_progress, without_progress}
-use Rattle.pf_core.specs.States.{AreCounts, AreJobs, HasHistory, IsOutstanding, IsSame, IsState, JobStands, KeepsFailures, KeepsHistory, KeepsJobs, core_of, heads_in, machine_in, progress_of}
+use Rattle.pf_core.specs.States.{AreCounts, AreJobs, HasHistory, IsOutstanding, IsSame, IsSameButCache, IsState, JobStands, KeepsFailures, KeepsHistory, KeepsJobs, core_of, heads_in, machine_in, progress_of}
 use Rattle.pf_core.specs.declared.state.State.{State}
 use Rattle.pf_core.proofs.Covered.{covered_entered, hands_filtered, tried_left}
+use Rattle.pf_core.proofs.Logs.{logs_grown}
 use Rattle.pf_core.proofs.Machines.{after_push, bool_cases}
 use Rattle.pf_core.proofs.Outstanding.{each_filter, entry_there, jobs_grow, jobs_with, none_there, outstanding_answered, outstanding_cancelled, outstanding_opened, outstanding_same}
 use Rattle.pf_core.proofs.Progressing.{exhausted_begun, exhausted_gone, exhausted_no_more, far_cancelled, far_closed, far_opened, far_set, goes_with, not_by_want}
 use Rattle.pf_core.proofs.Stepped.{counted, history_as, same_core, same_history}
 use Rattle.pf_core.proofs.Tenanted.{empty_heads, has_queue, head_of, other_heads, queue_is, served, tries_table}
 
+-- ---- what is kept of evaluated steps
+
+-- it stays true after an entry
+truth_by : (l l' : Limits) (logs logs' : List (List Change)) (kept kept' : KeptData) → l' ≡ l → kept' ≡ kept
+    → (AreTrue l.window l.interval (log_of logs) kept.entries → AreTrue l.window l.interval (log_of logs') kept.entries)
+    → AreTrue l.window l.interval (log_of logs) kept.entries → AreTrue l'.window l'.interval (log_of logs') kept'.entries
+truth_by l l' logs logs' kept kept' el ek f h =
+    subst (λ (x : Limits). AreTrue x.window x.interval (log_of logs') kept'.entries) (sym el)
+    (subst (λ (x : KeptData). AreTrue l.window l.interval (log_of logs') x.entries) (sym ek) (f h))
+
+logs_entered : (old new : CoreData) (by : By) (what : What) → Enters old by what new → (machine_of new).logs ≡ logs_after (machine_of old).logs what
+logs_entered old new by what e =
+    ap (λ (js : List Entry). (machine_after started js).logs) e.journal ∙ ap (λ (m : Machine). m.logs) (after_push started old.journal _)
+
+-- the logs grew by it
+pub truth_grown : (old new : State) (by : By) (what : What) → StayTrue → Enters (core_of old) by what (core_of new) → new.results ≡ old.results
+    → KeepsTruth (core_of old) → KeepsTruth (core_of new)
+truth_grown old new by what law e same h =
+    truth_by old.limits new.limits (machine_in old).logs (machine_in new).logs old.results new.results e.limits same
+    (λ h. law old.limits.window old.limits.interval (log_of (machine_in old).logs) (log_of (machine_in new).logs) old.results.entries
+    (subst (λ (ls : List (List Change)). HaveGrown (log_of (machine_in old).logs) (log_of ls)) (sym (logs_entered (core_of old) (core_of new) by what e))
+    (logs_grown (machine_in old).logs what)) h) h
+
+-- or are as they were
+pub truth_kept : (old new : State) (by : By) (what : What) → Enters (core_of old) by what (core_of new) → logs_after (machine_in old).logs what ≡ (machine_in old).logs
+    → new.results ≡ old.results → KeepsTruth (core_of old) → KeepsTruth (core_of new)
+truth_kept old new by what e alike same h =
+    truth_by old.limits new.limits (machine_in old).logs (machine_in new).logs old.results new.results e.limits same
+    (λ h. subst (λ (ls : List (List Change)). AreTrue old.limits.window old.limits.interval (log_of ls) old.results.entries)
+    (sym (logs_entered (core_of old) (core_of new) by what e ∙ alike)) h) h
+
+-- after a call that leaves the journal
+pub truth_beside : (old new : State) → KeepsHistory old new
+    → AreTrue old.limits.window old.limits.interval (log_of (machine_in old).logs) new.results.entries → KeepsTruth (core_of new)
+truth_beside old new k h =
+    subst (λ (l : Limits). AreTrue l.window l.interval (log_of (machine_in new).logs) new.results.entries) (sym k.limits)
+    (subst (λ (ls : List (List Change)). AreTrue old.limits.window old.limits.interval (log_of ls) new.results.entries)
+    (sym (ap (λ (v : _). (machine_after started (map entry_of v.items)).logs) k.journal)) h)
+
+truth_same : (old new : State) → KeepsHistory old new → new.results ≡ old.results → KeepsTruth (core_of old) → KeepsTruth (core_of new)
+truth_same old new k same h =
+    truth_beside old new k (subst (λ (x : KeptData). AreTrue old.limits.window old.limits.interval (log_of (machine_in old).logs) x.entries) (sym same) h)
+
 -- what every core keeps
 pub stands : (s : State) → HasHistory s → IsTable s.table → AreCounts s.failed.items s.total
-    → ((p : ℕ) → IsOutstanding s.limits (open_at p (machine_in s).queries) (entry_in s.table p)) → AreCovered (core_of s) → Stands (core_of s)
-stands s h t k outstanding covered = record {
+    → ((p : ℕ) → IsOutstanding s.limits (open_at p (machine_in s).queries) (entry_in s.table p)) → AreCovered (core_of s) → KeepsTruth (core_of s) → Stands (core_of s)
+stands s h t k outstanding covered truth = record {
   limits = h.stands.limits;
   legal = h.stands.legal;
   names = h.stands.names;
@@ -44,6 +91,7 @@ stands s h t k outstanding covered = record {
   actors = k.actors;
   progressing = goes_with s.limits (machine_in s).queries (entry_in s.table) h.keeps.are_open.apart outstanding;
   covered = covered;
+  kept = truth;
 }
 
 -- ---- a state whose journal, limits and table are these
@@ -71,16 +119,16 @@ pub state_entered : (old new : State) (by : By) (what : What) → IsState old �
     → IsTable new.table → KeepsFailures old new
     → ((p : ℕ) → IsOutstanding old.limits (open_at p (queries_after (machine_in old) what)) (entry_in new.table p))
     → ((u : ℕ) → Each (JobStands (map entry_of old.journal.items) old.limits) (waiting_of new.table u))
-    → 5 * is_500 what + open_tries (core_of new) ≤ open_tries (core_of old)
+    → 5 * is_500 what + open_tries (core_of new) ≤ open_tries (core_of old) → KeepsTruth (core_of new)
     → IsState new
-state_entered old new by what h history e t k outstanding waiting tries =
+state_entered old new by what h history e t k outstanding waiting tries truth =
     let jobs : AreJobs (map entry_of new.journal.items) new.limits (machine_in new).queries (entry_in new.table) (waiting_of new.table) =
     jobs_as _ (map entry_of new.journal.items) old.limits new.limits (queries_after (machine_in old) what) (machine_in new).queries
     (entry_in new.table) (waiting_of new.table) e.journal e.limits (queries_entered (core_of old) (core_of new) by what e)
     (record { outstanding = outstanding; waiting_for = jobs_grow (map entry_of old.journal.items) _ old.limits (waiting_of new.table) waiting }) in
     record {
       stands = stands new history t (counts_as old new k h.counts) jobs.outstanding
-          (covered_entered (core_of old) (core_of new) _ (ap (λ (v : _). v.items) k.failed) e.journal tries h.stands.covered);
+          (covered_entered (core_of old) (core_of new) _ (ap (λ (v : _). v.items) k.failed) e.journal tries h.stands.covered) truth;
       history = history;
       table = t;
       jobs = jobs;
@@ -92,6 +140,7 @@ kept_jobs old new k = record {
   queues = ap (λ (t : Table). by_tenant (heads_in t)) k.table;
   ring = ap ring_of k.table;
   failed = ap (λ (v : _). v.items) k.failed;
+  kept = k.results;
 }
 
 -- the work on open queries, after an entry that leaves them and their jobs
@@ -103,10 +152,10 @@ work_kept old new by what e k same = (
 )
 
 -- after an entry that leaves the jobs
-pub state_kept : (old new : State) (by : By) (what : What) → IsState old → HasHistory new → Enters (core_of old) by what (core_of new)
+pub state_kept : (old new : State) (by : By) (what : What) → StayTrue → IsState old → HasHistory new → Enters (core_of old) by what (core_of new)
     → KeepsJobs old new → queries_after (machine_in old) what ≡ (machine_in old).queries → is_500 what ≡ 0 → IsState new
-state_kept old new by what h history e k same none =
-    state_entered old new by what h history e (subst IsTable (sym k.table) h.table) (record { failed = k.failed; total = k.total })
+state_kept old new by what law h history e k same none =
+    state_entered old new by what h history e (subst IsTable (sym k.table) h.table) (record { results = k.results; failed = k.failed; total = k.total })
     (λ p. subst (λ (t : Table). IsOutstanding old.limits (open_at p (queries_after (machine_in old) what)) (entry_in t p)) (sym k.table)
     (subst (λ (qs : List Open). IsOutstanding old.limits (open_at p qs) (entry_in old.table p)) (sym same) (h.jobs.outstanding p)))
     (λ u. subst (λ (t : Table). Each (JobStands (map entry_of old.journal.items) old.limits) (waiting_of t u)) (sym k.table) (h.jobs.waiting_for u))
@@ -114,14 +163,15 @@ state_kept old new by what h history e k same none =
     let tries = ap tried_in work.0.queues in
     let far = ap exhausted_in work.1 in
     omega (arith, none, tries, far))
+    (truth_grown old new by what law e k.results h.stands.kept)
 
 -- after a call that leaves the journal
-pub state_beside : (old new : State) → IsState old → KeepsHistory old new → IsTable new.table → AreCounts new.failed.items new.total
+state_with : (old new : State) → IsState old → KeepsHistory old new → KeepsTruth (core_of new) → IsTable new.table → AreCounts new.failed.items new.total
     → ((p : ℕ) → IsOutstanding old.limits (open_at p (machine_in old).queries) (entry_in new.table p))
     → ((u : ℕ) → Each (JobStands (map entry_of old.journal.items) old.limits) (waiting_of new.table u))
     → AreCovered (core_of new)
     → IsState new
-state_beside old new h k t counts outstanding waiting covered =
+state_with old new h k truth t counts outstanding waiting covered =
     let history = history_as old new h.history k.limits k.tenants (λ place. ap (λ (q : _). get nat_eq q place) k.queries) k.reserved (ap (λ (v : _). v.items) k.journal)
     (let e = ap vec_capacity k.journal in omega (arith, e)) in
     let jobs : AreJobs (map entry_of new.journal.items) new.limits (machine_in new).queries (entry_in new.table) (waiting_of new.table) =
@@ -130,12 +180,43 @@ state_beside old new h k t counts outstanding waiting covered =
     (ap (λ (v : _). (machine_after started (map entry_of v.items)).queries) k.journal)
     (record { outstanding = outstanding; waiting_for = waiting }) in
     record {
-      stands = stands new history t counts jobs.outstanding covered;
+      stands = stands new history t counts jobs.outstanding covered truth;
       history = history;
       table = t;
       jobs = jobs;
       counts = counts;
     }
+
+-- and what is kept
+pub state_beside : (old new : State) → IsState old → KeepsHistory old new → new.results ≡ old.results → IsTable new.table → AreCounts new.failed.items new.total
+    → ((p : ℕ) → IsOutstanding old.limits (open_at p (machine_in old).queries) (entry_in new.table p))
+    → ((u : ℕ) → Each (JobStands (map entry_of old.journal.items) old.limits) (waiting_of new.table u))
+    → AreCovered (core_of new)
+    → IsState new
+state_beside old new h k same t counts outstanding waiting covered =
+    state_with old new h k (truth_same old new k same h.stands.kept) t counts outstanding waiting covered
+
+-- a core of which nothing but what is kept changed
+pub core_cached : (old new : State) → IsSameButCache old new → core_of new ≡ record (core_of old) { kept = new.results }
+core_cached old new e = λ i. record {
+  limits = e.history.limits i;
+  names = (e.history.tenants i).names;
+  journal = map entry_of (e.history.journal i).items;
+  progress = progress_of (machine_after started (map entry_of (e.history.journal i).items)).queries (entry_in (e.table i));
+  queues = by_tenant (heads_in (e.table i));
+  ring = ring_of (e.table i);
+  failed = (e.failed i).items;
+  kept = new.results;
+}
+
+pub state_cached : (old new : State) → IsState old → IsSameButCache old new
+    → AreTrue old.limits.window old.limits.interval (log_of (machine_in old).logs) new.results.entries → IsState new
+state_cached old new h e truth =
+    state_with old new h e.history (truth_beside old new e.history truth) (subst IsTable (sym e.table) h.table)
+    (record { actors = ap (λ (v : _). length v.items) e.failed ∙ h.counts.actors; summed = ap (λ (v : _). sum v.items) e.failed ∙ h.counts.summed ∙ sym e.total })
+    (λ p. subst (λ (t : Table). IsOutstanding old.limits (open_at p (machine_in old).queries) (entry_in t p)) (sym e.table) (h.jobs.outstanding p))
+    (λ u. subst (λ (t : Table). Each (JobStands (map entry_of old.journal.items) old.limits) (waiting_of t u)) (sym e.table) (h.jobs.waiting_for u))
+    (subst AreCovered (sym (core_cached old new e)) h.stands.covered)
 
 -- ---- nothing changed
 
@@ -145,6 +226,7 @@ same_work old new e = let same = same_core old new e in (
     queues = ap (λ (c : CoreData). c.queues) same;
     ring = ap (λ (c : CoreData). c.ring) same;
     failed = ap (λ (c : CoreData). c.failed) same;
+    kept = ap (λ (c : CoreData). c.kept) same;
   },
   ap (λ (c : CoreData). c.progress) same,
 )
@@ -162,7 +244,7 @@ same_state old new h e = record {
         waiting_for = λ u. subst (λ (js : List Job). Each (JobStands (map entry_of old.journal.items) old.limits) js) (sym (e.jobs.table.queues.queues u).waiting)
             (h.jobs.waiting_for u);
       });
-  counts = counts_as old new (record { failed = e.jobs.failed; total = e.jobs.total }) h.counts;
+  counts = counts_as old new (record { results = e.jobs.results; failed = e.jobs.failed; total = e.jobs.total }) h.counts;
 }
 
 pub same_table : (t u : Table) → u ≡ t → IsSameTable t u
@@ -219,13 +301,15 @@ cancelled_state old new by query o h history e found s t k =
     let less = exhausted_no_more query (stopped (Cancelled (machine_in old).count)) (not_by_want (Cancelled (machine_in old).count) refl) (core_of old).progress in
     let tries = tried_left old.table new.table entry.kept.tenant query _ _ stops.queues (omega arith) in
     omega (arith, far, less, tries))
+    (truth_kept old new by (cancel query) e refl k.results h.stands.kept)
 
 pub cancelled_jobs : (old new : State) (by : By) (query : ℕ) (o : Open) → IsState old → Enters (core_of old) by (cancel query) (core_of new)
     → open_at query (machine_in old).queries ≡ Some o
     → IsStopped old.table query (Cancelled (length old.journal.items)) new.table → IsTable new.table → KeepsFailures old new
     → ((p : Open) → open_at query (machine_in old).queries ≡ Some p → IsLeft (core_of old) p.tenant query (queue_at (core_of old) p.tenant).hands (core_of new))
     × (((core_of new).failed ≡ (core_of old).failed)
-    × ((core_of new).progress ≡ with_progress query (stopped (Cancelled (machine_in old).count)) (core_of old).progress))
+    × (((core_of new).kept ≡ (core_of old).kept)
+    × ((core_of new).progress ≡ with_progress query (stopped (Cancelled (machine_in old).count)) (core_of old).progress)))
 cancelled_jobs old new by query o h e found s t k = (
   λ p there.
       let entry = entry_there old.limits (open_at query (machine_in old).queries) (entry_in old.table query) p (h.jobs.outstanding query) there in
@@ -238,11 +322,14 @@ cancelled_jobs old new by query o h e found s t k = (
       (sym (ap (λ (q : QueueHeads). q.hands) (queue_is old h.table entry.kept.tenant))) left),
   (
     ap (λ (v : _). v.items) k.failed,
-    let entry = entry_there old.limits (open_at query (machine_in old).queries) (entry_in old.table query) o (h.jobs.outstanding query) found in
-        let stops : Stops old.table query (Cancelled (length old.journal.items)) entry.kept (hands_of old.table entry.kept.tenant) new.table =
-        subst (λ (x : Option EntryData). MatchOption x (IsSameTable old.table new.table)
-        (λ d. Stops old.table query (Cancelled (length old.journal.items)) d (hands_of old.table d.tenant) new.table)) entry.there s in
-        cancelled_progress old new by query entry.kept _ e entry.there stops,
+    (
+      k.results,
+      let entry = entry_there old.limits (open_at query (machine_in old).queries) (entry_in old.table query) o (h.jobs.outstanding query) found in
+          let stops : Stops old.table query (Cancelled (length old.journal.items)) entry.kept (hands_of old.table entry.kept.tenant) new.table =
+          subst (λ (x : Option EntryData). MatchOption x (IsSameTable old.table new.table)
+          (λ d. Stops old.table query (Cancelled (length old.journal.items)) d (hands_of old.table d.tenant) new.table)) entry.there s in
+          cancelled_progress old new by query entry.kept _ e entry.there stops,
+    ),
   ),
 )
 
@@ -289,6 +376,7 @@ answered_state old new by query code cached evaluated o h history e found may s 
     let tries = tried_left old.table new.table entry.kept.tenant query _ _ ends.queues
     (hands_filtered (is_other_hand query) (hands_of old.table entry.kept.tenant)) in
     omega (arith, far, gone, stop, one, tries))
+    (truth_kept old new by (answer query code cached evaluated) e refl k.results h.stands.kept)
 
 pub closed_jobs : (old new : State) (by : By) (query code cached evaluated : ℕ) (o : Open) → IsState old
     → Enters (core_of old) by (answer query code cached evaluated) (core_of new) → open_at query (machine_in old).queries ≡ Some o
@@ -303,6 +391,7 @@ closed_jobs old new by query code cached evaluated o h e found s t k = record {
       (subst (λ (hs : List Hand). IsLeft (core_of old) entry.kept.tenant query (filter (is_other_hand query) hs) (core_of new))
       (sym (ap (λ (q : QueueHeads). q.hands) (queue_is old h.table entry.kept.tenant))) left);
   failed = ap (λ (v : _). v.items) k.failed;
+  kept = k.results;
   progress =
       let entry = entry_there old.limits (open_at query (machine_in old).queries) (entry_in old.table query) o (h.jobs.outstanding query) found in
       let ends : Ends old.table query entry.kept new.table =
@@ -334,6 +423,7 @@ opened_jobs old new u o k = record {
   });
   ring = o.queues.ring;
   failed = ap (λ (v : _). v.items) k.failed;
+  kept = k.results;
 }
 
 -- the work on it is not begun
@@ -349,11 +439,11 @@ opened_work old new by what o place h e more here at_end opened k = (
       ∙ ap (λ n. (core_of old).progress ++ begun n ∷ []) (sym at_end),
 )
 
-pub opened_state : (old new : State) (by : By) (what : What) (o : Open) → IsState old → HasHistory new → Enters (core_of old) by what (core_of new)
+pub opened_state : (old new : State) (by : By) (what : What) (o : Open) → StayTrue → IsState old → HasHistory new → Enters (core_of old) by what (core_of new)
     → queries_after (machine_in old) what ≡ (machine_in old).queries ++ o ∷ []
     → o.place ≡ length old.journal.items → o.cancelled ≡ None → is_500 what ≡ 0
     → table.IsOpened old.table (length old.journal.items) o.tenant new.table → IsTable new.table → KeepsFailures old new → IsState new
-opened_state old new by what o h history e more place whole none opened t k =
+opened_state old new by what o law h history e more place whole none opened t k =
     state_entered old new by what h history e t k
     (λ p. subst (λ (qs : List Open). IsOutstanding old.limits (open_at p qs) (entry_in new.table p)) (sym more)
     (outstanding_opened old.limits (length old.journal.items) (machine_in old).queries o (entry_in old.table) (entry_in new.table)
@@ -366,6 +456,7 @@ opened_state old new by what o h history e more place whole none opened t k =
     let one = exhausted_begun (length old.journal.items) (core_of old).progress in
     let tries = ap tried_in work.0.queues in
     omega (arith, none, far, one, tries))
+    (truth_grown old new by what law e k.results h.stands.kept)
 
 -- a query that was opened and ended again left nothing behind
 

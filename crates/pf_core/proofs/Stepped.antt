@@ -56,6 +56,7 @@ same_core old new e =
       });
       ring = e.jobs.table.queues.ring i;
       failed = (e.jobs.failed i).items;
+      kept = e.jobs.results i;
     }
 
 keeps_alike : (l : Limits) (t : TenantsData) (kept other : ℕ → Option Query) (room : ℕ) (m : Machine)

@@ -3,19 +3,24 @@ use Rattle.std.specs.Prelude.{◌≡◌, ◌⊎◌, ℕ, ℤ, pos, Bool, cond, n
 use Rattle.std.specs.Coded.{Coded, code_by, coded×, coded⊎, coded_bool, coded_list, coded_option, coded_ℕ, coded_ℤ}
 use mathlib.Core.Logic.{inl, inr}
 use Rattle.pf_base.specs.Batches.{BatchData}
+use Rattle.lru.specs.LruCache.{LruCache}
+use Rattle.pf_base.specs.GridLists.{GridData}
 use Rattle.pf_base.specs.LabelSets.{Pairs}
 use Rattle.pf_base.specs.declared.plain.JobHead.{JobHead}
 use Rattle.pf_base.specs.declared.plain.Limits.{Limits}
 use Rattle.pf_base.specs.declared.plain.Row.{Row}
+use Rattle.pf_extent.specs.Steps.{Extents}
+use Rattle.pf_extent.specs.declared.key.Key.{Key}
 use Rattle.pf_journal.specs.Asking.{Asked}
 use Rattle.pf_journal.specs.Machine.{Entry, What, append, delete, ask, full, no_tenant, cancel, answer}
 use Rattle.pf_model.specs.Log.{Verdict, taken, too_old, repeated, differs}
 use Rattle.pf_model.specs.TreeCode.{bytes_code, matchers_code}
 use Rattle.pf_model.specs.declared.expr.Matcher.{Matcher}
-use Rattle.pf_query.specs.Codes.{asked_code}
+use Rattle.pf_query.specs.Codes.{asked_code, grid_code}
 use Rattle.pf_query.specs.declared.job.Hand.{Hand}
 use Rattle.pf_query.specs.declared.stop.Stop.{Stop}
 use Rattle.pf_query.specs.declared.stop.Stop.TheVariants.{Cancelled, Exhausted, Starved}
+use Rattle.pf_results.specs.Entries.{results_code}
 use Rattle.pf_core.specs.Cores.{CoreData}
 use Rattle.pf_core.specs.Jobs.{QueueHeads}
 use Rattle.pf_core.specs.Progress.{QueryProgress}
@@ -149,15 +154,16 @@ stop_code = code_by (ℕ × ℕ) (coded× coded_ℕ coded_ℕ) stop_parts stop_f
 
 abbrev pub progress_code : Coded QueryProgress
 progress_code =
-    code_by (ℕ × (Option Stop × (Bool × Bool))) (coded× coded_ℕ (coded× (coded_option stop_code) (coded× coded_bool coded_bool)))
-    (λ p. (p.query, (p.stop, (p.planned, p.given))))
-    (λ p. record { query = p.0; stop = p.1.0; planned = p.1.1.0; given = p.1.1.1 })
+    code_by (ℕ × (Option Stop × (Bool × (Bool × (List GridData × (ℕ × Bool))))))
+    (coded× coded_ℕ (coded× (coded_option stop_code) (coded× coded_bool (coded× coded_bool (coded× (coded_list grid_code) (coded× coded_ℕ coded_bool))))))
+    (λ p. (p.query, (p.stop, (p.planned, (p.given, (p.runs, (p.cached, p.offered)))))))
+    (λ p. record { query = p.0; stop = p.1.0; planned = p.1.1.0; given = p.1.1.1.0; runs = p.1.1.1.1.0; cached = p.1.1.1.1.1.0; offered = p.1.1.1.1.1.1 })
     (λ _. refl)
 
 abbrev pub core_code : Coded CoreData
 core_code =
-    code_by (Limits × (List (List ℕ) × (List Entry × (List QueryProgress × (List QueueHeads × (List ℕ × List ℕ))))))
-    (coded× limits_code (coded× (coded_list bytes_code) (coded× (coded_list entry_code) (coded× (coded_list progress_code) (coded× (coded_list queue_code) (coded× (coded_list coded_ℕ) (coded_list coded_ℕ)))))))
-    (λ c. (c.limits, (c.names, (c.journal, (c.progress, (c.queues, (c.ring, c.failed)))))))
-    (λ p. record { limits = p.0; names = p.1.0; journal = p.1.1.0; progress = p.1.1.1.0; queues = p.1.1.1.1.0; ring = p.1.1.1.1.1.0; failed = p.1.1.1.1.1.1 })
+    code_by (Limits × (List (List ℕ) × (List Entry × (List QueryProgress × (List QueueHeads × (List ℕ × (List ℕ × LruCache Key Extents)))))))
+    (coded× limits_code (coded× (coded_list bytes_code) (coded× (coded_list entry_code) (coded× (coded_list progress_code) (coded× (coded_list queue_code) (coded× (coded_list coded_ℕ) (coded× (coded_list coded_ℕ) results_code)))))))
+    (λ c. (c.limits, (c.names, (c.journal, (c.progress, (c.queues, (c.ring, (c.failed, c.kept))))))))
+    (λ p. record { limits = p.0; names = p.1.0; journal = p.1.1.0; progress = p.1.1.1.0; queues = p.1.1.1.1.0; ring = p.1.1.1.1.1.0; failed = p.1.1.1.1.1.1.0; kept = p.1.1.1.1.1.1.1 })
     (λ _. refl)

@@ -8,7 +8,11 @@ use Rattle.pf_base.specs.declared.plain.JobHead.{JobHead}
 use Rattle.pf_base.specs.declared.plain.Limits.{Limits}
 use Rattle.pf_journal.specs.Asking.{Asked}
 use Rattle.pf_journal.specs.Legal.{AreNames, Legal, machine_after}
-use Rattle.pf_journal.specs.Machine.{Entry, Machine, Open, What, append, ask, cancel, delete, full, no_tenant, most_tenants, open_at, reserved, started}
+use Rattle.lru.specs.LruCache.{LruCache, lru_cache}
+use Rattle.pf_extent.specs.Steps.{Extents}
+use Rattle.pf_extent.specs.declared.key.Key.{Key}
+use Rattle.pf_results.specs.Truth.{AreTrue}
+use Rattle.pf_journal.specs.Machine.{Entry, Machine, Open, What, append, ask, cancel, delete, full, no_tenant, log_of, most_tenants, open_at, reserved, started}
 use Rattle.pf_model.specs.declared.expr.Matcher.{Matcher}
 use Rattle.pf_query.specs.Jobs.{is_empty, is_other_hand}
 use Rattle.pf_query.specs.Tables.{hands_with}
@@ -31,7 +35,8 @@ use Rattle.pf_core.specs.declared.answers.CancelAnswer.TheVariants.{Done, NotOut
 use Rattle.pf_core.specs.declared.answers.Opened.{Opened}
 
 -- the names and the queues stand by tenant, the counts of failed tries by actor; how far the work on open queries is stands in the
--- order of their asks; the ring has the tenants whose jobs wait, in the order in which they are served
+-- order of their asks; the ring has the tenants whose jobs wait, in the order in which they are served; extents are kept under
+-- keys, the key used last first
 pub record CoreData : Type 0 where
   pub limits : Limits
   pub names : List (List ℕ)
@@ -40,11 +45,21 @@ pub record CoreData : Type 0 where
   pub queues : List QueueHeads
   pub ring : List ℕ
   pub failed : List ℕ
+  pub kept : LruCache Key Extents
 
 -- a core in which nothing was done
 abbrev pub started_core : Limits → CoreData
 started_core l =
-    record { limits = l; names = []; journal = []; progress = []; queues = by_tenant (λ _. no_heads); ring = []; failed = no_failures }
+    record {
+      limits = l;
+      names = [];
+      journal = [];
+      progress = [];
+      queues = by_tenant (λ _. no_heads);
+      ring = [];
+      failed = no_failures;
+      kept = lru_cache [] l.extents;
+    }
 
 -- a tenant's queue
 abbrev pub queue_at : CoreData → ℕ → QueueHeads
@@ -76,6 +91,7 @@ pub record AreLimits (l : Limits) : Type 0 where
   pub bounded : l.journal ≤ most_entries
   pub shards : 1 ≤ l.shards
   pub most_shards : l.shards ≤ 64
+  pub extents : 1 ≤ l.extents
 
 -- each tenant with a job that waits is in the ring once, and no other is
 pub record AreServed (c : CoreData) : Type 0 where
@@ -92,16 +108,22 @@ open_tries c = tried_in c.queues + 5 * exhausted_in c.progress
 abbrev pub AreCovered : CoreData → Type 0
 AreCovered c = (sum c.failed ≡ 18446744073709551615) ⊎ (5 * failed_answers c.journal + open_tries c ≤ sum c.failed)
 
+-- each extent that is kept is what its query is over the samples after the first changes of its tenant's log, and frozen there
+-- (pf_results: Truth), in the interval of its key
+abbrev pub KeepsTruth : CoreData → Type 0
+KeepsTruth c = AreTrue c.limits.window c.limits.interval (log_of (machine_of c).logs) c.kept.entries
+
 -- what every core keeps: its journal is legal, its names are those of the known tenants, all different, the tenants are served in
--- turn, there are 32 actors, and their failed tries cover what is told of them
+-- turn, there are 32 actors, their failed tries cover what is told of them, and what is kept of evaluated steps is true
 pub record Stands (c : CoreData) : Type 0 where
   pub limits : AreLimits c.limits
   pub legal : Legal c.limits c.names c.journal
   pub names : AreNames c.names c.journal
   pub served : AreServed c
   pub actors : length c.failed ≡ 32
-  pub progressing : GoesWith (machine_of c).queries c.progress
+  pub progressing : GoesWith c.limits (machine_of c).queries c.progress
   pub covered : AreCovered c
+  pub kept : KeepsTruth c
 
 -- so many entries more find room beside those that open queries keep
 abbrev pub HasRoomFor : CoreData → ℕ → Type 0
@@ -175,6 +197,8 @@ pub record IsOpened (c : CoreData) (query : ℕ) (o : Opened) : Type 0 where
   pub is_far : progress_at query c.progress ≡ Some far
   pub planned : far.planned ≡ o.planned
   pub stop : far.stop ≡ o.stop
+  pub cached : far.cached ≡ o.cached
+  pub offered : far.offered ≡ o.offered
   -- a stop by a cancel is that of the machine
   pub by_cancel : cancel_in o.stop ≡ opened.cancelled
 
@@ -203,11 +227,12 @@ IsCancelled old by query tenant (Already place) new = IsOwned old query tenant (
 
 -- ---- jobs
 
--- no job and no count is changed
+-- no job, no count, and nothing that is kept of evaluated steps is changed
 pub record AreSameJobs (old new : CoreData) : Type 0 where
   pub queues : new.queues ≡ old.queues
   pub ring : new.ring ≡ old.ring
   pub failed : new.failed ≡ old.failed
+  pub kept : new.kept ≡ old.kept
 
 -- nor is how far queries are
 abbrev pub AreSameWork : CoreData → CoreData → Type 0
@@ -246,7 +271,8 @@ IsLeft old u query hands new =
 abbrev pub AreCancelled : CoreData → ℕ → CancelAnswer → CoreData → Type 0
 AreCancelled old query Done new =
     ((o : Open) → open_at query (machine_of old).queries ≡ Some o → IsLeft old o.tenant query (queue_at old o.tenant).hands new)
-    × ((new.failed ≡ old.failed) × (new.progress ≡ with_progress query (stopped (Cancelled (machine_of old).count)) old.progress))
+    × ((new.failed ≡ old.failed)
+    × ((new.kept ≡ old.kept) × (new.progress ≡ with_progress query (stopped (Cancelled (machine_of old).count)) old.progress)))
 AreCancelled old query NotOutstanding new = AreSameWork old new
 AreCancelled old query (OtherTenant owner) new = AreSameWork old new
 AreCancelled old query (Already place) new = AreSameWork old new
@@ -256,4 +282,5 @@ pub record AreClosed (old : CoreData) (query : ℕ) (new : CoreData) : Type 0 wh
   pub left : (o : Open) → open_at query (machine_of old).queries ≡ Some o
       → IsLeft old o.tenant query (filter (is_other_hand query) (queue_at old o.tenant).hands) new
   pub failed : new.failed ≡ old.failed
+  pub kept : new.kept ≡ old.kept
   pub progress : new.progress ≡ without_progress query old.progress

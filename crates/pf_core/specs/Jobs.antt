@@ -1,6 +1,6 @@
 -- The jobs of a core as contracts see them, and what a job in an actor's hand stands for. This project's own.
 use Rattle.std.specs.List.{count_by, sum, sum_by}
-use Rattle.std.specs.Prelude.{◌≡◌, ℕ, zero, suc, ◌+◌, ◌-◌, ◌*◌, ◌/◌, ◌%◌, ◌<◌, Bool, not, pos, cond, nat_eq, nat_lt, Option, Some, None, List, [], ◌∷◌, ◌++◌, Contains, length, map, replicate, slice_get, slice_index_or, slice_set}
+use Rattle.std.specs.Prelude.{◌≡◌, ℕ, zero, suc, ◌+◌, ◌-◌, ◌*◌, ◌/◌, ◌%◌, ◌<◌, Bool, true, not, pos, cond, nat_eq, nat_lt, Some, List, [], ◌∷◌, ◌++◌, Contains, length, replicate, slice_get, slice_index_or, slice_set}
 use Rattle.pf_base.specs.GridLists.{GridData, IsGrid}
 use Rattle.pf_base.specs.Grids.{points}
 use Rattle.pf_base.specs.declared.plain.JobHead.{JobHead}
@@ -20,7 +20,14 @@ use Rattle.pf_shard.specs.Bound.{AreBoundOver, AreEvaluable}
 use Rattle.pf_shard.specs.LegParts.{FitsNodes, part_at}
 use Rattle.pf_shard.specs.Lawful.{IsLawful, ResolvedLegs, leg_count, legs_data}
 use Rattle.pf_shard.specs.declared.parts.Part.{Part}
+use Rattle.pf_extent.specs.declared.done.DoneCells.{DoneCells}
+use Rattle.pf_model.specs.Direct.{Step}
+use Rattle.pf_model.specs.Evaluation.{eval}
+use Rattle.pf_model.specs.declared.cell.StepCell.TheVariants.{Good}
+use Rattle.pf_results.specs.Serving.{steps_of}
+use Rattle.pf_results.specs.Woven.{AreWoven}
 use Rattle.pf_split.specs.Pieces.{pieces_of}
+use Rattle.pf_split.specs.declared.splitting.Piece.{Piece}
 use Rattle.pf_store.specs.Standing.{StandsFor}
 
 -- ---- the jobs of tenants
@@ -76,14 +83,9 @@ failures_after fs actor = cond (nat_lt (sum fs) 18446744073709551615) (slice_set
 
 -- ---- the runs of a query
 
--- the steps of runs, one after another
-abbrev pub steps_in : List GridData → List ℕ
-steps_in [] = []
-steps_in (r ∷ rs) = points r ++ steps_in rs
-
--- the runs of a grid: its steps by intervals of a length in milliseconds
-abbrev pub runs_of : ℕ → GridData → List GridData
-runs_of interval grid = map (λ p. p.run) (pieces_of interval grid.step (points grid))
+-- the steps of an open query by intervals
+abbrev pub pieces_in : Limits → Open → List Piece
+pieces_in l o = pieces_of l.interval o.asked.query.grid.step (points o.asked.query.grid)
 
 -- what is said of the jobs of a query over one run: one for each leg from a first one on, so many, not tried yet
 abbrev pub heads_over : (tenant query number : ℕ) → GridData → (leg count : ℕ) → List JobHead
@@ -118,15 +120,24 @@ pub record IsRunOf (grid run : GridData) : Type 0 where
   pub step : run.step ≡ grid.step
   pub among : (t : ℕ) → Contains (points run) t → Contains (points grid) t
 
--- an open query is asked over this grid
-abbrev pub HasGrid : Option Open → GridData → Type 0
-HasGrid None grid = ⊥
-HasGrid (Some o) grid = grid ≡ o.asked.query.grid
+-- a step's cell is what a query is there, without error, over the samples that its tenant had at the ask
+abbrev pub IsValueAt : Limits → Open → Step → Type 0
+IsValueAt l o s = eval (store_of l.window o.log).samples o.asked.query.tree (pos s.time) ≡ Good s.elements
 
--- these runs are the steps of a grid, one after another
-pub record AreRunsOf (grid : GridData) (runs : List GridData) : Type 0 where
-  pub steps : steps_in runs ≡ points grid
-  pub each : Each (IsRunOf grid) runs
+-- cached cells and these runs have each step of a query once, piece by piece; the cells are the query's. An instant query has no
+-- cells, and its grid is its one run.
+pub record AreDivided (l : Limits) (o : Open) (cached : List DoneCells) (runs : List GridData) : Type 0 where
+  pub woven : AreWoven (pieces_in l o) cached runs
+  pub each : Each (IsRunOf o.asked.query.grid) runs
+  pub values : Each (IsValueAt l o) (steps_of cached)
+  pub alone : o.asked.instant ≡ true → (cached ≡ []) × (runs ≡ o.asked.query.grid ∷ [])
+
+-- these are the runs of a query's steps, but for those of some cells
+pub record AreRunsOf (l : Limits) (o : Open) (runs : List GridData) : Type 0 where
+  pub others : List DoneCells
+  pub woven : AreWoven (pieces_in l o) others runs
+  pub each : Each (IsRunOf o.asked.query.grid) runs
+  pub alone : o.asked.instant ≡ true → runs ≡ o.asked.query.grid ∷ []
 
 -- a job is about a run and one of so many legs of a query
 pub record IsJobOf (at : Open) (count : ℕ) (head : JobHead) (run : GridData) : Type 0 where
@@ -148,12 +159,12 @@ pub record IsForAsk (journal : List Entry) (l : Limits) (head : JobHead) (legs :
   pub legs_of : IsLegsOf l at legs snap
   pub job_of : IsJobOf at (leg_count (legs_data legs)) head run
 
--- legs and parts are those of a query's runs, whose steps are the query's, run by run and leg by leg
-pub record AreParts (l : Limits) (at : Open) (legs : ResolvedLegs) (runs : List GridData) (parts : List Part) : Type 0 where
+-- cells that were cached and runs divide a query's steps, and legs and parts are those of the runs, run by run and leg by leg
+pub record AreParts (l : Limits) (at : Open) (legs : ResolvedLegs) (cached : List DoneCells) (runs : List GridData) (parts : List Part) : Type 0 where
   pub legs_are : legs_data legs ≡ legs_asked l.shards at
   pub lawful : IsLawful (legs_data legs)
   pub evaluable : AreEvaluable legs.resolved
-  pub steps : steps_in runs ≡ points at.asked.query.grid
+  pub divided : AreDivided l at cached runs
   pub many : length parts ≡ length runs * leg_count (legs_data legs)
   pub fits : Each (FitsNodes legs.nodes) parts
   pub values : (i : ℕ) (run : GridData) (part : Part) → slice_get runs (i / leg_count (legs_data legs)) ≡ Some run → slice_get parts i ≡ Some part

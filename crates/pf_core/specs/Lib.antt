@@ -1,7 +1,9 @@
 pub mod Asks
+pub mod Cached
 pub mod Calls
 pub mod Codes
 pub mod Cores
+pub mod Divisions
 pub mod Entries
 pub mod Jobs
 pub mod Progress

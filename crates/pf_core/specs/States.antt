@@ -1,9 +1,10 @@
 -- What a core keeps beside its journal, and how its steps change it. This project's own.
 use Rattle.std.specs.Arc.{arc_value}
 use Rattle.std.specs.HashMap.{get}
-use Rattle.std.specs.Prelude.{◌≡◌, ◌⊎◌, ℕ, ◌+◌, ◌-◌, ◌*◌, ◌/◌, ◌%◌, ◌<◌, ◌≤◌, cond, map, nat_eq, IfSome, Option, Some, None, List, [], ◌∷◌, ◌++◌, length, slice_get, sum, vec_capacity}
+use Rattle.std.specs.Prelude.{◌≡◌, ◌⊎◌, ℕ, ◌+◌, ◌-◌, ◌*◌, ◌/◌, ◌%◌, ◌<◌, ◌≤◌, true, false, cond, map, nat_eq, IfSome, Option, Some, None, List, [], ◌∷◌, ◌++◌, length, slice_get, sum, vec_capacity}
 use Rattle.pf_base.specs.Batches.{BatchData}
 use Rattle.pf_base.specs.GridLists.{GridData}
+use Rattle.pf_base.specs.Grids.{points}
 use Rattle.pf_base.specs.declared.plain.By.{By}
 use Rattle.pf_base.specs.declared.plain.Limits.{Limits}
 use Rattle.pf_journal.specs.Asking.{Asked}
@@ -15,7 +16,7 @@ use Rattle.pf_model.specs.Lists.{Each}
 use Rattle.pf_model.specs.Log.{Change, log_with, log_without, store_of, verdicts_of}
 use Rattle.pf_model.specs.declared.expr.Matcher.{Matcher}
 use Rattle.pf_shard.specs.declared.parts.Part.{Part}
-use Rattle.pf_query.specs.Entries.{is_given_out, is_planned}
+use Rattle.pf_query.specs.Entries.{cached_steps_of, is_given_out, is_offered, is_planned}
 use Rattle.pf_query.specs.Tables.{EntryData, IsClosed, IsSameTable, IsTable, entry_in, hands_of, ring_of, waiting_of}
 use Rattle.pf_query.specs.Works.{WorkData, legs_in}
 use Rattle.pf_query.specs.declared.job.Job.{Job}
@@ -29,7 +30,7 @@ use Rattle.pf_store.specs.Verdicts.{VerdictsData}
 use Rattle.pf_store.specs.declared.tenant_log.Deleted.{Deleted}
 use Rattle.pf_core.specs.Cores.{AreLimits, CoreData, Stands, open_tries}
 use Rattle.pf_core.specs.Entries.{entry_of, what_of}
-use Rattle.pf_core.specs.Jobs.{AreRunsOf, IsForAsk, IsValueOver, QueueHeads, by_tenant, legs_asked}
+use Rattle.pf_core.specs.Jobs.{AreDivided, AreRunsOf, IsForAsk, IsValueOver, QueueHeads, by_tenant, legs_asked}
 use Rattle.pf_core.specs.Progress.{QueryProgress, begun, cancel_in}
 use Rattle.pf_core.specs.Seats.{TenantsData, counted_as, settled}
 use Rattle.pf_core.specs.declared.query.Query.{Query}
@@ -98,10 +99,23 @@ kept_in s place = get nat_eq s.queries place
 abbrev pub heads_in : Table → ℕ → QueueHeads
 heads_in t u = record { waiting = map (λ j. j.head) (waiting_of t u); hands = hands_of t u }
 
+-- the runs of a query's jobs
+abbrev pub runs_of : Option WorkData → List GridData
+runs_of None = []
+runs_of (Some w) = w.runs
+
 -- how far the work on a query is, by what the table keeps of it
 abbrev pub far_of : ℕ → Option EntryData → QueryProgress
 far_of query None = begun query
-far_of query (Some e) = record { query = query; stop = e.stop; planned = is_planned e.work; given = is_given_out e.work }
+far_of query (Some e) = record {
+  query = query;
+  stop = e.stop;
+  planned = is_planned e.work;
+  given = is_given_out e.work;
+  runs = runs_of e.work;
+  cached = cached_steps_of e.work;
+  offered = is_offered e.work;
+}
 
 -- and on each of these open queries
 abbrev pub progress_of : List Open → (ℕ → Option EntryData) → List QueryProgress
@@ -119,6 +133,7 @@ core_of s = record {
   queues = by_tenant (heads_in s.table);
   ring = ring_of s.table;
   failed = s.failed.items;
+  kept = s.results;
 }
 
 -- the entries have room in memory for what open queries keep
@@ -140,12 +155,16 @@ pub record HasHistory (s : State) : Type 0 where
 
 -- ---- jobs
 
--- what is kept of a planned query: its legs are those of what was asked, its runs are the steps of its grid, and each part that is
+-- what is kept of a planned query: its legs are those of what was asked; its runs are its steps but those of some cells, which are
+-- the cached ones while the parts aren't handed out; these are at most all steps; an instant query is offered; and each part that is
 -- stored is of the legs' kind, and the value of its leg over its run
 pub record IsWorkOf (l : Limits) (o : Open) (w : WorkData) : Type 0 where
   pub legs_are : legs_data w.legs ≡ legs_asked l.shards o
   pub evaluable : AreEvaluable w.legs.resolved
-  pub runs : AreRunsOf o.asked.query.grid w.runs
+  pub runs : AreRunsOf l o w.runs
+  pub divided : w.given ≡ false → AreDivided l o w.cached w.runs
+  pub few : w.cached_steps ≤ length (points o.asked.query.grid)
+  pub once : o.asked.instant ≡ true → w.offered ≡ true
   pub fits : (i : ℕ) (part : Part) → slice_get w.slots i ≡ Some (Filled part) → FitsNodes w.legs.nodes part
   pub values : (i : ℕ) (run : GridData) (part : Part) → slice_get w.runs (i / legs_in w.legs) ≡ Some run → slice_get w.slots i ≡ Some (Filled part)
       → IsValueOver (store_of l.window o.log).samples (legs_data w.legs) (i % legs_in w.legs) run part
@@ -188,18 +207,20 @@ pub record IsState (s : State) : Type 0 where
   pub jobs : AreJobs (map entry_of s.journal.items) s.limits (machine_in s).queries (entry_in s.table) (waiting_of s.table)
   pub counts : AreCounts s.failed.items s.total
 
--- the table and the counts are as they were
+-- the table, the counts and the cache are as they were
 pub record KeepsJobs (old new : State) : Type 0 where
   pub table : new.table ≡ old.table
+  pub results : new.results ≡ old.results
   pub failed : new.failed ≡ old.failed
   pub total : new.total ≡ old.total
 
--- the counts of failed tries are as they were
+-- the counts of failed tries and the cache are as they were
 pub record KeepsFailures (old new : State) : Type 0 where
+  pub results : new.results ≡ old.results
   pub failed : new.failed ≡ old.failed
   pub total : new.total ≡ old.total
 
--- all but the table and the counts is as it was
+-- all but the table, the counts and the cache is as it was
 pub record KeepsHistory (old new : State) : Type 0 where
   pub limits : new.limits ≡ old.limits
   pub tenants : new.tenants ≡ old.tenants
@@ -207,9 +228,17 @@ pub record KeepsHistory (old new : State) : Type 0 where
   pub reserved : new.reserved ≡ old.reserved
   pub journal : new.journal ≡ old.journal
 
+-- all but the cache is as it was
+pub record IsSameButCache (old new : State) : Type 0 where
+  pub history : KeepsHistory old new
+  pub table : new.table ≡ old.table
+  pub failed : new.failed ≡ old.failed
+  pub total : new.total ≡ old.total
+
 -- the table is as it was, as far as contracts see it
 pub record IsSameJobs (old new : State) : Type 0 where
   pub table : IsSameTable old.table new.table
+  pub results : new.results ≡ old.results
   pub lawful : IsTable old.table → IsTable new.table
   pub failed : new.failed ≡ old.failed
   pub total : new.total ≡ old.total

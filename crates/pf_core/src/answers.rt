@@ -12,7 +12,8 @@ pub struct Admitted {
 }
 
 /// An open query: its tenant's number, the tenant's log as it stood at the ask, what was asked, and the place of its cancel in
-/// the journal, if it was cancelled; whether it is planned, and why it was stopped, if it was.
+/// the journal, if it was cancelled; whether it is planned, how many of its steps were cached then, whether it is offered to the
+/// cache, and why it was stopped, if it was.
 #[derive(Clone, Copy)]
 pub struct Opened<'a> {
     pub tenant: u32,
@@ -20,6 +21,8 @@ pub struct Opened<'a> {
     pub asked: &'a Arc<Asked>,
     pub cancelled: Option<u64>,
     pub planned: bool,
+    pub cached: u32,
+    pub offered: bool,
     pub stop: Option<Stop>,
 }
 
@@ -31,4 +34,13 @@ pub enum CancelAnswer {
     NotOutstanding,
     OtherTenant { owner: u32 },
     Already { place: u64 },
+}
+
+/// What came of a keep: samples of the tenant were deleted since the ask, and this is the generation now; so many steps are kept; or
+/// memory ran out.
+#[derive(Clone, Copy, Debug, PartialEq, Eq)]
+pub enum Kept {
+    Outdated { generation: u64 },
+    Steps(u32),
+    NoMemory,
 }

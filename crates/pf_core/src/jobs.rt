@@ -1,72 +1,15 @@
-//! The jobs of open queries: they are planned, handed to actors, and collected.
+//! The jobs of open queries: they are handed to actors, and collected.
 
-ghost use Rattle.std.specs.Arc.{arc_value};
-ghost use Rattle.std.specs.Prelude.{◌≡◌, ◌<◌, ◌≤◌, IfErr, IfOk, MatchOption, None, length};
-ghost use Rattle.pf_journal.specs.Machine.{open_at};
-ghost use Rattle.pf_core.specs.Calls.{BindsOpen, IsCollected, IsFailed, IsFinished, IsLacked, IsLackedBy, IsPartOf, IsPlanned, IsTried, IsUnplanned, StandsForAsk, Takes, TriesAfter, counted};
+ghost use Rattle.std.specs.Prelude.{◌≡◌, ◌<◌, ◌≤◌};
+ghost use Rattle.pf_core.specs.Calls.{IsCollected, IsFailed, IsFinished, IsLacked, IsLackedBy, IsPartOf, IsTried, StandsForAsk, Takes, TriesAfter, counted};
 ghost use Rattle.pf_core.specs.Cores.{tries_left};
-ghost use Rattle.pf_core.specs.Jobs.{AreRunsOf, HasGrid, runs_of};
-ghost use Rattle.pf_core.specs.States.{IsAhead, IsState, core_of, machine_in};
+ghost use Rattle.pf_core.specs.States.{IsAhead, IsState, core_of};
 
 use crate::state::State;
-use pf_base::{Grid, OutOfMemory};
-use pf_block::Snap;
-use pf_query::{Asked, Collected, FailedTry, Finished, Held, PlanError, Planned, Stop};
-use pf_shard::{Legs, Part};
-use pf_split::pieces;
-use std::alloc::Global;
-use std::sync::Arc;
-
-/// The runs of a grid's steps, by intervals of a length in milliseconds.
-fn runs_of(alloc: Global, grid: &Grid, interval: u64) -> Result<Vec<Grid>, OutOfMemory>
-    requires { 1000 ≤ interval }
-    ensures value { IfOk result (λ v. v.items ≡ runs_of interval grid.now) }
-    ensures runs { IfOk result (λ v. AreRunsOf grid.now v.items) }
-    ensures few { IfOk result (λ v. length v.items ≤ 11001) }
-{
-    // There are at most as many runs as steps.
-    let most = grid.len();
-    prove!(most <= 11_001);
-    let mut runs = Vec::new(alloc);
-    for piece in pieces(grid, interval) {
-        runs.push(piece.run)?;
-    }
-    Ok(runs)
-}
+use pf_query::{Collected, FailedTry, Finished, Held, Stop};
+use pf_shard::Part;
 
 impl State {
-    /// The grid of an open query.
-    #[tactic(auto, using(crate::proofs::Looked::unkept, crate::proofs::Looked::has_grid))]
-    fn grid_of(&self, query: u64) -> Option<Grid>
-        requires { IsState self.now }
-        ensures { MatchOption result (open_at query (machine_in self.now).queries ≡ None) (HasGrid (open_at query (machine_in self.now).queries)) }
-    {
-        let open = self.queries.get(&query)?;
-        let asked: &Asked = &open.asked;
-        Some(asked.grid)
-    }
-
-    /// Plans an open query over the runs of its grid, and its legs.
-    #[tactic(auto, using(crate::proofs::Looked::never_unbound))]
-    pub fn plan(
-        &mut self,
-        query: u64,
-        legs: Arc<Legs>,
-        snap: &Arc<Snap>,
-    ) -> Result<Planned, PlanError>
-        requires state { IsState self.old }
-        requires legs { BindsOpen self.old.limits (open_at query (machine_in self.old).queries) (arc_value legs) (arc_value snap.now) }
-        ensures state { IsState self.new }
-        ensures ok { IfOk result (λ p. IsPlanned (core_of self.old) query p.jobs (core_of self.new)) }
-        ensures err { IfErr result (λ e. IsUnplanned (core_of self.old) query e (core_of self.new)) }
-    {
-        let Some(grid) = self.grid_of(query) else {
-            unreachable!()
-        };
-        let runs = runs_of(self.alloc, &grid, self.limits.interval)?;
-        self.table.plan(self.alloc, query, legs, runs, snap)
-    }
-
     /// Hands the first job of the first tenant to an actor.
     pub fn take(&mut self, actor: u32) -> Option<Held>
         requires state { IsState self.old }

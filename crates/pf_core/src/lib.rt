@@ -6,22 +6,25 @@
 //! core as it was; the open queries, with what they pinned, are those of the machine. What an open query needs for its cancel and
 //! its answer is kept at its ask, so these two calls take no memory.
 //!
-//! A query that is open goes so: `plan` divides its steps and its legs into jobs, `take` hands them to actors in turn, `finish` keeps
-//! their parts, or `fail` lets them wait again, and `collect` hands out all parts once they are there. A part is the value of a leg of
-//! the query over the samples that its tenant had at the ask.
+//! A query that is open goes so: `plan` finds which of its steps are cached, and divides the others and its legs into jobs, `take`
+//! hands them to actors in turn, `finish` keeps their parts, or `fail` lets them wait again, and `collect` hands out the cached cells
+//! and all parts once they are there. A part is the value of a leg of the query over the samples that its tenant had at the ask, and
+//! so is a cached cell the query's. `keep` offers what was evaluated to the cache, and `answer` ends the query.
 #![tactic(auto)]
 
 mod answers;
 mod entry;
 mod error;
 mod jobs;
+mod keep;
+mod plan;
 mod query;
 mod session;
 mod shared;
 mod state;
 mod tenants;
 
-pub use answers::{Admitted, CancelAnswer, Opened};
+pub use answers::{Admitted, CancelAnswer, Kept, Opened};
 pub use entry::{Entry, What};
 pub use error::{AskError, CoreError};
 pub use session::Core;

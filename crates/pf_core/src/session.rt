@@ -5,16 +5,17 @@ ghost use Rattle.std.specs.Prelude.{◌≡◌, ◌<◌, ◌≤◌, IfErr, IfOk, 
 ghost use Rattle.std.specs.Option.{option_copied};
 ghost use Rattle.pf_block.specs.Snaps.{are_timed};
 ghost use Rattle.pf_journal.specs.Machine.{answer, open_at};
-ghost use Rattle.pf_core.specs.Calls.{BindsOpen, IsAnswerable, IsCollected, IsFailed, IsFinished, IsLacked, IsLackedBy, IsPartOf, IsPlanned, IsUnplanned, StandsForAsk, Takes, TriesAfter, evaluated_of};
+ghost use Rattle.pf_core.specs.Calls.{BindsOpen, IsAnswerable, IsCollected, IsFailed, IsFinished, IsKeepable, IsKeptOf, IsLacked, IsLackedBy, IsPartOf, IsPlanned, IsUnplanned, StandsForAsk, Takes, TriesAfter, cached_of, evaluated_of};
 ghost use Rattle.pf_core.specs.Cores.{AreBegun, AreCancelled, AreClosed, AreLimits, AreSameWork, Enters, IsAppended, IsAsked, IsCancelled, IsDeleted, IsOpened, IsRefused, IsUnasked, Stands, machine_of, started_core, tries_left};
 ghost use Rattle.pf_core.specs.Entries.{entry_of};
 
-use crate::answers::{Admitted, CancelAnswer, Opened};
+use crate::answers::{Admitted, CancelAnswer, Kept, Opened};
 use crate::entry::Entry;
 use crate::error::{AskError, CoreError};
 use crate::state::State;
 use pf_base::{Batch, By, Limits, OutOfMemory, Tenant};
 use pf_block::Snap;
+use pf_extent::DoneCells;
 use pf_model::Matchers;
 use pf_query::{Asked, Collected, FailedTry, Finished, Held, PlanError, Planned};
 use pf_shard::{Legs, Part};
@@ -127,11 +128,12 @@ impl Core {
     }
 
     /// Answers an open query, which is closed from then on: with the code of its direct evaluation once its parts were handed out,
-    /// or with the code of its stop. The entry tells that no step was cached, and that all were evaluated, if it was planned.
+    /// if that is 200 once it was offered to the cache, too, or with the code of its stop. The entry tells how many steps were cached
+    /// at its plan, and that all others were evaluated, if it was planned.
     pub fn answer(&mut self, by: By, query: u64, code: u16)
         requires { IsAnswerable self.old query code }
         ensures stands { Stands self.new }
-        ensures entered { Enters self.old by (answer query code 0 (evaluated_of self.old query)) self.new }
+        ensures entered { Enters self.old by (answer query code (cached_of self.old query) (evaluated_of self.old query)) self.new }
         ensures jobs { AreClosed self.old query self.new }
     {
         self.state.answer(by, query, code);
@@ -145,9 +147,19 @@ impl Core {
         self.state.limits.shards
     }
 
-    /// Plans the query that was asked at a place, which is open: its steps are divided into the runs of their intervals, and from
-    /// then on a job for each run and each leg waits, last of its tenant's. The legs are those over the number of shards, and the
-    /// snapshot is the one that they were bound over. Mimir, query frontend: Splitting queries by interval, and Query sharding.
+    /// The length in milliseconds of the intervals by which queries are divided and cached.
+    pub fn interval(&self) -> u64
+        ensures stands { Stands self.now }
+        ensures interval { result ≡ self.now.limits.interval }
+    {
+        self.state.limits.interval
+    }
+
+    /// Plans the query that was asked at a place, which is open: in each of its intervals those of its steps that are cached are
+    /// found, and from then on a job for each run of the others and each leg waits, last of its tenant's. The legs are those over the
+    /// number of shards, and the snapshot is the one that they were bound over. The cache is asked of range queries alone, and a
+    /// query of which no step is left is offered by that. Mimir, query frontend: Splitting queries by interval, Query sharding, and
+    /// Caching.
     pub fn plan(
         &mut self,
         query: u64,
@@ -156,7 +168,7 @@ impl Core {
     ) -> Result<Planned, PlanError>
         requires legs { BindsOpen self.old.limits (open_at query (machine_of self.old).queries) (arc_value legs) (arc_value snap) }
         ensures stands { Stands self.new }
-        ensures ok { IfOk result (λ p. IsPlanned self.old query p.jobs self.new) }
+        ensures ok { IfOk result (λ p. IsPlanned self.old query p self.new) }
         ensures err { IfErr result (λ e. IsUnplanned self.old query e self.new) }
     {
         self.state.plan(query, legs, &snap)
@@ -213,14 +225,25 @@ impl Core {
         self.state.lack_query(query);
     }
 
-    /// What the query that was asked at a place has. Where all its parts are there, they are handed out, once. None exactly where it
-    /// isn't open.
+    /// What the query that was asked at a place has. Where all its parts are there, they are handed out, once, and with them the cells
+    /// of its steps that were cached. None exactly where it isn't open.
     pub fn collect(&mut self, query: u64) -> Option<Collected>
         ensures stands { Stands self.new }
         ensures collected { IsCollected self.old query result self.new }
         ensures tries { tries_left self.new ≡ tries_left self.old }
     {
         self.state.collect(query)
+    }
+
+    /// Offers evaluated cells of an open range query to the cache, each of one interval: those of the steps that no later sample
+    /// changes are kept, unless samples of the tenant were deleted since the ask. The query is offered from then on, whatever this
+    /// answers, if it is planned and the cells have all steps of its jobs' runs; they come by rising time for that.
+    pub fn keep(&mut self, query: u64, cells: Vec<DoneCells>) -> Kept
+        requires { IsKeepable self.old query cells.items }
+        ensures stands { Stands self.new }
+        ensures kept { IsKeptOf self.old query cells.items result self.new }
+    {
+        self.state.keep(query, &cells)
     }
 
     /// How many tries of an actor, of 32, failed.

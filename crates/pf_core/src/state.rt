@@ -8,7 +8,7 @@ ghost use Rattle.pf_journal.specs.Machine.{CancelsOpen, answer, full, no_tenant,
 ghost use Rattle.pf_query.specs.Tables as table;
 ghost use Rattle.pf_query.specs.Tables.{IsTable};
 ghost use Rattle.pf_query.specs.declared.stop.Stop.TheVariants.{Cancelled};
-ghost use Rattle.pf_core.specs.Calls.{IsAnswerable, evaluated_of};
+ghost use Rattle.pf_core.specs.Calls.{IsAnswerable, cached_of, evaluated_of};
 ghost use Rattle.pf_core.specs.Cores.{AreBegun, AreCancelled, AreClosed, AreLimits, AreSameWork, Enters, IsAppended, IsAsked, IsCancelled, IsDeleted, IsOpened, IsRefused, IsUnasked, started_core};
 ghost use Rattle.pf_core.specs.Entries.{what_of};
 ghost use Rattle.pf_core.specs.Seats.{AreTenants, IsFree, counted_as};
@@ -22,6 +22,7 @@ use crate::tenants::{Seat, Tenants};
 use pf_base::{Batch, By, Limits, OutOfMemory, Tenant};
 use pf_model::Matchers;
 use pf_query::{Asked, Stop, Table};
+use pf_results::{Results, stay_true};
 use pf_store::{Deleted, Pin, Verdicts};
 use std::alloc::Global;
 use std::collections::HashMap;
@@ -31,7 +32,7 @@ use std::sync::Arc;
 const ACTORS: usize = 32;
 
 /// The limits, the tenants, the open queries, the number of entries that these keep room for, and the journal; the jobs of the
-/// open queries; and how many tries failed of each actor and in all.
+/// open queries; how many tries failed of each actor and in all; and what is kept of evaluated steps.
 #[derive(Drop)]
 pub struct State {
     pub alloc: Global,
@@ -43,6 +44,7 @@ pub struct State {
     pub table: Table,
     pub failed: Vec<u64>,
     pub total: u64,
+    pub results: Results,
 }
 
 /// Takes a batch into a seat's log: the verdicts, and what the entry says.
@@ -123,15 +125,16 @@ fn kept_for(cancelled: Option<u64>) -> u64
     }
 }
 
-/// How many steps of an open query were evaluated: all, once it is planned.
+/// How many steps of an open query were evaluated: all that weren't cached, once it is planned.
 fn steps_of(query: &Opened<'_>) -> u32
-    ensures { result ≡ cond query.now.planned (length (points (arc_value query.now.asked.now).query.grid)) 0 }
+    requires { query.now.cached ≤ length (points (arc_value query.now.asked.now).query.grid) }
+    ensures { result ≡ cond query.now.planned (length (points (arc_value query.now.asked.now).query.grid) - query.now.cached) 0 }
 {
     if !query.planned {
         return 0;
     }
     let asked: &Asked = query.asked;
-    asked.grid.len()
+    asked.grid.len() - query.cached
 }
 
 impl State {
@@ -151,6 +154,7 @@ impl State {
             table: Table::new(alloc)?,
             failed: vec![in alloc; 0; ACTORS]?,
             total: 0,
+            results: Results::open(alloc, limits.extents)?,
         })
     }
 
@@ -251,6 +255,7 @@ impl State {
         ensures ok { IfOk result (λ v. IsAppended (core_of self.old) by tenant.now (arc_value batch) (arc_value v) (core_of self.new)) }
         ensures err { IfErr result (λ e. IsRefused (core_of self.old) by tenant.now e (core_of self.new)) }
     {
+        stay_true();
         if !self.has_room(1) {
             return Err(CoreError::JournalFull {
                 entries: self.journal.len() as u64,
@@ -282,6 +287,7 @@ impl State {
         ensures ok { IfOk result (λ d. IsDeleted (core_of self.old) by tenant.now (arc_value matchers) from to d (core_of self.new)) }
         ensures err { IfErr result (λ e. IsRefused (core_of self.old) by tenant.now e (core_of self.new)) }
     {
+        stay_true();
         if !self.has_room(1) {
             return Err(CoreError::JournalFull {
                 entries: self.journal.len() as u64,
@@ -353,6 +359,7 @@ impl State {
         ensures ok { IfOk result (λ a. IsAsked (core_of self.old) by tenant.now (arc_value asked) a (core_of self.new)) }
         ensures err { IfErr result (λ e. IsUnasked (core_of self.old) by tenant.now e (core_of self.new)) }
     {
+        stay_true();
         let place = self.journal.len() as u64;
         if !self.has_room(3) {
             return Err(AskError::JournalFull { entries: place });
@@ -384,6 +391,8 @@ impl State {
             asked: &open.asked,
             cancelled: open.cancelled,
             planned: progress.planned,
+            cached: progress.cached,
+            offered: progress.offered,
             stop: progress.stop,
         })
     }
@@ -451,7 +460,7 @@ impl State {
         requires state { IsState self.old }
         requires may { IsAnswerable (core_of self.old) query code }
         ensures state { IsState self.new }
-        ensures entered { Enters (core_of self.old) by (answer query code 0 (evaluated_of (core_of self.old) query)) (core_of self.new) }
+        ensures entered { Enters (core_of self.old) by (answer query code (cached_of (core_of self.old) query) (evaluated_of (core_of self.old) query)) (core_of self.new) }
         ensures jobs { AreClosed (core_of self.old) query (core_of self.new) }
     {
         let Some(open) = self.look(query) else {
@@ -459,6 +468,7 @@ impl State {
         };
         let tenant = open.tenant;
         let kept = kept_for(open.cancelled);
+        let cached = open.cached;
         let evaluated = steps_of(&open);
         let outstanding = self.tenants.count(tenant);
         self.close(
@@ -470,7 +480,7 @@ impl State {
             What::Answer {
                 query,
                 code,
-                cached: 0,
+                cached,
                 evaluated,
             },
         );

@@ -1,6 +1,8 @@
 //! The tenants by number: their names, their logs, and how many queries of each are open.
 
-ghost use Rattle.std.specs.Prelude.{◌≡◌, ◌<◌, [], IfOk, MatchOption, OnErr, OnOk, Some, length, slice_get};
+ghost use Rattle.std.specs.Prelude.{◌≡◌, ◌<◌, [], IfOk, List, MatchOption, OnErr, OnOk, Some, length, slice_get};
+ghost use Rattle.pf_model.specs.Log.{Change, store_of};
+ghost use Rattle.pf_store.specs.Standing.{IsLog, LogData};
 ghost use Rattle.pf_core.specs.Seats.{AreTenants, IsFree, IsUnknown, Seats, TenantsData, count_at, counted_as, is_named, settled};
 
 use pf_base::{OutOfMemory, Tenant};
@@ -126,6 +128,16 @@ impl Tenants {
         ensures { IfOk result (λ l. slice_get self.now.logs number ≡ Some l) }
     {
         Ok(self.logs[number as usize].clone()?)
+    }
+
+    /// How often samples of a tenant were deleted.
+    pub fn generation(&self, number: u32) -> Result<u64, OutOfMemory>
+        requires { number < length self.now.names }
+        ensures tenants { AreTenants self.now }
+        ensures generation { IfOk result (λ g. (d : LogData) (log : List Change) → slice_get self.now.logs number ≡ Some d → IsLog d log → g ≡ (store_of d.window log).generation) }
+    {
+        let pin = self.logs[number as usize].pin()?;
+        Ok(pin.generation)
     }
 
     /// The place of a tenant by its name. None where it is new, and as many are known as may be.

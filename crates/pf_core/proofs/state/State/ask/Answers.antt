@@ -20,7 +20,7 @@ returns-in_default-clause-state c =
     let r =
     refused c.args.self.now c.refuse.new.self c.args.by c.args.tenant.now c.requires.state.history (search rules) (search rules)
     (one_fits (length c.args.self.now.journal.items) c.args.self.now.reserved 3 c.args.self.now.limits.journal (omega arith) (search rules)) in
-    state_kept c.args.self.now c.refuse.new.self c.args.by _ c.requires.state r.0 r.1 (search rules) refl refl
+    state_kept c.args.self.now c.refuse.new.self c.args.by _ c.stay_true.ensures c.requires.state r.0 r.1 (search rules) refl refl
 
 pub returns-in_default-clause-err : goal.returns-in_default-clause-err
 returns-in_default-clause-err c = (
@@ -38,7 +38,7 @@ returns-then-outstanding-self-clause-state c =
     filled c.args.self.now c.fill.new.self c.args.by c.args.tenant.now c.in-Some.seat c.count-outstanding.result c.requires.state.history (search rules)
     (search rules) (search rules) (search rules)
     (one_fits (length c.args.self.now.journal.items) c.args.self.now.reserved 3 c.args.self.now.limits.journal (omega arith) (search rules)) in
-    state_kept c.args.self.now c.fill.new.self c.args.by _ c.requires.state f.0 f.1.1.entered (search rules) refl refl
+    state_kept c.args.self.now c.fill.new.self c.args.by _ c.stay_true.ensures c.requires.state f.0 f.1.1.entered (search rules) refl refl
 
 pub returns-then-outstanding-self-clause-err : goal.returns-then-outstanding-self-clause-err
 returns-then-outstanding-self-clause-err c =
@@ -56,7 +56,7 @@ returns-clause-state c =
     let a =
     asked c.args.self.now c.open_query.new.self c.args.by c.args.tenant.now c.in-Some.seat c.count-outstanding.result c.len-place.result _ _ _ c.requires.state.history
     (search rules) (search rules) (search rules) c.in_ok-opening.ensures c.in_ok-pin.ensures.ok (search rules) c.in_ok-pin.ensures.pin (search rules) in
-    opened_state c.args.self.now c.open_query.new.self c.args.by _ _ c.requires.state a.0 a.1.0 refl (counted c.args.self.now) refl refl
+    opened_state c.args.self.now c.open_query.new.self c.args.by _ _ c.stay_true.ensures c.requires.state a.0 a.1.0 refl (counted c.args.self.now) refl refl
     c.in_ok-pin.ensures.opened (search rules) (search rules)
 
 pub returns-clause-ok : goal.returns-clause-ok

@@ -19,7 +19,7 @@ returns-in_default-clause-state c =
     let r =
     refused c.args.self.now c.refuse.new.self c.args.by c.args.tenant.now c.requires.state.history (search rules) (search rules)
     (one_fits (length c.args.self.now.journal.items) c.args.self.now.reserved 1 c.args.self.now.limits.journal (omega arith) (search rules)) in
-    state_kept c.args.self.now c.refuse.new.self c.args.by _ c.requires.state r.0 r.1 (search rules) refl refl
+    state_kept c.args.self.now c.refuse.new.self c.args.by _ c.stay_true.ensures c.requires.state r.0 r.1 (search rules) refl refl
 
 pub returns-in_default-clause-err : goal.returns-in_default-clause-err
 returns-in_default-clause-err c = (
@@ -36,7 +36,7 @@ returns-clause-state c =
     let a =
     deleted c.args.self.now c.enter.new.self c.args.by c.args.tenant.now c.in-Some.seat c.cut_out.new.seat _ _ _ _ _ c.requires.state.history (search rules)
     c.in_ok-deleted.ensures c.in_ok-enter.ensures.ok (search rules) in
-    state_kept c.args.self.now c.enter.new.self c.args.by _ c.requires.state a.0 a.1.1.entered (search rules) refl refl
+    state_kept c.args.self.now c.enter.new.self c.args.by _ c.stay_true.ensures c.requires.state a.0 a.1.1.entered (search rules) refl refl
 
 pub returns-clause-ok : goal.returns-clause-ok
 returns-clause-ok c =

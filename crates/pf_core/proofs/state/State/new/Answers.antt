@@ -15,11 +15,12 @@ returns-clause-core c =
       table = c.in_ok-new.field-0;
       failed = c.in_ok-vec.field-0;
       total = 0;
+      results = c.in_ok-open.field-0;
     } in
     begun_core s c.args.limits refl c.new.ensures c.new-3.ensures.items c.in_ok-new.ensures.empty
-    (c.in_ok-vec.ensures.items_if_clones_equal (λ y e. search rules))
+    (c.in_ok-vec.ensures.items_if_clones_equal (λ y e. search rules)) c.in_ok-open.ensures
 
 pub returns-clause-state : goal.returns-clause-state
 returns-clause-state c =
     begun_state _ c.requires c.new.ensures (λ place. search rules) refl c.new-3.ensures.items c.in_ok-new.ensures.empty c.in_ok-new.ensures.table
-    (c.in_ok-vec.ensures.items_if_clones_equal (λ y e. search rules)) refl
+    (c.in_ok-vec.ensures.items_if_clones_equal (λ y e. search rules)) refl c.in_ok-open.ensures

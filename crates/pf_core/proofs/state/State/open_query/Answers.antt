@@ -18,7 +18,7 @@ returns-in_err-settle_for-clause-err c =
     let e = c.in_err-settle_for.ensures.err in
     on_err _ _ (unsettled c.args.self.now c.settle_for.new.self c.make_room.new.self.table c.open.new.self c.len-place.result c.args.seat.number c.requires.state
     (subst (λ (n : ℕ). entry_in c.args.self.now.table n ≡ None) (sym at) (unopened c.args.self.now c.requires.state)) c.make_room.ensures.jobs.table
-    c.in_ok-open.ensures.ok e.closed e.table (search rules) (search rules) (search rules) (search rules) (search rules) (search rules) (search rules) (search rules))
+    c.in_ok-open.ensures.ok e.closed e.table (search rules) (search rules) (search rules) (search rules) (search rules) (search rules) (search rules) (search rules) (search rules))
 
 pub set_count-requires : goal.set_count-requires
 set_count-requires c =

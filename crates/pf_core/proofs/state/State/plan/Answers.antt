@@ -1,21 +1,15 @@
-use Rattle.std.proofs.Common.{refl}
-use Rattle.std.specs.Arc.{arc_value}
-use Rattle.pf_core.proofs.Planning.{plans, plans_state, unplans}
+use Rattle.std.proofs.Common.{rules}
+use Rattle.pf_core.proofs.Divided.{none_is}
+use Rattle.pf_core.proofs.Planning.{divided_for, planned_whole}
 use Rattle.pf_core.proofs.state.State.plan.Goals as goal
 
-pub returns-clause-state : goal.returns-clause-state
-returns-clause-state c =
-    plans_state c.args.self.now _ c.args.query (arc_value c.args.legs) c.in_ok-runs.runs.items (arc_value c.args.snap.now) c.in-Some.grid _ c.requires.state
-    (record { limits = refl; tenants = refl; queries = refl; reserved = refl; journal = refl }) (record { failed = refl; total = refl })
-    c.plan.ensures.table c.requires.legs c.in-Some.ensures c.in_ok-runs.ensures.runs c.plan.ensures.ok c.plan.ensures.err
+pub plan_over-requires-clause-divided : goal.plan_over-requires-clause-divided
+plan_over-requires-clause-divided c =
+    divided_for c.args.self.now c.args.query c.in-Some.open.now c.in_ok-found.field-0 c.is_none.result c.requires.state (search rules) c.in_ok-found.ensures
+    (none_is c.in_ok-found.field-0.key c.is_none.result c.is_none.ensures)
 
 pub returns-clause-ok : goal.returns-clause-ok
 returns-clause-ok c =
-    plans c.args.self.now _ c.args.query (arc_value c.args.legs) c.in_ok-runs.runs.items (arc_value c.args.snap.now) c.in-Some.grid _ c.requires.state
-    (record { limits = refl; tenants = refl; queries = refl; reserved = refl; journal = refl }) (record { failed = refl; total = refl })
-    c.plan.ensures.table c.requires.legs c.in-Some.ensures c.in_ok-runs.ensures.value c.plan.ensures.ok
-
-pub returns-clause-err : goal.returns-clause-err
-returns-clause-err c =
-    unplans c.args.self.now _ c.args.query _ c.requires.state
-    (record { limits = refl; tenants = refl; queries = refl; reserved = refl; journal = refl }) (record { failed = refl; total = refl }) c.plan.ensures.err
+    planned_whole c.args.self.now c.plan_over.new.self c.use_keys.new.self c.args.query c.in_ok-planned.planned c.in-Some.open.now c.in_ok-found.field-0
+    c.requires.state (search rules) c.in_ok-found.ensures c.in_ok-planned.ensures.ok c.use_keys.ensures.same
+    c.use_keys.ensures.used

@@ -7,13 +7,13 @@ use Rattle.pf_core.proofs.state.State.try_again.Goals as goal
 pub returns-clause-state : goal.returns-clause-state
 returns-clause-state c =
     tried_state c.args.self.now _ c.args.held _ c.requires.state
-    (record { limits = refl; tenants = refl; queries = refl; reserved = refl; journal = refl }) (record { failed = refl; total = refl })
+    (record { limits = refl; tenants = refl; queries = refl; reserved = refl; journal = refl }) (record { results = refl; failed = refl; total = refl })
     c.fail.ensures.table c.requires.ahead c.requires.stands c.fail.ensures.failed
 
 pub returns-clause-tried : goal.returns-clause-tried
 returns-clause-tried c =
     tries_again c.args.self.now _ c.args.held _ c.requires.state
-    (record { limits = refl; tenants = refl; queries = refl; reserved = refl; journal = refl }) (record { failed = refl; total = refl })
+    (record { limits = refl; tenants = refl; queries = refl; reserved = refl; journal = refl }) (record { results = refl; failed = refl; total = refl })
     c.fail.ensures.table c.fail.ensures.failed
 
 pub returns-clause-tries : goal.returns-clause-tries
