@@ -1,7 +1,15 @@
 mod Asked
+mod Divided
+mod Failures
 mod Hands
-mod Parts
+mod Joined
+mod LegParts
+mod Merged
+mod Offers
 mod Plans
 mod Progress
 mod Settled
+mod Spans
 mod Tries
+mod Walks
+mod WholeGrid

@@ -4,10 +4,10 @@ use Rattle.std.specs.Prelude.{Result, Ok, Err}
 use Rattle.std.proofs.lemmas.Bool.{false≢true}
 use Rattle.pf_base.specs.declared.plain.Limits.{Limits}
 use Rattle.pf_block.specs.Snaps.{SnapData}
-use Rattle.pf_core.specs.Calls.{BindsOpen, IsLacked, IsPlanned, IsUnplanned}
+use Rattle.pf_core.specs.Calls.{BindsOpen, IsLacked, IsPlanned, IsUnplanned, planned_by}
 use Rattle.pf_core.specs.Cores.{CoreData, HasQueue, Stands, machine_of, queue_at}
 use Rattle.pf_core.specs.Jobs.{QueueHeads, legs_asked}
-use Rattle.pf_core.specs.Progress.{QueryProgress, planned, progress_at}
+use Rattle.pf_core.specs.Progress.{QueryProgress, progress_at}
 use Rattle.pf_front.proofs.Hands.{by_tenant}
 use Rattle.pf_front.proofs.Progress.{at_changed, has_far, is_stopped}
 use Rattle.pf_front.proofs.Tries.{same_sum, works_refl}
@@ -56,8 +56,8 @@ kept_hands : (old new : CoreData) (u : ℕ) (queue : QueueHeads) (ring : List �
     → (v : ℕ) → (queue_at new v).hands ≡ (queue_at old v).hands
 kept_hands old new u queue ring has is = by_tenant old new u queue ring (λ v hs. hs ≡ (queue_at old v).hands) has is (λ v. refl)
 
-pub planned_works : (old : CoreData) (query count : ℕ) (new : CoreData) → IsPlanned old query count new → WorksOn old new
-planned_works old query count new p = record {
+pub planned_works : (old : CoreData) (query : ℕ) (told : Planned) (new : CoreData) → IsPlanned old query told new → WorksOn old new
+planned_works old query told new p = record {
   history = p.leaves.history;
   hands = kept_hands old new p.whole.opened.tenant _ _ p.leaves.queue_is refl;
   failed = same_sum old.failed new.failed p.leaves.failed;
@@ -97,10 +97,10 @@ not_planned old query plan_error.OutOfMemory mid new u lacks keeps = subst (λ (
 
 -- ---- the query is begun
 
-begun_planned : (old : CoreData) (query count : ℕ) (new : CoreData) → IsPlanned old query count new → IsBegun new query
-begun_planned old query count new p = record {
-  far = planned p.whole.far;
-  is_far = ap (λ (ps : List QueryProgress). progress_at query ps) p.leaves.progress_is ∙ at_changed query planned (λ p. refl) old.progress p.whole.far p.whole.is_far;
+begun_planned : (old : CoreData) (query : ℕ) (told : Planned) (new : CoreData) → IsPlanned old query told new → IsBegun new query
+begun_planned old query told new p = record {
+  far = planned_by old told.cached p.whole.opened p.whole.far;
+  is_far = ap (λ (ps : List QueryProgress). progress_at query ps) p.leaves.progress_is ∙ at_changed query (planned_by old told.cached p.whole.opened) (λ p. refl) old.progress p.whole.far p.whole.is_far;
   begun = inl refl;
 }
 
@@ -108,7 +108,7 @@ begun_lacked : (old : CoreData) (query : ℕ) (new : CoreData) (o : Open) → op
 begun_lacked old query new o there l stands =
     let s = l.some o there in
     let there' : open_at query (machine_of new).queries ≡ Some o = subst (λ (j : List Entry). open_at query (machine_after started j).queries ≡ Some o) (sym s.history.journal) there in
-    let f = has_far query (machine_of new).queries new.progress o stands.progressing there' in
+    let f = has_far new.limits query (machine_of new).queries new.progress o stands.progressing there' in
     record {
       far = f.0;
       is_far = f.1;
@@ -116,8 +116,8 @@ begun_lacked old query new o there l stands =
     }
 
 pub begun_after : (old : CoreData) (query : ℕ) (r : Result Planned PlanError) (new : CoreData) → IsSome (open_at query (machine_of old).queries) → Stands new
-    → IfOk r (λ p. IsPlanned old query p.jobs new) → IfErr r (λ e. IsNotPlanned old query e new) → IsBegun new query
-begun_after old query (Ok p) new opens stands ok err = begun_planned old query p.jobs new ok
+    → IfOk r (λ p. IsPlanned old query p new) → IfErr r (λ e. IsNotPlanned old query e new) → IsBegun new query
+begun_after old query (Ok p) new opens stands ok err = begun_planned old query p new ok
 begun_after old query (Err plan_error.PlannedBefore) new opens stands ok err =
     subst (λ (c : CoreData). IsBegun c query) (sym err.1)
     (record { far = err.0.opened.far; is_far = err.0.opened.is_far; begun = inl err.0.was_planned })

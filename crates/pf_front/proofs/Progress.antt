@@ -1,7 +1,8 @@
 -- How far queries are, once one of them is changed.
 use Rattle.std.proofs.Common.{◌≡◌, ℕ, Bool, true, false, ◌⊎◌, inl, inr, cond, nat_eq, Option, None, Some, List, [], ◌∷◌, refl, sym, ap, ◌∙◌, subst}
+use Rattle.pf_base.specs.declared.plain.Limits.{Limits}
 use Rattle.pf_core.specs.Cores.{CoreData}
-use Rattle.pf_core.specs.Progress.{GoesWith, QueryProgress, progress_at, stopped, with_progress}
+use Rattle.pf_core.specs.Progress.{GoesWith, IsProgressOf, QueryProgress, progress_at, stopped, with_progress}
 use Rattle.pf_front.specs.Settling.{IsBegun}
 use Rattle.pf_journal.specs.Machine.{Open, open_at}
 use Rattle.pf_query.specs.Entries.{stop_after}
@@ -86,13 +87,28 @@ goes_far_by : (b : Bool) (p : QueryProgress) (o x : Open) (os : Option Open) (ps
 goes_far_by true p o x os ps is more = (p, refl)
 goes_far_by false p o x os ps is more = more is
 
-pub has_far : (query : ℕ) (os : List Open) (ps : List QueryProgress) (o : Open) → GoesWith os ps → open_at query os ≡ Some o
+pub has_far : (l : Limits) (query : ℕ) (os : List Open) (ps : List QueryProgress) (o : Open) → GoesWith l os ps → open_at query os ≡ Some o
     → (far : QueryProgress) × (progress_at query ps ≡ Some far)
-has_far query [] ps o g is = absurd (not_none o None refl is)
-has_far query (x ∷ os) [] o g is = absurd g
-has_far query (x ∷ os) (p ∷ ps) o g is =
-    subst (λ (n : ℕ). (far : QueryProgress) × (cond (nat_eq n query) (Some p) (progress_at query ps) ≡ Some far)) (sym g.0.0)
-    (goes_far_by (nat_eq x.place query) p x o (open_at query os) (progress_at query ps) is (has_far query os ps o g.1))
+has_far l query [] ps o g is = absurd (not_none o None refl is)
+has_far l query (x ∷ os) [] o g is = absurd g
+has_far l query (x ∷ os) (p ∷ ps) o g is =
+    subst (λ (n : ℕ). (far : QueryProgress) × (cond (nat_eq n query) (Some p) (progress_at query ps) ≡ Some far)) (sym g.0.place)
+    (goes_far_by (nat_eq x.place query) p x o (open_at query os) (progress_at query ps) is (has_far l query os ps o g.1))
+
+progress_by : (l : Limits) (b : Bool) (x o : Open) (p far : QueryProgress) (os : Option Open) (ps : Option QueryProgress) → IsProgressOf l x p
+    → cond b (Some x) os ≡ Some o → cond b (Some p) ps ≡ Some far → (os ≡ Some o → ps ≡ Some far → IsProgressOf l o far) → IsProgressOf l o far
+progress_by l true x o p far os ps h e f more =
+    subst (λ (y : Open). IsProgressOf l y far) (some_is x o e) (subst (IsProgressOf l x) (some_is p far f) h)
+progress_by l false x o p far os ps h e f more = more e f
+
+-- how far an open query is goes with it
+pub progress_of : (l : Limits) (query : ℕ) (os : List Open) (ps : List QueryProgress) (o : Open) (far : QueryProgress) → GoesWith l os ps → open_at query os ≡ Some o
+    → progress_at query ps ≡ Some far → IsProgressOf l o far
+progress_of l query [] ps o far g e f = absurd (not_none o None refl e)
+progress_of l query (x ∷ os) [] o far g e f = absurd g
+progress_of l query (x ∷ os) (p ∷ ps) o far g e f =
+    progress_by l (nat_eq x.place query) x o p far (open_at query os) (progress_at query ps) g.0 e
+    (ap (λ (n : ℕ). cond (nat_eq n query) (Some p) (progress_at query ps)) (sym g.0.place) ∙ f) (progress_of l query os ps o far g.1)
 
 -- a query that was stopped is stopped
 stopped_by : (query : ℕ) (why : Stop) (b : Bool) (p far : QueryProgress) (new : Option QueryProgress) → nat_eq p.query query ≡ b

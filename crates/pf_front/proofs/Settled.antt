@@ -1,5 +1,5 @@
 -- How an open query is settled, and answered.
-use Rattle.std.proofs.Common.{◌≡◌, ◌⊎◌, inl, inr, ℕ, ◌<◌, Bool, true, false, cond, not, Option, None, Some, List, [], ◌∷◌, length, refl, sym, ap, ◌∙◌, arith, subst, zero-add}
+use Rattle.std.proofs.Common.{◌≡◌, ◌⊎◌, inl, inr, ℕ, ◌+◌, ◌-◌, ◌<◌, ◌≤◌, Bool, true, false, cond, not, Option, None, Some, List, [], ◌∷◌, length, refl, sym, ap, ◌∙◌, arith, subst}
 use Rattle.std.specs.Prelude.{slice_index_or}
 use Rattle.std.proofs.lemmas.Bool.{false≢true}
 use Rattle.std.proofs.lemmas.Bool.Decides.{nat_tests}
@@ -7,16 +7,17 @@ use Rattle.pf_base.specs.Grids.{points}
 use Rattle.pf_base.specs.declared.plain.By.{By}
 use Rattle.pf_base.specs.declared.plain.JobHead.{JobHead}
 use Rattle.pf_base.specs.declared.plain.Limits.{Limits}
-use Rattle.pf_core.specs.Calls.{IsAnswerable, IsGathered, IsHandedOut, IsLacked, IsOpenWith, IsStoppedBy, IsWhole, evaluated_by, evaluated_of}
+use Rattle.pf_core.specs.Calls.{IsAnswerable, IsGathered, IsHandedOut, IsLacked, IsOpenWith, IsStoppedBy, IsWhole, cached_by, cached_of, evaluated_by, evaluated_of}
 use Rattle.pf_core.specs.Calls as calls
-use Rattle.pf_core.specs.Cores.{AreClosed, AreServed, CoreData, Enters, machine_of, queue_at, queued_of}
+use Rattle.pf_core.specs.Cores.{AreClosed, AreServed, CoreData, Enters, IsOpened, Stands, machine_of, queue_at, queued_of}
+use Rattle.pf_core.specs.declared.answers.Opened.{Opened}
 use Rattle.pf_core.specs.Jobs.{QueueHeads, heads_with, no_heads}
 use Rattle.pf_core.specs.Progress.{QueryProgress, cancel_in, handed_out, progress_at, stopped}
 use Rattle.pf_front.proofs.Plans.{lacked_works}
-use Rattle.pf_front.proofs.Progress.{at_changed, not_none, some_is}
+use Rattle.pf_front.proofs.Progress.{at_changed, not_none, progress_of, some_is}
 use Rattle.pf_front.proofs.Tries.{same_sum, works_refl, works_trans}
 use Rattle.pf_front.specs.Answers.{GoesWithStop, IsAnswered, IsInHands, IsOutcomeOf, IsReplied, IsReplyOf, code_in}
-use Rattle.pf_front.specs.Settling.{HasParts, IsBegun, IsEvaluable, IsFound, IsSettled, IsWorkedOff, some_waits, stopped_as}
+use Rattle.pf_front.specs.Settling.{HasParts, IsBegun, IsEvaluable, IsFound, IsOffered, IsSettled, IsWorkedOff, some_waits, stopped_as}
 use Rattle.pf_front.specs.Works.{WorksOn}
 use Rattle.pf_front.specs.declared.answering.Answering.{Answering}
 use Rattle.pf_front.specs.declared.answering.Answering.TheVariants.{Waits, Answered}
@@ -25,7 +26,8 @@ use Rattle.pf_front.specs.declared.outcome.Outcome.{Outcome}
 use Rattle.pf_front.specs.declared.outcome.Outcome.TheVariants as outcome
 use Rattle.pf_journal.specs.Legal.{machine_after}
 use Rattle.pf_journal.specs.Machine.{AreSteps, Entry, IsStopped, Open, answer, answer_of, code_of, open_at, started}
-use Rattle.pf_model.specs.Direct.{Answer}
+use Rattle.pf_model.specs.Direct.{Answer, MatrixRow, failed, gathered}
+use Rattle.pf_model.specs.declared.cell.ErrorKind.{ErrorKind}
 use Rattle.pf_query.specs.Entries.{stop_after}
 use Rattle.pf_query.specs.Jobs.{is_empty}
 use Rattle.pf_query.specs.declared.answers.Collected.{Collected}
@@ -60,7 +62,7 @@ one_waits old query collected.Given new w s t = absurd (false≢true w)
 one_waits old query (collected.Parts g) new w s t = absurd (false≢true w)
 
 -- the same fact of an open query over a core of the same history
-open_over : (old new : CoreData) (query : ℕ) (o : Open) → new.journal ≡ old.journal → open_at query (machine_of old).queries ≡ Some o → open_at query (machine_of new).queries ≡ Some o
+pub open_over : (old new : CoreData) (query : ℕ) (o : Open) → new.journal ≡ old.journal → open_at query (machine_of old).queries ≡ Some o → open_at query (machine_of new).queries ≡ Some o
 open_over old new query o e there = subst (λ (j : List Entry). open_at query (machine_after started j).queries ≡ Some o) (sym e) there
 
 unbegun : (c : CoreData) (query : ℕ) → IsBegun c query → calls.IsUnbegun c query → ⊥
@@ -73,7 +75,7 @@ unbegun c query b u = by b.begun where
   by (inr (why, s)) = not_none why b.far.stop (ap (λ (f : QueryProgress). f.stop) same ∙ u.whole.stop_is) s
 
 -- what is handed out stays so
-handed : (start old : CoreData) (query : ℕ) (g : Gathered) (new : CoreData) → WorksOn start old → IsGathered old query g → IsHandedOut old query new
+pub handed : (start old : CoreData) (query : ℕ) (g : Gathered) (new : CoreData) → WorksOn start old → IsGathered old query g → IsHandedOut old query new
     → IsWorkedOff start query (collected.Parts g) new
 handed start old query g new w parts out =
     let whole = parts.counts.whole in
@@ -92,6 +94,7 @@ handed start old query g new w parts out =
           was_planned = parts.counts.was_planned;
           given = refl;
         },
+        parts.runs_are,
         subst (λ (o : Option Open). HasParts new o g) (sym there) has,
       ),
     )
@@ -144,33 +147,75 @@ code_found a outcome.Cancelled f = absurd f
 code_found a (outcome.Exhausted job) f = absurd f
 code_found a outcome.Starved f = absurd f
 
--- how many steps were evaluated of a query that is open
+-- how many steps of a query that is open were cached and evaluated
+pub cached_at : (c : CoreData) (query : ℕ) (far : QueryProgress) → progress_at query c.progress ≡ Some far → cached_of c query ≡ far.cached
+cached_at c query far is = ap cached_by is
+
 evaluated_at : (c : CoreData) (query : ℕ) (o : Open) (far : QueryProgress) → open_at query (machine_of c).queries ≡ Some o → progress_at query c.progress ≡ Some far
-    → evaluated_of c query ≡ cond far.planned (length (points o.asked.query.grid)) 0
+    → evaluated_of c query ≡ cond far.planned (length (points o.asked.query.grid) - far.cached) 0
 evaluated_at c query o far there is = ap (λ (x : Option Open). evaluated_by x (progress_at query c.progress)) there ∙ ap (evaluated_by (Some o)) is
 
-pub evaluated_all : (c : CoreData) (query : ℕ) (o : Open) (far : QueryProgress) → open_at query (machine_of c).queries ≡ Some o → progress_at query c.progress ≡ Some far
-    → far.planned ≡ true → evaluated_of c query ≡ length (points o.asked.query.grid)
-evaluated_all c query o far there is p = evaluated_at c query o far there is ∙ ap (λ (b : Bool). cond b (length (points o.asked.query.grid)) 0) p
+pub evaluated_rest : (c : CoreData) (query : ℕ) (o : Open) (far : QueryProgress) → open_at query (machine_of c).queries ≡ Some o → progress_at query c.progress ≡ Some far
+    → far.planned ≡ true → evaluated_of c query ≡ length (points o.asked.query.grid) - far.cached
+evaluated_rest c query o far there is p = evaluated_at c query o far there is ∙ ap (λ (b : Bool). cond b (length (points o.asked.query.grid) - far.cached) 0) p
 
 pub evaluated_none : (c : CoreData) (query : ℕ) (o : Open) (far : QueryProgress) → open_at query (machine_of c).queries ≡ Some o → progress_at query c.progress ≡ Some far
     → far.planned ≡ false → evaluated_of c query ≡ 0
-evaluated_none c query o far there is p = evaluated_at c query o far there is ∙ ap (λ (b : Bool). cond b (length (points o.asked.query.grid)) 0) p
+evaluated_none c query o far there is p = evaluated_at c query o far there is ∙ ap (λ (b : Bool). cond b (length (points o.asked.query.grid) - far.cached) 0) p
 
-stopped_steps : (steps code : ℕ) (b : Bool) → IsStopped code → AreSteps steps code (cond b steps 0)
-stopped_steps steps code true s = inl refl
-stopped_steps steps code false s = inr (refl, s)
+-- at most all were cached
+pub cached_within : (c : CoreData) (query : ℕ) (o : Opened) (is : IsOpened c query o) → Stands c → o.cached ≤ length (points is.opened.asked.query.grid)
+cached_within c query o is s =
+    let few = (progress_of c.limits query (machine_of c).queries c.progress is.opened is.far s.progressing is.is_open is.is_far).few in
+    let same = is.cached in
+    omega (arith, few, same)
 
--- a query whose parts were handed out is settled by its answer
-pub settled_found : (c : CoreData) (query : ℕ) (f : Outcome) (e : IsEvaluable c query) → IsFound (answer_of c.limits e.whole.opened) f → IsSettled c query f
-settled_found c query f e found = record {
+-- all of them, once it is planned
+all_steps : (c : CoreData) (query : ℕ) (o : Open) (far : QueryProgress) → open_at query (machine_of c).queries ≡ Some o → progress_at query c.progress ≡ Some far
+    → Stands c → far.planned ≡ true → cached_of c query + evaluated_of c query ≡ length (points o.asked.query.grid)
+all_steps c query o far there is s p =
+    let few = (progress_of c.limits query (machine_of c).queries c.progress o far s.progressing there is).few in
+    let cached = cached_at c query far is in
+    let evaluated = evaluated_rest c query o far there is p in
+    omega (arith, few, cached, evaluated)
+
+no_steps : (c : CoreData) (query : ℕ) (o : Open) (far : QueryProgress) → open_at query (machine_of c).queries ≡ Some o → progress_at query c.progress ≡ Some far
+    → Stands c → far.planned ≡ false → cached_of c query + evaluated_of c query ≡ 0
+no_steps c query o far there is s p =
+    let none = (progress_of c.limits query (machine_of c).queries c.progress o far s.progressing there is).none p in
+    let cached = cached_at c query far is in
+    let evaluated = evaluated_none c query o far there is p in
+    omega (arith, none, cached, evaluated)
+
+stopped_steps : (c : CoreData) (query : ℕ) (o : Open) (far : QueryProgress) (code : ℕ) (b : Bool) → far.planned ≡ b → open_at query (machine_of c).queries ≡ Some o
+    → progress_at query c.progress ≡ Some far → Stands c → IsStopped code → AreSteps (length (points o.asked.query.grid)) code (cached_of c query + evaluated_of c query)
+stopped_steps c query o far code true p there is s stop = inl (all_steps c query o far there is s p)
+stopped_steps c query o far code false p there is s stop = inr (no_steps c query o far there is s p, stop)
+
+-- a query whose parts were handed out is settled by its answer, with a matrix once it is offered
+pub settled_found : (c : CoreData) (query : ℕ) (f : Outcome) (e : IsEvaluable c query) → Stands c → (code_in f ≡ 200 → e.whole.far.offered ≡ true)
+    → IsFound (answer_of c.limits e.whole.opened) f → IsSettled c query f
+settled_found c query f e s offered found = record {
   opened = e.whole.opened;
   is_open = e.whole.is_open;
   outcome_of = outcome_found c.limits e.whole.opened f e.whole.cancelled_at found;
   stop = stop_found c query (answer_of c.limits e.whole.opened) f e.whole found;
-  answerable = record { stop = None; opened = e.whole; coded = (e.given, code_found (answer_of c.limits e.whole.opened) f found) };
-  steps = inl (evaluated_all c query e.whole.opened e.whole.far e.whole.is_open e.whole.is_far e.was_planned);
+  answerable = record { stop = None; opened = e.whole; coded = (e.given, code_found (answer_of c.limits e.whole.opened) f found); offered = offered };
+  steps = inl (all_steps c query e.whole.opened e.whole.far e.whole.is_open e.whole.is_far s e.was_planned);
 }
+
+pub settled_failed : (c : CoreData) (query step : ℕ) (kind : ErrorKind) → IsEvaluable c query → Stands c
+    → (o : Open) × (open_at query (machine_of c).queries ≡ Some o) × (answer_of c.limits o ≡ failed step kind) → IsSettled c query (outcome.Failed step kind)
+settled_failed c query step kind e s (o, there, is) =
+    let same : o ≡ e.whole.opened = some_is o e.whole.opened (sym there ∙ e.whole.is_open) in
+    settled_found c query (outcome.Failed step kind) e s (λ h. absurd (omega (arith, h))) (ap (answer_of c.limits) (sym same) ∙ is)
+
+pub settled_matrix : (old new : CoreData) (query : ℕ) (rows : List MatrixRow) → WorksOn old new → IsOffered new query → Stands new
+    → ((o : Open) → open_at query (machine_of old).queries ≡ Some o → answer_of old.limits o ≡ gathered rows) → IsSettled new query (outcome.Matrix rows)
+settled_matrix old new query rows w (e, offered) s is =
+    settled_found new query (outcome.Matrix rows) e s (λ h. offered)
+    (ap (λ (l : Limits). answer_of l e.whole.opened) w.history.limits
+    ∙ is e.whole.opened (open_over new old query e.whole.opened (sym w.history.journal) e.whole.is_open))
 
 -- a query that is stopped, by why
 outcome_stopped : (l : Limits) (o : Open) (why : Stop) → o.cancelled ≡ cancel_in (Some why) → IsOutcomeOf l o (stopped_as why)
@@ -193,21 +238,27 @@ is_stop (Cancelled place) = inr (inl refl)
 is_stop (Exhausted job) = inl refl
 is_stop Starved = inr (inr refl)
 
-pub settled_stopped : (c : CoreData) (query : ℕ) (why : Stop) → IsStoppedBy c query why → IsSettled c query (stopped_as why)
-settled_stopped c query why s = record {
+pub settled_stopped : (c : CoreData) (query : ℕ) (why : Stop) → Stands c → IsStoppedBy c query why → IsSettled c query (stopped_as why)
+settled_stopped c query why stands s = record {
   opened = s.opened;
   is_open = s.is_open;
   outcome_of = outcome_stopped c.limits s.opened why s.cancelled_at;
   stop = stop_stopped c query why s;
-  answerable = record { stop = Some why; opened = s; coded = code_stopped c.limits s.opened s.far.given why };
-  steps =
-      subst (λ (n : ℕ). AreSteps (length (points s.opened.asked.query.grid)) (code_in (stopped_as why)) n)
-      (sym (evaluated_at c query s.opened s.far s.is_open s.is_far))
-      (stopped_steps (length (points s.opened.asked.query.grid)) (code_in (stopped_as why)) s.far.planned (is_stop why));
-}
+  answerable = record {
+    stop = Some why;
+    opened = s;
+    coded = code_stopped c.limits s.opened s.far.given why;
+    offered = λ h. absurd (never why h);
+  };
+  steps = stopped_steps c query s.opened s.far (code_in (stopped_as why)) s.far.planned refl s.is_open s.is_far stands (is_stop why);
+} where
+  never : (why : Stop) → code_in (stopped_as why) ≡ 200 → ⊥
+  never (Cancelled place) h = omega (arith, h)
+  never (Exhausted job) h = omega (arith, h)
+  never Starved h = omega (arith, h)
 
 -- for want of memory
-starved : (old : CoreData) (query : ℕ) (new : CoreData) → IsWhole old query → IsLacked old query new → IsStoppedBy new query Starved
+pub starved : (old : CoreData) (query : ℕ) (new : CoreData) → IsWhole old query → IsLacked old query new → IsStoppedBy new query Starved
 starved old query new w l =
     let s = l.some w.opened w.is_open in
     record {
@@ -219,28 +270,25 @@ starved old query new w l =
       stop_is = ap (λ (x : Option Stop). Some (stop_after x Starved)) w.stop_is;
     }
 
-pub settled_starved : (old : CoreData) (query : ℕ) (new : CoreData) → IsEvaluable old query → IsLacked old query new → WorksOn old new × IsSettled new query outcome.Starved
-settled_starved old query new e l =
-    (lacked_works old query new e.whole.opened e.whole.is_open l, settled_stopped new query Starved (starved old query new e.whole l))
+pub settled_starved : (old : CoreData) (query : ℕ) (new : CoreData) → IsEvaluable old query → Stands new → IsLacked old query new → WorksOn old new × IsSettled new query outcome.Starved
+settled_starved old query new e s l =
+    (lacked_works old query new e.whole.opened e.whole.is_open l, settled_stopped new query Starved s (starved old query new e.whole l))
 
 -- ---- the answer
 
-pub replied : (c : CoreData) (by : By) (query : ℕ) (r : Reply) (new : CoreData) → IsSettled c query r.outcome → r.code ≡ code_in r.outcome → r.cached ≡ 0
-    → r.evaluated ≡ evaluated_of c query → Enters c by (answer query r.code 0 (evaluated_of c query)) new → AreClosed c query new → IsReplied c by query r new
+pub replied : (c : CoreData) (by : By) (query : ℕ) (r : Reply) (new : CoreData) → IsSettled c query r.outcome → r.code ≡ code_in r.outcome → r.cached ≡ cached_of c query
+    → r.evaluated ≡ evaluated_of c query → Enters c by (answer query r.code (cached_of c query) (evaluated_of c query)) new → AreClosed c query new → IsReplied c by query r new
 replied c by query r new s code cached evaluated entered closed = record {
   opened = s.opened;
   is_open = s.is_open;
   middle = c;
   works = works_refl c;
   stop = s.stop;
+  cached = cached;
+  evaluated = evaluated;
   entered = rw cached (rw evaluated entered);
   closed = closed;
-  is = record {
-    coded = code;
-    outcome_of = s.outcome_of;
-    uncached = cached;
-    steps = rw cached (rw evaluated (rw code (rw (zero-add (evaluated_of c query)) s.steps)));
-  };
+  is = record { coded = code; outcome_of = s.outcome_of; steps = rw cached (rw evaluated (rw code s.steps)) };
 }
 
 -- what is answered behind works
@@ -253,6 +301,8 @@ answered_behind old mid by query (Answered r) new w a = record {
   middle = a.middle;
   works = works_trans old mid a.middle w a.works;
   stop = a.stop;
+  cached = a.cached;
+  evaluated = a.evaluated;
   entered = a.entered;
   closed = a.closed;
   is = subst (λ (l : Limits). IsReplyOf l a.opened r) w.history.limits a.is;

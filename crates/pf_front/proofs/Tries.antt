@@ -123,7 +123,7 @@ follows_evaluated mid held worked.NotHeld new o there own in_hand e = absurd (in
 
 put_back : (mid : CoreData) (held : Held) (new : CoreData) (waiting : QueueHeads) (ring : List ℕ)
     → waiting.hands ≡ without_hand (hand_of held) (queue_at mid held.head.tenant).hands
-    → ChangesQueue mid held.head.tenant waiting ring mid.progress new → Follows mid held.head.tenant (hand_of held) new
+    → ChangesQueue mid held.head.tenant waiting ring mid.progress mid.kept new → Follows mid held.head.tenant (hand_of held) new
 put_back mid held new waiting ring hands r = record {
   history = r.history;
   failed = same_sum mid.failed new.failed r.failed;

@@ -3,7 +3,7 @@ use Rattle.std.specs.Prelude.{◌≡◌, ℕ, ◌+◌, ◌<◌, None, Some, leng
 use Rattle.pf_base.specs.Grids.{points}
 use Rattle.pf_base.specs.declared.plain.By.{By}
 use Rattle.pf_base.specs.declared.plain.Limits.{Limits}
-use Rattle.pf_core.specs.Calls.{IsStoppedBy, IsWhole}
+use Rattle.pf_core.specs.Calls.{IsStoppedBy, IsWhole, cached_of, evaluated_of}
 use Rattle.pf_core.specs.Cores.{AreClosed, CoreData, Enters, in_hand_of, machine_of, queued_of}
 use Rattle.pf_front.specs.Works.{WorksOn}
 use Rattle.pf_front.specs.declared.answering.Answering.{Answering}
@@ -40,11 +40,10 @@ GoesWithStop c query outcome.Cancelled = (place : ℕ) × IsStoppedBy c query (C
 GoesWithStop c query (outcome.Exhausted job) = IsStoppedBy c query (Exhausted job)
 GoesWithStop c query outcome.Starved = IsStoppedBy c query Starved
 
--- a reply tells what came out, its code, and that no step was cached
+-- a reply tells what came out, its code, and how many steps were cached and evaluated
 pub record IsReplyOf (l : Limits) (o : Open) (reply : Reply) : Type 0 where
   pub coded : reply.code ≡ code_in reply.outcome
   pub outcome_of : IsOutcomeOf l o reply.outcome
-  pub uncached : reply.cached ≡ 0
   pub steps : AreSteps (length (points o.asked.query.grid)) reply.code (reply.cached + reply.evaluated)
 
 -- an open query was answered, after work that entered nothing
@@ -54,6 +53,8 @@ pub record IsReplied (old : CoreData) (by : By) (query : ℕ) (reply : Reply) (n
   pub middle : CoreData
   pub works : WorksOn old middle
   pub stop : GoesWithStop middle query reply.outcome
+  pub cached : reply.cached ≡ cached_of middle query
+  pub evaluated : reply.evaluated ≡ evaluated_of middle query
   pub entered : Enters middle by (answer query reply.code reply.cached reply.evaluated) new
   pub closed : AreClosed middle query new
   pub is : IsReplyOf old.limits opened reply

@@ -1,3 +1,5 @@
 pub mod Answers
+pub mod Keeps
 pub mod Settling
+pub mod Spans
 pub mod Works

@@ -1,20 +1,23 @@
 //! Answers of open queries.
 
 ghost use Rattle.std.specs.Prelude.{◌≡◌, ◌<◌, ◌≤◌, IfOk, IsSome, List, [], ℕ, Some, None};
-ghost use Rattle.pf_core.specs.Calls.{IsStoppedBy, evaluated_of};
+ghost use Rattle.pf_core.specs.Calls.{IsStoppedBy, cached_of, evaluated_of};
 ghost use Rattle.pf_core.specs.Cores.{Stands, machine_of, tries_left};
 ghost use Rattle.pf_front.specs.Answers.{IsAnswered, code_in};
-ghost use Rattle.pf_front.specs.Settling.{IsBegun, IsEvaluable, IsFound, IsSettled, IsWorkedOff, some_waits, stopped_as};
+ghost use Rattle.pf_front.specs.Settling.{AreCellsOver, AreOfferable, IsBegun, IsEvaluable, IsFoundFor, IsOffered, IsSettled, IsWorkedOff, some_waits, stopped_as};
+ghost use Rattle.pf_front.specs.Spans.{all_of};
 ghost use Rattle.pf_front.specs.Works.{IsIdle, WorksOn};
-ghost use Rattle.pf_journal.specs.Machine.{Open, answer_of, open_at};
+ghost use Rattle.pf_journal.specs.Machine.{Open, open_at};
 
-use crate::outcome::{Outcome, outcome_of_parts, outcome_of_whole};
+use crate::outcome::{Found, Outcome, found_of_parts, found_of_whole, matrix_of};
 use crate::planning::plan;
 use crate::working::work;
 use pf_base::{By, OutOfMemory};
+use pf_columns::Cells;
 use pf_core::Core;
+use pf_extent::DoneCells;
 use pf_io::{Gate, Hop};
-use pf_query::{Asked, Collected, Stop};
+use pf_query::{Asked, Collected, Stop, cover_more};
 use std::alloc::Global;
 
 /// What a query was answered with: the code, how many of its steps were cached and evaluated, and what came out of it.
@@ -112,17 +115,68 @@ fn code_of(found: &Outcome) -> u16
     }
 }
 
-/// What came out of an open query, which is stopped where memory ran out.
-fn or_starved(core: &mut Core, query: u64, found: Result<Outcome, OutOfMemory>) -> Outcome
+/// Offers what was evaluated of an open query to the cache, unless it is offered already.
+fn offer(core: &mut Core, query: u64, noted: Vec<DoneCells>)
     requires stands { Stands core.old }
     requires evaluable { IsEvaluable core.old query }
-    requires found { IfOk found (λ f. (o : Open) → open_at query (machine_of core.old).queries ≡ Some o → IsFound (answer_of core.old.limits o) f) }
+    requires noted { AreOfferable core.old query noted.items }
+    ensures stands { Stands core.new }
+    ensures works { WorksOn core.old core.new }
+    ensures offered { IsOffered core.new query }
+{
+    let Some(opened) = core.look(query) else {
+        unreachable!()
+    };
+    if !opened.offered {
+        let _kept = core.keep(query, noted);
+    }
+}
+
+/// What comes out of an open query by the cells of its pieces. What was evaluated of it is kept. Where memory runs out the query is
+/// stopped.
+fn settled_by_cells(
+    alloc: Global,
+    core: &mut Core,
+    query: u64,
+    pieces: Vec<Cells>,
+    noted: Vec<DoneCells>,
+) -> Outcome
+    requires stands { Stands core.old }
+    requires evaluable { IsEvaluable core.old query }
+    requires cells { (o : Open) → open_at query (machine_of core.old).queries ≡ Some o → AreCellsOver core.old.limits o (all_of pieces.items) }
+    requires noted { AreOfferable core.old query noted.items }
+    ensures stands { Stands core.new }
+    ensures works { WorksOn core.old core.new }
+    ensures settled { IsSettled core.new query result }
+{
+    let Ok(matrix) = matrix_of(alloc, core, query, pieces) else {
+        core.lack_query(query);
+        return Outcome::Starved;
+    };
+    offer(core, query, noted);
+    Outcome::Matrix(matrix)
+}
+
+/// What comes out of an open query by what was found of it. Nothing is kept of one that has an error, and one for which memory ran
+/// out is stopped.
+fn settled_by(
+    alloc: Global,
+    core: &mut Core,
+    query: u64,
+    found: Result<Found, OutOfMemory>,
+) -> Outcome
+    requires stands { Stands core.old }
+    requires evaluable { IsEvaluable core.old query }
+    requires found { IfOk found (IsFoundFor core.old query) }
     ensures stands { Stands core.new }
     ensures works { WorksOn core.old core.new }
     ensures settled { IsSettled core.new query result }
 {
     match found {
-        Ok(found) => found,
+        Ok(Found::Cells { pieces, noted }) => {
+            settled_by_cells(alloc, core, query, pieces, noted)
+        }
+        Ok(Found::Failed { step, kind }) => Outcome::Failed { step, kind },
         Err(OutOfMemory) => {
             core.lack_query(query);
             Outcome::Starved
@@ -130,7 +184,18 @@ fn or_starved(core: &mut Core, query: u64, found: Result<Outcome, OutOfMemory>) 
     }
 }
 
-/// How many steps of an open query were evaluated: all, once it is planned.
+/// How many steps of an open query were cached at its plan.
+fn cached_steps(core: &Core, query: u64) -> u32
+    requires { IsSome (open_at query (machine_of core.now).queries) }
+    ensures { result ≡ cached_of core.now query }
+{
+    let Some(opened) = core.look(query) else {
+        unreachable!()
+    };
+    opened.cached
+}
+
+/// How many steps of an open query were evaluated: all others, once it is planned.
 fn evaluated_steps(core: &Core, query: u64) -> u32
     requires { IsSome (open_at query (machine_of core.now).queries) }
     ensures { result ≡ evaluated_of core.now query }
@@ -142,7 +207,7 @@ fn evaluated_steps(core: &Core, query: u64) -> u32
         return 0;
     }
     let asked: &Asked = opened.asked;
-    asked.grid.len()
+    asked.grid.len() - opened.cached
 }
 
 /// Answers an open query with what came out of it.
@@ -152,11 +217,12 @@ fn answer_with(core: &mut Core, by: By, query: u64, found: Outcome) -> Answering
     ensures answered { IsAnswered core.old by query result core.new }
 {
     let code = code_of(&found);
+    let cached = cached_steps(core, query);
     let evaluated = evaluated_steps(core, query);
     core.answer(by, query, code);
     Answering::Answered(Reply {
         code,
-        cached: 0,
+        cached,
         evaluated,
         outcome: found,
     })
@@ -169,17 +235,18 @@ fn settle(alloc: Global, core: &mut Core, by: By, query: u64, told: Collected) -
     ensures stands { Stands core.new }
     ensures answered { IsAnswered core.old by query result core.new }
 {
+    cover_more();
     match told {
         Collected::Stopped { why } => answer_with(core, by, query, stopped_by(why)),
         Collected::Waiting { in_hand, .. } => Answering::Waits { jobs: in_hand },
         Collected::Given => {
-            let found = outcome_of_whole(alloc, core, query);
-            let found = or_starved(core, query, found);
+            let found = found_of_whole(alloc, core, query);
+            let found = settled_by(alloc, core, query, found);
             answer_with(core, by, query, found)
         }
         Collected::Parts(gathered) => {
-            let found = outcome_of_parts(alloc, core, query, gathered);
-            let found = or_starved(core, query, found);
+            let found = found_of_parts(alloc, core, query, gathered);
+            let found = settled_by(alloc, core, query, found);
             answer_with(core, by, query, found)
         }
         Collected::Unplanned => unreachable!(),
@@ -187,8 +254,8 @@ fn settle(alloc: Global, core: &mut Core, by: By, query: u64, told: Collected) -
 }
 
 /// Does what is left of an open query, as an actor that has no job in hand, and answers it: it is planned, if it wasn't; while one
-/// of its jobs waits, the first job of all that wait is done, whosever it is; and its parts are gathered. Where jobs of it are in
-/// the hands of others, nothing is answered.
+/// of its jobs waits, the first job of all that wait is done, whosever it is; its parts are gathered, and what was evaluated is
+/// kept. Where jobs of it are in the hands of others, nothing is answered.
 pub fn answer<H: Hop, G: Gate>(
     alloc: Global,
     core: &mut Core,

@@ -1,33 +1,22 @@
 //! What comes out of a query.
 
-ghost use Rattle.std.specs.Arc.{arc_value};
-ghost use Rattle.std.specs.Prelude.{◌≡◌, ◌≤◌, IfOk, IsSome, List, Some, drop, length, take};
-ghost use Rattle.pf_base.specs.Grids.{points};
-ghost use Rattle.pf_base.specs.declared.plain.Limits.{Limits};
-ghost use Rattle.pf_base.specs.declared.plain.Row.{Row};
-ghost use Rattle.pf_columns.specs.Runs.{points_over};
-ghost use Rattle.pf_core.specs.Calls.{BindsOpen};
+ghost use Rattle.std.specs.Prelude.{◌≡◌, [], IfOk, IsSome, Some, nat_eq};
 ghost use Rattle.pf_core.specs.Cores.{machine_of};
-ghost use Rattle.pf_core.specs.Jobs.{AreParts, steps_in};
-ghost use Rattle.pf_eval.specs.RunValues.{AreValues};
-ghost use Rattle.pf_front.specs.Settling.{AreFirstParts, AreLegValues, AreMergeable, HasParts, IsFound};
-ghost use Rattle.pf_journal.specs.Machine.{Open, open_at};
-ghost use Rattle.pf_model.specs.Direct.{answered, direct, evaluated};
-ghost use Rattle.pf_model.specs.Log.{store_of};
-ghost use Rattle.pf_model.specs.Trees.{Tree};
-ghost use Rattle.pf_shard.specs.Bound.{AreBoundOver};
-ghost use Rattle.pf_shard.specs.Lawful.{IsLawful, leg_count, legs_data};
+ghost use Rattle.pf_front.specs.Settling.{AreCellsOver, HasParts, IsFoundOf, IsWholeFound, whole_runs};
+ghost use Rattle.pf_front.specs.Spans.{all_of};
+ghost use Rattle.pf_journal.specs.Machine.{Open, answer_of, open_at};
+ghost use Rattle.pf_model.specs.Direct.{gathered};
 
-use crate::planning::{BoundLegs, legs_of};
+use crate::joining::{JoinedPieces, LeftCells, joined_pieces};
+use crate::parts::all_cells;
+use crate::whole::whole_parts;
 use pf_base::{Grid, OutOfMemory};
-use pf_block::Snap;
-use pf_columns::StepCells;
+use pf_columns::{Cells, join_cells};
 use pf_core::Core;
-use pf_eval::{EvalError, eval_leg, gather_runs, merge};
+use pf_extent::DoneCells;
 use pf_matrix::Matrix;
 use pf_model::ErrorKind;
 use pf_query::{Asked, Gathered};
-use pf_shard::{Legs, Part, leg_count};
 use std::alloc::Global;
 use std::collections::VecDeque;
 
@@ -42,84 +31,25 @@ pub enum Outcome {
     Starved,
 }
 
-/// The first parts that are left, so many: they are left no more.
-fn next_parts(
-    alloc: Global,
-    left: &mut VecDeque<Part>,
-    count: u32,
-) -> Result<Vec<Part>, OutOfMemory>
-    requires { count ≤ length left.old.items }
-    ensures parts { IfOk result (λ ps. ps.items ≡ take count left.old.items) }
-    ensures left { IfOk result (λ _. left.new.items ≡ drop count left.old.items) }
-{
-    let mut parts = Vec::with_capacity(alloc, count as usize)?;
-    for _ in 0..count {
-        let Some(part) = left.pop_front() else {
-            unreachable!()
-        };
-        parts.push(part)?;
-    }
-    Ok(parts)
-}
-
-/// What a query is over runs, by the parts of its legs, run by run and leg by leg. The parts are taken.
-fn merged(
-    alloc: Global,
-    legs: &Legs,
-    runs: &[Grid],
-    parts: Vec<Part>,
-) -> Result<Vec<StepCells>, OutOfMemory>
-    requires { AreMergeable legs.now runs.now parts.items }
-    ensures many { IfOk result (λ v. length v.items ≡ length runs.now) }
-    ensures values { IfOk result (λ v. (samples : List Row) → AreLegValues samples legs.now runs.now parts.items
-        → AreValues samples legs.now.resolved.query runs.now v.items) }
-{
-    let count = leg_count(legs);
-    let mut left = VecDeque::from_vec(parts);
-    let mut steps = Vec::with_capacity(alloc, runs.len())?;
-    for run in runs {
-        let own = next_parts(alloc, &mut left, count)?;
-        steps.push(merge(alloc, legs, own, run)?)?;
-    }
-    Ok(steps)
-}
-
-/// What the steps of runs are together: the matrix, or the first step that has an error.
-fn answer_over(
-    alloc: Global,
-    grid: &Grid,
-    runs: &[Grid],
-    steps: Vec<StepCells>,
-) -> Result<Outcome, OutOfMemory>
-    requires as_many { length steps.items ≡ length runs.now }
-    requires all { points_over runs.now ≡ points grid.now }
-    ensures { IfOk result (λ found. (samples : List Row) (query : Tree) → AreValues samples query runs.now steps.items
-        → IsFound (answered (evaluated samples query (points grid.now))) found) }
-{
-    match gather_runs(alloc, grid, runs, steps) {
-        Ok(matrix) => Ok(Outcome::Matrix(matrix)),
-        Err(EvalError::Execution { step, kind }) => Ok(Outcome::Failed { step, kind }),
-        Err(EvalError::OutOfMemory) => Err(OutOfMemory),
-    }
-}
-
-/// What comes out of a query over a grid, by its parts.
-fn outcome_of(alloc: Global, grid: &Grid, gathered: Gathered) -> Result<Outcome, OutOfMemory>
-    requires parts { AreMergeable (arc_value gathered.legs) gathered.runs.items gathered.parts.items }
-    requires all { steps_in gathered.runs.items ≡ points grid.now }
-    ensures { IfOk result (λ found. (l : Limits) (at : Open) → AreParts l at (arc_value gathered.legs) gathered.runs.items gathered.parts.items
-        → grid.now ≡ at.asked.query.grid → IsFound (direct (store_of l.window at.log).samples at.asked.query) found) }
-{
-    let Gathered { legs, runs, parts } = gathered;
-    let steps = merged(alloc, &legs, &runs, parts)?;
-    let found = answer_over(alloc, grid, &runs, steps)?;
-    Ok(found)
+/// What was found of an open query: the cells of its pieces, and again those of each piece in which a step was evaluated, with its
+/// run; or the first step that has an error, by its time in milliseconds.
+#[derive(Drop)]
+pub(crate) enum Found {
+    Cells {
+        pieces: Vec<Cells>,
+        noted: Vec<DoneCells>,
+    },
+    Failed {
+        step: u64,
+        kind: ErrorKind,
+    },
 }
 
 /// The grid of an open query.
-fn grid_of(core: &Core, query: u64) -> Grid
+pub(crate) fn grid_of(core: &Core, query: u64) -> Grid
     requires { IsSome (open_at query (machine_of core.now).queries) }
-    ensures { (o : Open) → open_at query (machine_of core.now).queries ≡ Some o → result ≡ o.asked.query.grid }
+    ensures grid { (o : Open) → open_at query (machine_of core.now).queries ≡ Some o → result ≡ o.asked.query.grid }
+    ensures instant { (o : Open) → open_at query (machine_of core.now).queries ≡ Some o → o.asked.instant ≡ nat_eq o.asked.query.grid.step 0 }
 {
     let Some(opened) = core.look(query) else {
         unreachable!()
@@ -128,60 +58,68 @@ fn grid_of(core: &Core, query: u64) -> Grid
     asked.grid
 }
 
-/// What all legs of a query are over a run.
-fn parts_over(alloc: Global, legs: &Legs, snap: &Snap, run: &Grid) -> Result<Vec<Part>, OutOfMemory>
-    requires lawful { IsLawful (legs_data legs.now) }
-    requires bound { AreBoundOver legs.now snap.now.labels }
-    ensures { IfOk result (λ ps. AreFirstParts legs.now snap.now run.now (leg_count (legs_data legs.now)) ps.items) }
-{
-    let count = leg_count(legs);
-    let mut parts = Vec::with_capacity(alloc, count as usize)?;
-    for leg in 0..count {
-        parts.push(eval_leg(alloc, legs, leg, snap, run)?)?;
-    }
-    Ok(parts)
-}
-
-/// The parts of an open query over its whole grid, as one run.
-fn whole_parts(alloc: Global, core: &Core, query: u64) -> Result<Gathered, OutOfMemory>
-    requires { IsSome (open_at query (machine_of core.now).queries) }
-    ensures { IfOk result (HasParts core.now (open_at query (machine_of core.now).queries)) }
-{
-    let grid = grid_of(core, query);
-    let BoundLegs { legs, snap } = legs_of(alloc, core, query)?;
-    let mut runs = Vec::new(alloc);
-    runs.push(grid)?;
-    let parts = parts_over(alloc, &legs, &snap, &grid)?;
-    Ok(Gathered { legs, runs, parts })
-}
-
-/// What comes out of an open query by its parts.
-pub(crate) fn outcome_of_parts(
+/// What is found of an open query by its parts.
+pub(crate) fn found_of_parts(
     alloc: Global,
     core: &Core,
     query: u64,
     gathered: Gathered,
-) -> Result<Outcome, OutOfMemory>
+) -> Result<Found, OutOfMemory>
     requires { HasParts core.now (open_at query (machine_of core.now).queries) gathered }
-    ensures { IfOk result (λ found. (o : Open) → open_at query (machine_of core.now).queries ≡ Some o
-        → IsFound (direct (store_of core.now.limits.window o.log).samples o.asked.query) found) }
+    ensures found { IfOk result (λ found. (o : Open) → open_at query (machine_of core.now).queries ≡ Some o → IsFoundOf core.now.limits o gathered.runs.items found) }
+    ensures whole { gathered.cached.items ≡ [] → IfOk result (λ found. (o : Open) → open_at query (machine_of core.now).queries ≡ Some o → IsWholeFound core.now.limits o found) }
 {
     let grid = grid_of(core, query);
-    let found = outcome_of(alloc, &grid, gathered)?;
+    let Gathered {
+        legs,
+        runs,
+        parts,
+        cached,
+    } = gathered;
+    match all_cells(alloc, &legs, &runs, parts)? {
+        Ok(evaluated) => {
+            let left = LeftCells {
+                cached: VecDeque::from_vec(cached),
+                evaluated: VecDeque::from_vec(evaluated),
+            };
+            let JoinedPieces { cells, noted } = joined_pieces(alloc, grid, core.interval(), left)?;
+            Ok(Found::Cells {
+                pieces: cells,
+                noted,
+            })
+        }
+        Err(failed) => Ok(Found::Failed {
+            step: failed.time,
+            kind: failed.kind,
+        }),
+    }
+}
+
+/// What is found of an open query, which is evaluated anew at all its steps.
+pub(crate) fn found_of_whole(alloc: Global, core: &Core, query: u64) -> Result<Found, OutOfMemory>
+    requires { IsSome (open_at query (machine_of core.now).queries) }
+    ensures found { IfOk result (λ found. (o : Open) → open_at query (machine_of core.now).queries ≡ Some o
+        → IsFoundOf core.now.limits o (whole_runs core.now.limits o) found) }
+    ensures whole { IfOk result (λ found. (o : Open) → open_at query (machine_of core.now).queries ≡ Some o → IsWholeFound core.now.limits o found) }
+{
+    let gathered = whole_parts(alloc, core, query)?;
+    let found = found_of_parts(alloc, core, query, gathered)?;
     Ok(found)
 }
 
-/// What comes out of an open query, which is evaluated anew.
-pub(crate) fn outcome_of_whole(
+/// The matrix of the cells of an open query's pieces.
+pub(crate) fn matrix_of(
     alloc: Global,
     core: &Core,
     query: u64,
-) -> Result<Outcome, OutOfMemory>
-    requires { IsSome (open_at query (machine_of core.now).queries) }
-    ensures { IfOk result (λ found. (o : Open) → open_at query (machine_of core.now).queries ≡ Some o
-        → IsFound (direct (store_of core.now.limits.window o.log).samples o.asked.query) found) }
+    pieces: Vec<Cells>,
+) -> Result<Matrix, OutOfMemory>
+    requires open { IsSome (open_at query (machine_of core.now).queries) }
+    requires cells { (o : Open) → open_at query (machine_of core.now).queries ≡ Some o → AreCellsOver core.now.limits o (all_of pieces.items) }
+    ensures { IfOk result (λ m. (o : Open) → open_at query (machine_of core.now).queries ≡ Some o → answer_of core.now.limits o ≡ gathered m) }
 {
-    let gathered = whole_parts(alloc, core, query)?;
-    let found = outcome_of_parts(alloc, core, query, gathered)?;
-    Ok(found)
+    let grid = grid_of(core, query);
+    let cells = join_cells(alloc, pieces)?;
+    let matrix = cells.gather(alloc, &grid)?;
+    Ok(matrix)
 }

@@ -62,7 +62,7 @@ fn may_plan(core: &Core, query: u64) -> Result<(), PlanError>
 fn try_plan(alloc: Global, core: &mut Core, query: u64) -> Result<Planned, PlanError>
     requires { IsSome (open_at query (machine_of core.old).queries) }
     ensures stands { Stands core.new }
-    ensures ok { IfOk result (λ p. IsPlanned core.old query p.jobs core.new) }
+    ensures ok { IfOk result (λ p. IsPlanned core.old query p core.new) }
     ensures err { IfErr result (λ e. IsUnplanned core.old query e core.new) }
 {
     may_plan(core, query)?;
@@ -70,13 +70,13 @@ fn try_plan(alloc: Global, core: &mut Core, query: u64) -> Result<Planned, PlanE
     core.plan(query, bound.legs, bound.snap)
 }
 
-/// Plans an open query over its tenant's samples at the ask: from then on a job for each of its runs and legs waits. Where memory
-/// runs out the query is stopped.
+/// Plans an open query over its tenant's samples at the ask: from then on a job waits for each run of its steps that aren't cached
+/// and each of its legs. Where memory runs out the query is stopped.
 pub fn plan(alloc: Global, core: &mut Core, query: u64) -> Result<Planned, PlanError>
     requires { IsSome (open_at query (machine_of core.old).queries) }
     ensures stands { Stands core.new }
     ensures works { WorksOn core.old core.new }
-    ensures ok { IfOk result (λ p. IsPlanned core.old query p.jobs core.new) }
+    ensures ok { IfOk result (λ p. IsPlanned core.old query p core.new) }
     ensures err { IfErr result (λ e. IsNotPlanned core.old query e core.new) }
 {
     match try_plan(alloc, core, query) {
