@@ -43,7 +43,6 @@ use Rattle.pf_client.proofs.Steps.{grows_entered, grows_on, grows_works, step_en
 use Rattle.pf_client.proofs.Works.{closed_idle, closed_jobs, open_under}
 use Rattle.pf_client.specs.Asks.{IsAnswerStep, IsAskAt, IsBody, IsFullWhat, IsNoTenantWhat, IsQueryAnswer, IsRefusedBody, IsUnanswered, SlotRight, Slots, answers as closes_query, is_query, outcome_body, told_with, wanted_by}
 use Rattle.pf_client.specs.Clients.{Grows, IsKnown, IsStep, Naming, naming}
-use Rattle.pf_client.specs.Replays.{IsUncached}
 use Rattle.pf_client.specs.Going.{own_of}
 use Rattle.pf_client.specs.Hands.{HaveHands, IsLive, KeepsHands, is_job_of, jobs_in_hand}
 use Rattle.pf_client.specs.declared.client.Client.{Client}
@@ -203,9 +202,6 @@ said_as : (number : ℕ) (id : List ℕ) (c : Body) (code : ℕ) (word text : Li
 said_as number id c code word text e f g =
     ap (λ (x : ℕ). unanswered number id (decimal x) (text_of c)) e ∙ ap (λ (x : List ℕ). unanswered number id x (text_of c)) f ∙ ap (λ (x : List ℕ). unanswered number id word x) g
 
-uncached_zero : (q code cached evaluated : ℕ) → cached ≡ 0 → IsUncached (machine.answer q code cached evaluated)
-uncached_zero q code cached evaluated e = e
-
 module _ (known : Known) (above : List Ran) (hands : List Hand) (old new : Client) (held : new.hands ≡ old.hands) (number : ℕ) (id : List ℕ) (k : ℕ) where
   -- an open query is answered
   pub step_answered : (by : By) (q : ℕ) (reply : Reply) (o : Open) (a : Asked) (b : Body) → IsKnown known new.core → (h : IsAskAt known above (own_of old.core) k q)
@@ -235,7 +231,7 @@ module _ (known : Known) (above : List Ran) (hands : List Hand) (old new : Clien
         step =
             step_entered known (naming (own_of old.core) above hands (script.answer id k)) old new by (record { number = number; line = script.answer id k })
             (told_with b) what kn entered client line of_ask beside
-            (room_before old.core new.core by what entered stands) (uncached_zero q reply.code reply.cached reply.evaluated r.is.uncached) (goes_with b)
+            (room_before old.core new.core by what entered stands) (goes_with b)
             (tries_on old.core new.core (told_with b) (omega (arith, more, closed_failed)) (untried b))
             (record {
               held = ap (λ v. v.items) held;

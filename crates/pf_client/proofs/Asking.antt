@@ -233,7 +233,7 @@ module _ (known : Known) (n : Told → Naming) (old new : Client) (held : new.ha
       ask_line (λ (x : Line). wanted_by known x ≡ Some (Ok a) → IsAskStep known n old (record { number = number; line = x }) run.On new) id tenant line own_it
       (λ start end step query w. record {
         step = step_entered known n old new by (record { number = number; line = script.ask id tenant start end step query }) nothing what k entered client by_line
-            (named, w) refl e.room tt refl tried keeps said';
+            (named, w) refl e.room refl tried keeps said';
         keeps = record {
           kept = slot.Asked place;
           is = record { place = e.here; stands = stands; by_ask = tt; opened = e.opened; is_open = is_open };
@@ -242,7 +242,7 @@ module _ (known : Known) (n : Told → Naming) (old new : Client) (held : new.ha
       })
       (λ time query w. record {
         step = step_entered known n old new by (record { number = number; line = script.instant id tenant time query }) nothing what k entered client by_line
-            (named, w) refl e.room tt refl tried keeps said';
+            (named, w) refl e.room refl tried keeps said';
         keeps = record {
           kept = slot.Asked place;
           is = record { place = e.here; stands = stands; by_ask = tt; opened = e.opened; is_open = is_open };
@@ -263,12 +263,12 @@ module _ (known : Known) (n : Told → Naming) (old new : Client) (held : new.ha
       ask_line (λ (x : Line). wanted_by known x ≡ Some (Ok a) → IsAskStep known n old (record { number = number; line = x }) run.On new) id tenant line own_it
       (λ start end step query w. record {
         step = step_entered known n old new by (record { number = number; line = script.ask id tenant start end step query }) nothing (full e.number outstanding) k e.entered client by_line
-            (named, is_asked _ a w) refl room tt refl (works_tries old.core new.core nothing works refl) (works_keep old new works held) said;
+            (named, is_asked _ a w) refl room refl (works_tries old.core new.core nothing works refl) (works_keep old new works held) said;
         keeps = record { kept = slot.Full; is = tt; slots = kept };
       })
       (λ time query w. record {
         step = step_entered known n old new by (record { number = number; line = script.instant id tenant time query }) nothing (full e.number outstanding) k e.entered client by_line
-            (named, is_asked _ a w) refl room tt refl (works_tries old.core new.core nothing works refl) (works_keep old new works held) said;
+            (named, is_asked _ a w) refl room refl (works_tries old.core new.core nothing works refl) (works_keep old new works held) said;
         keeps = record { kept = slot.Full; is = tt; slots = kept };
       }) wanted
 
@@ -283,12 +283,12 @@ module _ (known : Known) (n : Told → Naming) (old new : Client) (held : new.ha
       ask_line (λ (x : Line). wanted_by known x ≡ Some (Ok a) → IsAskStep known n old (record { number = number; line = x }) run.On new) id tenant line own_it
       (λ start end step query w. record {
         step = step_entered known n old new by (record { number = number; line = script.ask id tenant start end step query }) nothing (no_tenant tenant) k e client by_line
-            (refl, is_asked _ a w) refl room tt refl (works_tries old.core new.core nothing works refl) (works_keep old new works held) said;
+            (refl, is_asked _ a w) refl room refl (works_tries old.core new.core nothing works refl) (works_keep old new works held) said;
         keeps = record { kept = slot.TooManyTenants; is = tt; slots = kept };
       })
       (λ time query w. record {
         step = step_entered known n old new by (record { number = number; line = script.instant id tenant time query }) nothing (no_tenant tenant) k e client by_line
-            (refl, is_asked _ a w) refl room tt refl (works_tries old.core new.core nothing works refl) (works_keep old new works held) said;
+            (refl, is_asked _ a w) refl room refl (works_tries old.core new.core nothing works refl) (works_keep old new works held) said;
         keeps = record { kept = slot.TooManyTenants; is = tt; slots = kept };
       }) wanted
 

@@ -135,7 +135,7 @@ module _ (known : Known) (above : List Ran) (hands : List Hand) (old new : Clien
         let before = known_before known old.core new.core e.more e.limits e.grown kn in
         let named : tenant ≡ asker = owner_named owned.opened tenant before (open_in known above old.core k q old.core.limits new.core.names (legal_before old.core new.core by (cancel q) e stands) alone h) owned.is_open owned.named in
         step_entered known (naming (own_of old.core) above hands (script.cancel id k tenant)) old new by (record { number = number; line = script.cancel id k tenant }) nothing (cancel q) kn e client line
-        (of_ask, named) refl (room_before old.core new.core by (cancel q) e stands) tt refl
+        (of_ask, named) refl (room_before old.core new.core by (cancel q) e stands) refl
         (tries_same old.core new.core nothing left.1.0 refl) (keeps_hands old new (ap (λ v. v.items) held) (cancelled_hands old.core new.core q owned.opened owned.is_open left)) said
 
     -- a query of another tenant

@@ -27,8 +27,7 @@ use Rattle.pf_client.proofs.HandLines.{closes_it, hands_next, live_before, open_
 use Rattle.pf_client.proofs.Onward.{each_snoc, machine-snoc, own_below, own_on, own_with, text_on, woven_on}
 use Rattle.pf_client.proofs.SlotLaws.{LeavesSlot, asked_below as ask_below, full_shut, slot_shut, slots_answered, slots_as, slots_asked, slots_same, stranger_shut}
 use Rattle.pf_client.specs.Asks.{AreKept, AskRuns, AsksAs, HaveSlots, IsAnswerStep, IsAskStep, IsSlot, SlotRight, Slots, answers, is_query, left_of}
-use Rattle.pf_client.specs.Clients.{Ends, Grows, IsKnown, IsStep, IsUncachedBy, Naming, Runs, entries_by, entry_by, moment_with, naming, turn_by}
-use Rattle.pf_client.specs.Replays.{IsUncached}
+use Rattle.pf_client.specs.Clients.{Ends, Grows, IsKnown, IsStep, Naming, Runs, entries_by, entry_by, moment_with, naming, turn_by}
 use Rattle.pf_client.specs.Going.{AreAsked, Goes, Going, GoesOn, GoesOnWith, HasRun, HasTold, IsGoing, hands_last, last_first, own_of}
 use Rattle.pf_client.specs.Hands.{HaveHands}
 use Rattle.pf_client.specs.Queries.{IsTold}
@@ -75,10 +74,6 @@ each_by : (P : Entry → Type 0) (journal : List Entry) (n : ℕ) (entered : Opt
 each_by P journal n None h f = subst (Each P) (sym (append-nil journal)) h
 each_by P journal n (Some what) h f = each_snoc P journal (entry_by n what) h (f what refl)
 
-uncached_by : (entered : Option What) → IsUncachedBy entered → (what : What) → entered ≡ Some what → IsUncached what
-uncached_by None h what e = cc
-uncached_by (Some w) h what e = let same : w ≡ what = cc in subst IsUncached same h
-
 -- ---- the machine behind a line
 
 count_on : (journal : List Entry) (n : ℕ) (entered : Option What) → (machine_after started journal).count ≤ (machine_after started (journal ++ entries_by n entered)).count
@@ -114,8 +109,6 @@ module _ (known : Known) (lines : List Numbered) (told : List Told) (l : Numbere
         (subst (λ (above : List Ran). new.out.items ≡ old.out.items ++ reply_of known (turn_by (naming (own_of old.core) above (hands_last [] (ran_lines lines told)) l.line step.told) l step.told (moment_with (machine_of old.core) l.number step.entered))) behind step.said))
         ∙ ap (λ (own : List Moment). client_text known own 0 lines (going told step.told at_end)) (sym own_new);
     alone = subst (Each (λ e. e.client ≡ 0)) (sym step.journal) (each_by (λ e. e.client ≡ 0) old.core.journal l.number step.entered h.alone (λ what e. refl));
-    uncached = subst (Each (λ e. IsUncached e.what)) (sym step.journal)
-        (each_by (λ e. IsUncached e.what) old.core.journal l.number step.entered h.uncached (uncached_by step.entered step.uncached));
     tried = tried_next old.core new.core told step.told step.tried h.tried;
   }
 
@@ -179,7 +172,6 @@ module _ (known : Known) (lines : List Numbered) (told : List Told) (l : Numbere
           woven = record { few = w.few; rising = w.rising; lined = w.lined; each = w.each };
           said = on.said;
           alone = on.alone;
-          uncached = on.uncached;
           tried = on.tried;
         };
         runs = subst (RunsTo known.limits new.core.journal 0 why (drop (length (told ++ step.told ∷ [])) lines)) (sym ran_on)

@@ -30,7 +30,7 @@ use Rattle.pf_query.specs.Jobs.{hand_of}
 use Rattle.pf_query.specs.declared.job.Hand.{Hand}
 use Rattle.pf_query.specs.declared.job.Held.{Held as HeldJob}
 use Rattle.pf_client.specs.Clients.{IsKnown}
-use Rattle.pf_client.specs.Replays.{HaveMetFull, Held, IsUncached}
+use Rattle.pf_client.specs.Replays.{HaveMetFull, Held}
 use Rattle.pf_client.specs.Drives.{IsReport, is_full, why_of}
 use Rattle.pf_client.specs.Files.{AreHeld}
 use Rattle.pf_client.specs.Going.{AreCounted, HasStopped, IsGoing, hands_last, own_of}
@@ -104,7 +104,6 @@ begins limits c is bare hands said = λ loaded lines known told kn.
         });
         said = said ∙ sym (ap (λ (own : List Moment). client_text known own 0 lines (record { told = []; why = at_end })) own ∙ no_lines known lines);
         alone = subst (Each (λ (e : Entry). e.client ≡ 0)) (sym journal) tt;
-        uncached = subst (Each (λ (e : Entry). IsUncached e.what)) (sym journal) tt;
         tried = inr (omega arith);
       };
       goes = rw none_ran tt;
@@ -231,7 +230,6 @@ reported limits loaded lines run met c text held are right short stands stopped 
       legal = stands.legal;
       named = stands.names;
       woven = woven;
-      uncached = has.has_told.uncached;
       met = met_by run has.told;
       whole = text_is;
     })) where

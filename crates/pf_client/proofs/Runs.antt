@@ -1,5 +1,5 @@
 -- A script is run line by line.
-use Rattle.std.proofs.Common.{◌≡◌, ℕ, ◌+◌, ◌<◌, ◌≤◌, Bool, true, false, cond, Option, Some, List, [], ◌∷◌, get_or, length, take, drop, slice_get, refl, sym, ap, ◌∙◌, subst}
+use Rattle.std.proofs.Common.{◌≡◌, ℕ, ◌+◌, ◌<◌, ◌≤◌, Option, Some, List, [], ◌∷◌, get_or, length, take, drop, slice_get, refl, sym, ap, ◌∙◌, subst}
 use Rattle.pf_base.specs.declared.plain.Limits.{Limits}
 use Rattle.pf_journal.proofs.Going.{runs_to_end}
 use Rattle.pf_journal.specs.Rest.{at_end}
@@ -13,20 +13,12 @@ use Rattle.pf_script.specs.declared.script.Script.{Script}
 use Rattle.pf_client.specs.Drives.{CanRun}
 use Rattle.pf_client.proofs.Gone.{left_there, part_kept}
 use Rattle.pf_client.proofs.Lines.{each_drop, each_get, follows_at, found, inside_lines, last_behind, map_length, names_at, names_behind, numbered_is, rising_behind}
-use Rattle.pf_client.specs.Replays.{file_of, has_keep, is_keep}
+use Rattle.pf_client.specs.Replays.{file_of}
 use Rattle.pf_client.specs.Files.{LetsGoOf, LineNames}
 use Rattle.pf_client.specs.Going.{HasStopped, IsGoing, IsReady}
 use Rattle.pf_client.specs.Queries.{AreReadAs, IsKeptFor, IsPart, Queries, readings_in}
 use Rattle.pf_client.specs.declared.client.Client.{Client}
 use Rattle.pf_client.specs.declared.loaded.Loaded.{Loaded}
-
-keep_none : (b c : Bool) → cond b true c ≡ false → (b ≡ false) × (c ≡ false)
-keep_none true c h = cc
-keep_none false c h = (refl, h)
-
-no_keep : (ls : List Numbered) → has_keep ls ≡ false → Each (λ (l : Numbered). is_keep l.line ≡ false) ls
-no_keep [] h = tt
-no_keep (l ∷ ls) h = ((keep_none (is_keep l.line) (has_keep ls) h).0, no_keep ls (keep_none (is_keep l.line) (has_keep ls) h).1)
 
 module _ (script : Script) (loaded : Loaded) (i : ℕ) (l : NumberedLine) (inside : i < length script.lines.items) (is : l ≡ get_or script.lines.items i l) (can : CanRun script i loaded) where
   line_is : get_or (lines_of script) i (numbered_of l) ≡ numbered_of l
@@ -48,8 +40,6 @@ module _ (script : Script) (loaded : Loaded) (i : ℕ) (l : NumberedLine) (insid
     right = can.right;
     text = subst (λ (x : Numbered). IsKeptFor loaded.queries x.line) line_is
         (each_get (λ (x : Numbered). IsKeptFor loaded.queries x.line) (lines_of script) i (numbered_of l) within can.texts);
-    unkept = subst (λ (x : Numbered). is_keep x.line ≡ false) line_is
-        (each_get (λ (x : Numbered). is_keep x.line ≡ false) (lines_of script) i (numbered_of l) within (no_keep (lines_of script) can.unkept));
   }
 
   -- the lines behind it can run with what it leaves
@@ -65,7 +55,6 @@ module _ (script : Script) (loaded : Loaded) (i : ℕ) (l : NumberedLine) (insid
     texts = subst (λ (q : Queries). Each (λ x. IsKeptFor q x.line) (lines_of script)) (sym same) can.texts;
     read = can.read;
     following = can.following;
-    unkept = can.unkept;
   }
 
 -- what is left is part of what was loaded first

@@ -4,6 +4,8 @@ use Rattle.std.proofs.lemmas.Bool.Decides.{nat_tests}
 use Rattle.pf_core.specs.Calls.{IsTaken, StandsForAsk}
 use Rattle.pf_core.specs.Cores.{CoreData, IsSameHistory, Stands, machine_of}
 use Rattle.pf_front.specs.Works.{IsIdle, IsWorked, WorksOn}
+use Rattle.pf_front.specs.declared.keeping.Keeping.{Keeping}
+use Rattle.pf_front.specs.declared.keeping.Keeping.TheVariants as keeping
 use Rattle.pf_front.specs.declared.working.Worked.{Worked}
 use Rattle.pf_front.specs.declared.working.Worked.TheVariants as worked
 use Rattle.pf_journal.proofs.Opened.{IsAmong, all_own, found_among}
@@ -12,13 +14,13 @@ use Rattle.pf_base.specs.declared.plain.Limits.{Limits}
 use Rattle.pf_journal.specs.Legal.{IsLawful, Legal, Moment, machine_after, moments, moments_from}
 use Rattle.pf_journal.specs.Machine.{Allowed, Entry, Machine, Open, What, append, delete, ask, full, no_tenant, cancel, answer, cancelled_at, closed, log_of, next, open_at, started, with_log}
 use Rattle.pf_model.specs.Log.{Change}
-use Rattle.pf_journal.specs.Replies.{done_words, plan_words, reply_line}
-use Rattle.pf_journal.specs.Rest.{Known, Told, of_done, of_plan, of_take}
+use Rattle.pf_journal.specs.Replies.{done_words, keep_words, plan_words, reply_line}
+use Rattle.pf_journal.specs.Rest.{Known, Told, of_done, of_keep, of_plan, of_take}
 use Rattle.pf_journal.specs.Scripts as script
 use Rattle.pf_journal.specs.Scripts.{Numbered}
 use Rattle.pf_journal.specs.Steps as steps
 use Rattle.pf_journal.specs.Turns.{Hand, Ran, Turn, answer_of, asker_of, asking_ran, cancel_of, holds, moment_at, moment_of, place_of, ran_at}
-use Rattle.pf_journal.specs.Unentered.{HasNoQuery, HasQuery, IsOpen, ToldOfPlan}
+use Rattle.pf_journal.specs.Unentered.{HasNoQuery, HasQuery, IsOpen, ToldOfKeep, ToldOfPlan}
 use Rattle.pf_model.specs.Lists.{Each}
 use Rattle.pf_query.specs.Jobs.{hand_of, without_hand}
 use Rattle.pf_query.specs.declared.job.Held.{Held}
@@ -31,7 +33,7 @@ use Rattle.pf_client.proofs.Works.{stands_on, taken_idle, taken_in, worked_out, 
 use Rattle.pf_client.specs.Asks.{IsAskAt, IsNoQuery, SlotRight}
 use Rattle.pf_client.specs.Clients.{Grows, IsKnown, IsStep, naming, turn_by}
 use Rattle.pf_client.specs.Going.{AreAsked, own_of}
-use Rattle.pf_client.specs.Hands.{CountsTries, HaveHands, HoldsJobs, IsLive, done_told, held_by, in_place, jobs_in_hand, took_text}
+use Rattle.pf_client.specs.Hands.{CountsTries, HaveHands, HoldsJobs, IsLive, done_told, held_by, in_place, jobs_in_hand, keep_told, took_text}
 use Rattle.pf_client.specs.declared.client.Client.{Client}
 use Rattle.pf_client.specs.declared.client.LineRun.TheVariants as run
 use Rattle.pf_client.specs.declared.slots.Slot.{Slot}
@@ -71,6 +73,46 @@ module _ (known : Known) (above : List Ran) (hands : List Hand) (old new : Clien
       → IsStep known (naming (own_of old.core) above hands (script.plan id k)) old (record { number = number; line = script.plan id k }) run.On new
   step_unplanned s same v kept right said =
       step_stayed known (naming (own_of old.core) above hands (script.plan id k)) old new (record { number = number; line = script.plan id k }) (of_plan steps.plan_refused) same refl refl
+      (no_query_kept known above (own_of old.core) k s v kept right) (keeps_same old new (ap (λ v. v.items) held) same) said
+
+-- ---- keep
+
+pub never_refused : (k : Keeping) → keep_told k ≡ steps.keep_refused → ⊥
+never_refused (keeping.Kept count) e = cc
+never_refused (keeping.Outdated generation) e = cc
+never_refused keeping.NoMemory e = cc
+never_refused keeping.Failed e = cc
+never_refused (keeping.Waits jobs) e = cc
+never_refused keeping.Stopped e = cc
+never_refused keeping.Unplanned e = cc
+
+keep_is_told : (t : Turn) (p : steps.KeepReply) → (p ≡ steps.keep_refused → ⊥) → HasQuery (what_of t.asked) → ToldOfKeep t (of_keep p)
+keep_is_told t (steps.kept count) n h = h
+keep_is_told t (steps.outdated generation) n h = h
+keep_is_told t steps.keep_lacked n h = h
+keep_is_told t steps.keep_failed n h = h
+keep_is_told t (steps.keep_waits jobs) n h = h
+keep_is_told t steps.keep_stopped n h = h
+keep_is_told t steps.keep_refused n h = absurd (n refl)
+keep_is_told t steps.unplanned n h = h
+
+module _ (known : Known) (above : List Ran) (hands : List Hand) (old new : Client) (held : new.hands ≡ old.hands) (number : ℕ) (id : List ℕ) (k : ℕ) where
+  -- the steps of a query that was opened
+  pub step_kept : (q : ℕ) (p : steps.KeepReply) → IsAskAt known above (own_of old.core) k q → (p ≡ steps.keep_refused → ⊥) → WorksOn old.core new.core
+      → new.out.items ≡ old.out.items ++ reply_line number (codes "keep") id (keep_words (of_keep p))
+      → IsStep known (naming (own_of old.core) above hands (script.keep id k)) old (record { number = number; line = script.keep id k }) run.On new
+  step_kept q p h n w said =
+      step_worked known (naming (own_of old.core) above hands (script.keep id k)) old new (record { number = number; line = script.keep id k }) (of_keep p) w.history refl
+      (keep_is_told (turn_by (naming (own_of old.core) above hands (script.keep id k) (of_keep p)) (record { number = number; line = script.keep id k }) (of_keep p) None) p n
+      (asked_query known above (own_of old.core) k q h))
+      (tries_on old.core new.core (of_keep p) w.failed refl) (keeps_hands old new (ap (λ v. v.items) held) w.hands) said
+
+  -- an ask that was refused
+  pub step_unkept : (s : Option Slot) → new.core ≡ old.core → IsNoQuery s → (s ≡ None → ⊥) → SlotRight known above (own_of old.core) k s
+      → new.out.items ≡ old.out.items ++ reply_line number (codes "keep") id (keep_words (of_keep steps.keep_refused))
+      → IsStep known (naming (own_of old.core) above hands (script.keep id k)) old (record { number = number; line = script.keep id k }) run.On new
+  step_unkept s same v kept right said =
+      step_stayed known (naming (own_of old.core) above hands (script.keep id k)) old new (record { number = number; line = script.keep id k }) (of_keep steps.keep_refused) same refl refl
       (no_query_kept known above (own_of old.core) k s v kept right) (keeps_same old new (ap (λ v. v.items) held) same) said
 
 -- ---- take

@@ -25,7 +25,6 @@ use Rattle.pf_query.specs.declared.job.Hand.{Hand as JobHand}
 use Rattle.pf_client.proofs.HandLines.{keeps_hands, keeps_same, tries_same}
 use Rattle.pf_client.proofs.Cases.{on_ok_all}
 use Rattle.pf_client.specs.Clients.{Ends, Grows, IsKnown, IsStep, Naming, Runs, moment_by, turn_by}
-use Rattle.pf_client.specs.Replays.{IsUncached}
 use Rattle.pf_client.specs.Hands.{CountsTries, HandsAfter, KeepsHands}
 use Rattle.pf_client.specs.declared.client.Client.{Client}
 use Rattle.pf_client.specs.declared.client.LineRun.{LineRun}
@@ -47,11 +46,11 @@ name_known known c u name k h =
 abbrev pub step_entered : (known : Known) (n : Told → Naming) (old new : Client) (by : By) (l : Numbered) (t : Told) (what : What)
     → IsKnown known new.core → Enters old.core by what new.core → by.client ≡ 0 → by.line ≡ l.number
     → Fits known (turn_by (n t) l t (Some (moment_by (machine_of old.core) l.number what))) l.line what
-    → ToldBeside what t → HasRoomFor old.core (room_of l.line) → IsUncached what → stops_at l.line t ≡ None
+    → ToldBeside what t → HasRoomFor old.core (room_of l.line) → stops_at l.line t ≡ None
     → CountsTries old.core t new.core → HandsAfter l.line t old new
     → new.out.items ≡ old.out.items ++ reply_to known (turn_by (n t) l t (Some (moment_by (machine_of old.core) l.number what))) l.number l.line
     → IsStep known n old l run.On new
-step_entered known n old new by l t what k e client line fits beside room uncached goes tried hands said = record {
+step_entered known n old new by l t what k e client line fits beside room goes tried hands said = record {
   told = t;
   entered = Some what;
   ends = goes;
@@ -64,7 +63,6 @@ step_entered known n old new by l t what k e client line fits beside room uncach
   matched = (fits, beside);
   roomy = subst (λ (m : Limits). (machine_of old.core).count + reserved (machine_of old.core).queries + room_of l.line ≤ m.journal)
       (sym (k.limits ∙ e.limits)) room;
-  uncached = uncached;
   tried = tried;
   hands = hands;
   said = said;
@@ -87,7 +85,6 @@ step_worked known n old new l t same goes unentered tried hands said = record {
   grown = same.names ∙ sym (append-nil old.core.names);
   matched = unentered;
   roomy = tt;
-  uncached = tt;
   tried = tried;
   hands = hands;
   said = said;
@@ -131,7 +128,6 @@ step_stopped known n old new l t r same none ends unentered hands said = record 
   grown = ap (λ (c : CoreData). c.names) same ∙ sym (append-nil old.core.names);
   matched = unentered;
   roomy = tt;
-  uncached = tt;
   tried = same_tries old.core new.core t same none;
   hands = hands;
   said = said;
@@ -203,7 +199,7 @@ pub step_ingested : (known : Known) (n : Told → Naming) (old new : Client) (by
     → IsStep known n old (record { number = number; line = script.ingest tenant file time }) run.On new
 step_ingested known n old new by number tenant file time batch v k e client line same hands gives said =
     step_entered known n old new by (record { number = number; line = script.ingest tenant file time }) nothing (append e.1.number batch v.list v.entry)
-    k e.1.entered client line (name_known known new.core e.1.number tenant k e.1.named, gives) refl e.0 tt refl
+    k e.1.entered client line (name_known known new.core e.1.number tenant k e.1.named, gives) refl e.0 refl
     (works_tries old.core new.core nothing same refl) (works_keep old new same hands) said
 
 pub step_uningested : (known : Known) (n : Told → Naming) (old new : Client) (by : By) (number : ℕ) (tenant file : List ℕ) (time : ℕ) (batch : BatchData)
@@ -213,7 +209,7 @@ pub step_uningested : (known : Known) (n : Told → Naming) (old new : Client) (
     → IsStep known n old (record { number = number; line = script.ingest tenant file time }) run.On new
 step_uningested known n old new by number tenant file time batch k room e client line same hands gives said =
     step_entered known n old new by (record { number = number; line = script.ingest tenant file time }) nothing (no_tenant tenant)
-    k e client line (refl, (batch, gives)) refl room tt refl (works_tries old.core new.core nothing same refl) (works_keep old new same hands) said
+    k e client line (refl, (batch, gives)) refl room refl (works_tries old.core new.core nothing same refl) (works_keep old new same hands) said
 
 -- ---- delete
 
@@ -226,7 +222,7 @@ step_deleted known n old new by number tenant from to selector ms d k e client l
     step_entered known n old new by (record { number = number; line = script.delete tenant from to selector }) nothing
     (delete e.1.number ms from to d.generation d.entry)
     k e.1.entered client line (name_known known new.core e.1.number tenant k e.1.named, ((forward, within), selects, refl, refl)) refl e.0
-    tt refl (works_tries old.core new.core nothing same refl) (works_keep old new same hands) said
+    refl (works_tries old.core new.core nothing same refl) (works_keep old new same hands) said
 
 pub step_undeleted : (known : Known) (n : Told → Naming) (old new : Client) (by : By) (number : ℕ) (tenant : List ℕ) (from to : ℕ) (selector : List ℕ) (ms : List Matcher)
     → IsKnown known new.core → HasRoomFor old.core 1 → Enters old.core by (no_tenant tenant) new.core → by.client ≡ 0 → by.line ≡ number → AreSameWork old.core new.core → new.hands ≡ old.hands
@@ -235,7 +231,7 @@ pub step_undeleted : (known : Known) (n : Told → Naming) (old new : Client) (b
     → IsStep known n old (record { number = number; line = script.delete tenant from to selector }) run.On new
 step_undeleted known n old new by number tenant from to selector ms k room e client line same hands forward within selects said =
     step_entered known n old new by (record { number = number; line = script.delete tenant from to selector }) nothing (no_tenant tenant)
-    k e client line (refl, ((forward, within), (ms, selects))) refl room tt refl (works_tries old.core new.core nothing same refl) (works_keep old new same hands) said
+    k e client line (refl, ((forward, within), (ms, selects))) refl room refl (works_tries old.core new.core nothing same refl) (works_keep old new same hands) said
 
 -- what is refused of a deletion
 pub step_bad_delete : (known : Known) (n : Told → Naming) (old new : Client) (number : ℕ) (tenant : List ℕ) (from to : ℕ) (selector : List ℕ) (words : List (List ℕ))
@@ -325,7 +321,6 @@ step_to known n old a b l r core out s hands = record {
   grown = ap (λ (c : CoreData). c.names) (sym core) ∙ s.grown;
   matched = s.matched;
   roomy = s.roomy;
-  uncached = s.uncached;
   tried = subst (λ (c : CoreData). CountsTries old.core s.told c) core s.tried;
   hands = hands;
   said = sym out ∙ s.said;

@@ -13,7 +13,6 @@ use Rattle.pf_journal.specs.Turns.{Hand, Ran, Turn, answer_of, asked_by, asking_
 use Rattle.pf_journal.specs.Weave.{FoundRoom, IsMatched, stops_at}
 use Rattle.pf_report.specs.Replies.{fault_of}
 use Rattle.pf_front.specs.Works.{IsIdle}
-use Rattle.pf_client.specs.Replays.{IsUncached}
 use Rattle.pf_client.specs.Hands.{CountsTries, HandsAfter}
 use Rattle.pf_client.specs.declared.client.Client.{Client}
 use Rattle.pf_client.specs.declared.client.FileRead.{FileRead}
@@ -77,11 +76,6 @@ abbrev pub moment_with : Machine → ℕ → Option What → Option Moment
 moment_with m n None = None
 moment_with m n (Some what) = Some (moment_by m n what)
 
--- of an answer no step came from a cache
-abbrev pub IsUncachedBy : Option What → Type 0
-IsUncachedBy None = Unit {0}
-IsUncachedBy (Some what) = IsUncached what
-
 -- ---- a line that was run
 
 -- the client goes on, or the line met the full journal, or lacked memory
@@ -102,7 +96,6 @@ pub record IsStep (known : Known) (n : Told → Naming) (old : Client) (l : Numb
   pub matched : IsMatched known (turn_by (n told) l told (moment_with (machine_of old.core) l.number entered))
       (moment_with (machine_of old.core) l.number entered)
   pub roomy : FoundRoom known.limits l.line (moment_with (machine_of old.core) l.number entered)
-  pub uncached : IsUncachedBy entered
   pub tried : CountsTries old.core told new.core
   pub hands : HandsAfter l.line told old new
   pub said : new.out.items

@@ -11,15 +11,14 @@ use Rattle.pf_model.specs.Lists.{Each}
 use Rattle.pf_model.specs.Queries.{Readings}
 use Rattle.pf_script.specs.Lines.{AllFollow, IsRead, lines_of}
 use Rattle.pf_script.specs.declared.script.Script.{Script}
-use Rattle.pf_client.specs.Replays.{HaveMetFull, Held, IsUncached, has_keep}
+use Rattle.pf_client.specs.Replays.{HaveMetFull, Held}
 use Rattle.pf_client.specs.Files.{HaveLast, IsKept, NamesFile}
 use Rattle.pf_client.specs.Queries.{AreReadAs, IsKeptFor}
 use Rattle.pf_client.specs.declared.client.LineRun.{LineRun}
 use Rattle.pf_client.specs.declared.client.LineRun.TheVariants.{On, Full, Starved}
 use Rattle.pf_client.specs.declared.loaded.Loaded.{Loaded}
 
--- the lines of a script behind its first n, none of them a `keep` line, can run: with what the files that they name hold, and how
--- its queries are read
+-- the lines of a script behind its first n can run: with what the files that they name hold, and how its queries are read
 pub record CanRun (script : Script) (n : ℕ) (loaded : Loaded) : Type 0 where
   pub files : (name : List ℕ) → NamesFile (drop n (lines_of script)) name → IsKept loaded.files name
   pub lasts : HaveLast (lines_of script) loaded.files
@@ -27,7 +26,6 @@ pub record CanRun (script : Script) (n : ℕ) (loaded : Loaded) : Type 0 where
   pub texts : Each (λ l. IsKeptFor loaded.queries l.line) (lines_of script)
   pub read : Each IsRead script.lines.items
   pub following : AllFollow [] (lines_of script)
-  pub unkept : has_keep (lines_of script) ≡ false
 
 -- why a client stopped, by how its last line ran
 abbrev pub why_of : LineRun → Why
@@ -49,6 +47,5 @@ pub record IsReport (limits : Limits) (held : Held) (lines : List Numbered) (ful
   pub legal : Legal limits names journal
   pub named : AreNames names journal
   pub woven : Weave (record { limits = limits; names = names; files = held; readings = readings }) journal (lines ∷ []) rest
-  pub uncached : Each (λ e. IsUncached e.what) journal
   pub met : HaveMetFull full rest.clients
   pub whole : text ≡ report (record { limits = limits; names = names; files = held; readings = readings }) journal (lines ∷ []) rest

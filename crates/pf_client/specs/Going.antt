@@ -1,5 +1,5 @@
 -- A client on its way through its script: this project's own.
-use Rattle.std.specs.Prelude.{◌≡◌, ℕ, ◌+◌, ◌≤◌, ◌⊎◌, Some, None, false, List, [], ◌∷◌, drop, length, slice_get, sum, take}
+use Rattle.std.specs.Prelude.{◌≡◌, ℕ, ◌+◌, ◌≤◌, ◌⊎◌, Some, None, List, [], ◌∷◌, drop, length, slice_get, sum, take}
 use Rattle.pf_base.specs.declared.plain.Limits.{Limits}
 use Rattle.pf_core.specs.Cores.{CoreData, machine_of}
 use Rattle.pf_journal.specs.Legal.{Moment, moments}
@@ -14,7 +14,6 @@ use Rattle.pf_script.specs.Lines.{Follows, IsRead, line_of}
 use Rattle.pf_script.specs.declared.script.NumberedLine.{NumberedLine}
 use Rattle.pf_client.specs.Asks.{AreKept, HaveSlots, IsAskAt}
 use Rattle.pf_client.specs.Clients.{IsKnown}
-use Rattle.pf_client.specs.Replays.{IsUncached, is_keep}
 use Rattle.pf_client.specs.Files.{IsKept, LineNames}
 use Rattle.pf_client.specs.Hands.{HaveHands}
 use Rattle.pf_client.specs.Queries.{AreReadAs, IsKeptFor, IsPart, IsTold}
@@ -50,7 +49,6 @@ pub record HasTold (known : Known) (lines : List Numbered) (told : List Told) (w
   pub woven : Woven known (own_of c.core) lines (record { told = told; why = why })
   pub said : c.out.items ≡ client_text known (own_of c.core) 0 lines (record { told = told; why = why })
   pub alone : Each (λ e. e.client ≡ 0) c.core.journal
-  pub uncached : Each (λ e. IsUncached e.what) c.core.journal
   pub tried : AreCounted c.core told
 
 -- a client ran so many lines, and none stopped it
@@ -99,4 +97,3 @@ pub record IsReady (loaded : Loaded) (l : NumberedLine) : Type 0 where
   pub files : (name : List ℕ) → LineNames (line_of l.line) name → IsKept loaded.files name
   pub right : AreReadAs loaded.queries
   pub text : IsKeptFor loaded.queries (line_of l.line)
-  pub unkept : is_keep (line_of l.line) ≡ false

@@ -5,6 +5,8 @@ use Rattle.pf_core.specs.Calls.{StandsForAsk}
 use Rattle.pf_core.specs.Cores.{CoreData, machine_of, queue_at}
 use Rattle.pf_base.specs.declared.plain.JobHead.{JobHead}
 use Rattle.pf_front.specs.Works.{IsIdle}
+use Rattle.pf_front.specs.declared.keeping.Keeping.{Keeping}
+use Rattle.pf_front.specs.declared.keeping.Keeping.TheVariants as keeping
 use Rattle.pf_front.specs.declared.working.Worked.{Worked}
 use Rattle.pf_front.specs.declared.working.Worked.TheVariants as worked
 use Rattle.pf_journal.specs.Machine.{Open, open_at}
@@ -143,6 +145,16 @@ done_told (worked.Exhausted job) = steps.exhausted job
 done_told worked.Lacked = steps.lacked
 done_told (worked.Gone why) = steps.gone (stop_told why)
 done_told worked.NotHeld = steps.not_held
+
+-- what a `keep` came to
+abbrev pub keep_told : Keeping → steps.KeepReply
+keep_told (keeping.Kept count) = steps.kept count
+keep_told (keeping.Outdated generation) = steps.outdated generation
+keep_told keeping.NoMemory = steps.keep_lacked
+keep_told keeping.Failed = steps.keep_failed
+keep_told (keeping.Waits jobs) = steps.keep_waits jobs
+keep_told keeping.Stopped = steps.keep_stopped
+keep_told keeping.Unplanned = steps.unplanned
 
 -- the reply to a `take` that gave a job of the tenant of this name
 abbrev pub took_text : (n worker : ℕ) → (name : List ℕ) → JobHead → List ℕ

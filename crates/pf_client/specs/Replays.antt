@@ -1,11 +1,9 @@
--- What a script names, how its files are read, and what its journal has: this project's own.
-use Rattle.std.specs.Prelude.{◌≡◌, ℕ, ◌⊎◌, Bool, true, false, cond, Option, Some, None, List, [], ◌∷◌}
+-- What a script names, how its files are read, and whether a client met the full journal: this project's own.
+use Rattle.std.specs.Prelude.{◌≡◌, ℕ, ◌⊎◌, Bool, true, false, Option, Some, None, List, [], ◌∷◌}
 use Rattle.pf_io.specs.Outside.{Rose, Holds}
 use Rattle.pf_model.specs.Lists.{Each}
-use Rattle.pf_journal.specs.Machine.{What}
-use Rattle.pf_journal.specs.Machine as entry
 use Rattle.pf_journal.specs.Rest.{Client, at_full}
-use Rattle.pf_journal.specs.Scripts.{Line, Numbered, ingest, keep}
+use Rattle.pf_journal.specs.Scripts.{Line, Numbered, ingest}
 
 -- ---- what files hold
 
@@ -45,21 +43,7 @@ pub record HasFailed (sure : List ℕ → Bool) (before after : ℕ) (failed : B
 
 -- ---- what a run has
 
--- a script with a `keep` line is of no form that is built
-abbrev pub is_keep : Line → Bool
-is_keep (keep id asked) = true
-is_keep _ = false
-
-abbrev pub has_keep : List Numbered → Bool
-has_keep [] = false
-has_keep (l ∷ ls) = cond (is_keep l.line) true (has_keep ls)
-
 -- a client met the full journal, or none did
 abbrev pub HaveMetFull : Bool → List Client → Type 0
 HaveMetFull false clients = Each (λ c. c.why ≡ at_full → ⊥) clients
 HaveMetFull true clients = (Each (λ c. c.why ≡ at_full → ⊥) clients) → ⊥
-
--- no step of an answer came from a cache
-abbrev pub IsUncached : What → Type 0
-IsUncached (entry.answer query code cached evaluated) = cached ≡ 0
-IsUncached _ = Unit {0}

@@ -661,6 +661,10 @@ impl Client {
                 self.plan(number, id, *asked)?;
                 Ok(LineRun::On)
             }
+            Line::Keep { id, asked } => {
+                self.keep(number, id, *asked)?;
+                Ok(LineRun::On)
+            }
             Line::Take { worker } => {
                 self.take(number, *worker)?;
                 Ok(LineRun::On)
@@ -669,7 +673,6 @@ impl Client {
                 self.done(number, *worker, &mut hops[16 + *worker as usize], gate)?;
                 Ok(LineRun::On)
             }
-            Line::Keep { .. } => unreachable!(),
         }
     }
 }

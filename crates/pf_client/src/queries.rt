@@ -6,6 +6,7 @@ ghost use Rattle.pf_model.specs.Built.{is_evaluated};
 ghost use Rattle.pf_model.specs.Lists.{Each};
 ghost use Rattle.pf_model.specs.Queries.{IsQuery, first_empty, is_plain, is_unmodified};
 ghost use Rattle.pf_model.specs.Trees.{height, instant, size, tree_of};
+ghost use Rattle.pf_print.specs.OwnTexts.{HasText};
 ghost use Rattle.pf_script.specs.Lines.{lines_of, numbered_of};
 ghost use Rattle.pf_client.specs.Queries.{AreReadAs, IsKeptFor, IsLineRead, IsQueryRead, IsReadAs, IsTextRead, SelectsAs};
 ghost use Rattle.pf_types.specs.Errors.{query_fault};
@@ -114,6 +115,7 @@ fn read_bound(alloc: Global, query: BoundQuery) -> Result<QueryRead, OutOfMemory
 /// What a query whose kinds are lawful is read as.
 #[tactic(auto, using(crate::proofs::TextReads::bound_right, crate::proofs::TextReads::refused_pattern_right, crate::proofs::TextReads::empty_selector_right))]
 fn read_lawful(alloc: Global, expr: Expr) -> Result<QueryRead, OutOfMemory>
+    requires written { HasText (tree_of expr) }
     requires small { size (tree_of expr) ≤ 65536 }
     requires low { height (tree_of expr) ≤ 64 }
     requires evaluated { is_evaluated (tree_of expr) ≡ true }
@@ -132,6 +134,7 @@ fn read_lawful(alloc: Global, expr: Expr) -> Result<QueryRead, OutOfMemory>
 /// What a tree whose kinds are lawful is read as, as a query and as a deletion's selector.
 #[tactic(auto, using(crate::proofs::TextReads::lawful_read))]
 fn read_tree(alloc: Global, expr: Expr) -> Result<TextRead, OutOfMemory>
+    requires written { HasText (tree_of expr) }
     requires small { size (tree_of expr) ≤ 65536 }
     requires low { height (tree_of expr) ≤ 64 }
     requires evaluated { is_evaluated (tree_of expr) ≡ true }

@@ -8,25 +8,26 @@ ghost use Rattle.pf_front.specs.Works.{IsIdle, WorksOn};
 ghost use Rattle.pf_journal.specs.Machine.{open_at};
 ghost use Rattle.pf_journal.specs.Rest.{Known};
 ghost use Rattle.pf_journal.specs.Scripts as script;
-ghost use Rattle.pf_journal.specs.Steps.{plan_refused};
+ghost use Rattle.pf_journal.specs.Steps.{keep_refused, plan_refused};
 ghost use Rattle.pf_journal.specs.Turns.{Hand, Ran};
 ghost use Rattle.pf_model.specs.Lists.{Each};
-ghost use Rattle.pf_report.specs.Steps.{done_of, plan_of, stop_of, take_text};
+ghost use Rattle.pf_report.specs.Steps.{done_of, keep_of, plan_of, stop_of, take_text};
 ghost use Rattle.pf_report.specs.declared.steps.TakeReply.TheVariants as take;
 ghost use Rattle.pf_client.specs.Asks.{SlotRight};
 ghost use Rattle.pf_client.specs.Clients.{Grows, IsKnown, IsStep, naming};
 ghost use Rattle.pf_client.specs.Going.{AreAsked, own_of};
-ghost use Rattle.pf_client.specs.Hands.{HaveHands, HoldsJobs, done_told, stop_told, took_text};
+ghost use Rattle.pf_client.specs.Hands.{HaveHands, HoldsJobs, done_told, keep_told, stop_told, took_text};
 ghost use Rattle.pf_client.specs.declared.client.LineRun.TheVariants.{On};
 
 use crate::client::Client;
 use crate::slots::query_of;
 use pf_base::{OutOfMemory, Text};
-use pf_front::{Worked, plan, work};
+use pf_front::{Keeping, Worked, keep, plan, work};
 use pf_io::{Gate, Hop};
 use pf_query::{Held, PlanError, Stop as QueryStop};
 use pf_report::{
-    DoneReply, PlanReply, Stop, TakeReply, push_done_reply, push_plan_reply, push_take_reply,
+    DoneReply, KeepReply, PlanReply, Stop, TakeReply, push_done_reply, push_keep_reply,
+    push_plan_reply, push_take_reply,
 };
 use std::mem;
 
@@ -55,6 +56,23 @@ fn done_reply(worked: Worked) -> DoneReply
     }
 }
 
+/// What a `keep` came to, as it is told.
+#[tactic(auto, using(crate::proofs::StepLines::never_refused))]
+fn keep_reply(keeping: Keeping) -> KeepReply
+    ensures told { keep_of result ≡ keep_told keeping }
+    ensures asked { keep_of result ≡ keep_refused → ⊥ }
+{
+    match keeping {
+        Keeping::Kept { steps } => KeepReply::Kept { steps },
+        Keeping::Outdated { generation } => KeepReply::Outdated { generation },
+        Keeping::NoMemory => KeepReply::Lacked,
+        Keeping::Failed => KeepReply::Failed,
+        Keeping::Waits { jobs } => KeepReply::Waits { jobs },
+        Keeping::Stopped => KeepReply::Stopped,
+        Keeping::Unplanned => KeepReply::Unplanned,
+    }
+}
+
 impl Client {
     /// Plans a query that is open, and refuses another.
     fn plan_query(&mut self, query: u64) -> PlanReply
@@ -68,7 +86,7 @@ impl Client {
         let None = self.core.look(query) else {
             return match plan(self.alloc, &mut self.core, query) {
                 Ok(planned) => PlanReply::Planned {
-                    cached: 0,
+                    cached: planned.cached,
                     jobs: planned.jobs,
                 },
                 Err(PlanError::PlannedBefore) => PlanReply::PlannedBefore,
@@ -91,6 +109,37 @@ impl Client {
                 push_plan_reply(&mut self.out, number, id.as_str(), &reply)
             }
             None => push_plan_reply(&mut self.out, number, id.as_str(), &PlanReply::Refused),
+        }
+    }
+
+    /// Keeps the steps of a query that is open, and refuses another.
+    fn keep_query(&mut self, query: u64) -> KeepReply
+        ensures works { WorksOn self.old.core self.new.core }
+        ensures refused { keep_of result ≡ keep_refused → open_at query (machine_of self.old.core).queries ≡ None }
+        ensures stands { Stands self.new.core }
+        ensures out { self.new.out ≡ self.old.out }
+        ensures slots { self.new.slots ≡ self.old.slots }
+        ensures hands { self.new.hands ≡ self.old.hands }
+    {
+        let None = self.core.look(query) else {
+            return keep_reply(keep(self.alloc, &mut self.core, query));
+        };
+        KeepReply::Refused
+    }
+
+    /// Runs the `keep` of the ask of a line. Where there is no memory to gather its query's steps, the query is stopped.
+    pub fn keep(&mut self, number: u32, id: &Text, asked: u32) -> Result<(), OutOfMemory>
+        ensures grows { OnOk result (Grows self.old.core self.new.core) }
+        ensures step { OnOk result ((known : Known) (above : List Ran) (hands : List Hand) → IsKnown known self.new.core → Each (λ e. e.client ≡ 0) self.old.core.journal → SlotRight known above (own_of self.old.core) asked (get nat_cmp self.old.slots asked) → (get nat_cmp self.old.slots asked ≡ None → ⊥) → IsStep known (naming (own_of self.old.core) above hands (script.keep id.now asked)) self.old (record { number = number; line = script.keep id.now asked }) On self.new) }
+        ensures slots { OnOk result (self.new.slots ≡ self.old.slots) }
+        ensures hands { OnOk result (self.new.hands ≡ self.old.hands) }
+    {
+        match query_of(&self.slots, asked) {
+            Some(query) => {
+                let reply = self.keep_query(query);
+                push_keep_reply(&mut self.out, number, id.as_str(), &reply)
+            }
+            None => push_keep_reply(&mut self.out, number, id.as_str(), &KeepReply::Refused),
         }
     }
 

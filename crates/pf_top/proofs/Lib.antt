@@ -1,5 +1,4 @@
 pub mod Batches
-pub mod KeepLines
 pub mod OutputLaws
 pub mod Printed
 pub mod RangeSteps

@@ -7,12 +7,12 @@ use Rattle.pf_io.specs.Outside.{Rose, Holds, Grows, LongerThan, StayKnown}
 use Rattle.pf_model.specs.Exposition.{file_lines}
 use Rattle.pf_journal.specs.Scripts.{Numbered, lines_from, most_bytes, script_of}
 use Rattle.pf_script.specs.Lines.{AllFollow}
-use Rattle.pf_client.specs.Replays.{Agree, HasFailed, Held, Reaches, files_of, has_keep}
-use Rattle.pf_top.specs.Correct.{AllRead, Correct, EndsWell, FilesSeen, IsOutput, IsUnbuilt, Outside, Reported, needed, needed_by, script_files}
+use Rattle.pf_client.specs.Replays.{Agree, HasFailed, Held, Reaches, files_of}
+use Rattle.pf_top.specs.Correct.{AllRead, Correct, EndsWell, FilesSeen, IsOutput, Outside, Reported, needed, needed_by, script_files}
 use Rattle.pf_client.specs.Drives.{IsReport}
 use Rattle.pf_client.specs.Files.{AreHeld, AreLoaded, Contents, HasContent, IsKept, LetsGo, NamesFile, TellsContent}
 use Rattle.pf_top.specs.Outputs.{IsPrinted, IsReplay, IsRun, IsScriptOutput, IsWordsOutput}
-use Rattle.pf_top.specs.Refusals.{refused_not_built, refused_read, refused_script}
+use Rattle.pf_top.specs.Refusals.{refused_read, refused_script}
 use Rattle.pf_top.specs.Words.{Replay, evaluation_words, limits_with, replay_words}
 use Rattle.std.specs.declared.vec.Vec.{Vec}
 use Rattle.std.specs.declared.alloc.Global.{Global}
@@ -78,12 +78,9 @@ module _ (held : Held) (words : List (List ℕ)) (replay : Replay) (is : replay_
   needed_script : needed held words ≡ replay.script ∷ script_files (script_of true (held replay.script))
   needed_script = ap (λ (w : Option Replay). needed_by held w (evaluation_words words)) is
 
-  -- what is needed of a script by whether it has a `keep` line, and of one that is refused
-  needed_lines : (lines : List Numbered) (keeps : Bool) → script_of true (held replay.script) ≡ Ok lines → has_keep lines ≡ keeps
-      → needed held words ≡ replay.script ∷ cond keeps [] (files_of lines)
-  needed_lines lines keeps read is_so =
-      needed_script ∙ ap (λ (s : Result (List Numbered) ℕ). replay.script ∷ script_files s) read
-      ∙ ap (λ (b : Bool). replay.script ∷ cond b [] (files_of lines)) is_so
+  -- what is needed of a script that runs, and of one that is refused
+  needed_lines : (lines : List Numbered) → script_of true (held replay.script) ≡ Ok lines → needed held words ≡ replay.script ∷ files_of lines
+  needed_lines lines read = needed_script ∙ ap (λ (s : Result (List Numbered) ℕ). replay.script ∷ script_files s) read
 
   needed_alone : (line : ℕ) → script_of true (held replay.script) ≡ Err line → needed held words ≡ replay.script ∷ []
   needed_alone line bad = needed_script ∙ ap (λ (s : Result (List Numbered) ℕ). replay.script ∷ script_files s) bad
@@ -94,9 +91,9 @@ module _ (held : Held) (words : List (List ℕ)) (replay : Replay) (is : replay_
 
   -- the report of the script is that of the words
   reported_by : (limits : Limits) (files : FilesSeen) (lines : List Numbered) (full : Bool) (text : List ℕ)
-      → script_of true (held replay.script) ≡ Ok lines → has_keep lines ≡ false → AllRead files (needed held words)
+      → script_of true (held replay.script) ≡ Ok lines → AllRead files (needed held words)
       → IsReport (limits_with limits replay) held lines full text → Reported limits files held words full text
-  reported_by limits files lines full text read unkept a r = record {
+  reported_by limits files lines full text read a r = record {
     all = a;
     replay = replay;
     by_words = is;
@@ -105,55 +102,38 @@ module _ (held : Held) (words : List (List ℕ)) (replay : Replay) (is : replay_
     names = r.names;
     readings = r.readings;
     rest = r.rest;
-    read = (lines, (refl, (read, unkept)));
+    read = (lines, (refl, read));
     legal = r.legal;
     named = r.named;
     woven = r.woven;
-    uncached = r.uncached;
     met = r.met;
     whole = r.whole;
   }
 
   -- what comes once the script is read is what comes by the words
   module _ (limits : Limits) (files : FilesSeen) (lines : List Numbered) (status : ℕ) (text : List ℕ)
-      (read : script_of true (held replay.script) ≡ Ok lines) (unkept : has_keep lines ≡ false) (found : files.lost replay.script ≡ false) where
+      (read : script_of true (held replay.script) ≡ Ok lines) (found : files.lost replay.script ≡ false) where
     printed_by : IsScriptOutput (limits_with limits replay) files held lines status text → IsPrinted limits files held words status text
     printed_by (inl (a, inl (zero, r))) =
         inl (
           zero,
-          inl (reported_by limits files lines false text read unkept
-              (all_read files (files_of lines) (needed_lines lines false read unkept) found a) r),
+          inl (reported_by limits files lines false text read (all_read files (files_of lines) (needed_lines lines read) found a) r),
         )
     printed_by (inl (a, inr (eight, r))) =
         inr (inl (
           eight,
-          reported_by limits files lines true text read unkept
-              (all_read files (files_of lines) (needed_lines lines false read unkept) found a) r,
+          reported_by limits files lines true text read (all_read files (files_of lines) (needed_lines lines read) found a) r,
         ))
     printed_by (inr (four, (file, (reached, (fault, whole))))) =
         inr (inr (inl (
           four,
           record {
             name = file;
-            reached = subst (λ (ns : List (List ℕ)). Reaches files.lost ns file) (sym (needed_lines lines false read unkept)) (inr (found, reached));
+            reached = subst (λ (ns : List (List ℕ)). Reaches files.lost ns file) (sym (needed_lines lines read)) (inr (found, reached));
             fault = fault;
             whole = whole;
           },
         )))
-
-  -- a script with a `keep` line
-  unbuilt_by : (limits : Limits) (files : FilesSeen) (lines : List Numbered) (status : ℕ) (text : List ℕ)
-      → script_of true (held replay.script) ≡ Ok lines → has_keep lines ≡ true → files.lost replay.script ≡ false → files.after ≡ files.before
-      → (status ≡ 9) × (text ≡ refused_not_built) → IsPrinted limits files held words status text
-  unbuilt_by limits files lines status text read keeps found steady p =
-      inr (inr (inr (inl (
-        p.0,
-        record {
-          all = all_read files [] (needed_lines lines true read keeps) found (record { there = tt; steady = steady });
-          unbuilt = subst (λ (w : Option Replay). IsUnbuilt held w (evaluation_words words)) (sym is) (lines, (read, keeps));
-          whole = p.1;
-        },
-      ))))
 
   -- a script that is refused
   refused_by : (limits : Limits) (files : FilesSeen) (line status : ℕ) (text : List ℕ)
@@ -192,30 +172,17 @@ same_seen limits old resure relost again middle script bytes lines status text t
     (subst (λ (l : List ℕ → Bool). IsReplay limits (record { told = again; sure = resure; lost = l; before = middle; after = old.after; failed = old.failed }) script bytes lines status text) all_lost r)
 
 pub words_output : (limits chosen : Limits) (old : FilesSeen) (resure relost : List ℕ → Bool) (again : List ℕ → Option (List ℕ)) (middle : ℕ) (words : List (List ℕ)) (replay : Replay) (bytes given : List ℕ) (lines : List Numbered) (status : ℕ) (text : List ℕ)
-    → replay_words words ≡ Some replay → chosen ≡ limits_with limits replay → given ≡ bytes → script_of true given ≡ Ok lines → has_keep lines ≡ false → old.lost replay.script ≡ false
+    → replay_words words ≡ Some replay → chosen ≡ limits_with limits replay → given ≡ bytes → script_of true given ≡ Ok lines → old.lost replay.script ≡ false
     → ((other : List ℕ) → again other ≡ old.told other) → ((other : List ℕ) → relost other ≡ old.lost other) → StayKnown old.sure resure → middle ≡ old.before
     → IsReplay chosen (record { told = again; sure = resure; lost = relost; before = middle; after = old.after; failed = old.failed }) replay.script bytes lines status text
     → IsWordsOutput limits old words status text
-words_output limits chosen old resure relost again middle words replay bytes given lines status text word by_words e read unkept found told lost sure m o =
+words_output limits chosen old resure relost again middle words replay bytes given lines status text word by_words e read found told lost sure m o =
     let r = same_seen chosen old resure relost again middle replay.script bytes lines status text told lost o in
     record {
       held = r.held;
       agree = r.agree;
-      printed = printed_by r.held words replay word limits old lines status text (ap (script_of true) (r.same ∙ sym e) ∙ read) unkept found
+      printed = printed_by r.held words replay word limits old lines status text (ap (script_of true) (r.same ∙ sym e) ∙ read) found
           (subst (λ (l : Limits). IsScriptOutput l old r.held lines status text) by_words (seen_since chosen old resure middle r.held lines status text sure m r.output));
-    }
-
--- a script with a `keep` line
-pub unbuilt_output : (limits : Limits) (files : FilesSeen) (words : List (List ℕ)) (replay : Replay) (bytes given : List ℕ) (lines : List Numbered) (status : ℕ) (text : List ℕ)
-    → replay_words words ≡ Some replay → Holds (files.told replay.script) bytes → given ≡ bytes → script_of true given ≡ Ok lines → has_keep lines ≡ true
-    → files.lost replay.script ≡ false → files.after ≡ files.before → (status ≡ 9) × (text ≡ refused_not_built)
-    → IsWordsOutput limits files words status text
-unbuilt_output limits files words replay bytes given lines status text word holds e read keeps found steady p =
-    let h = holding_bytes files.told replay.script bytes holds in
-    record {
-      held = h.0;
-      agree = h.1.0;
-      printed = unbuilt_by h.0 words replay word limits files lines status text (ap (script_of true) (h.1.1 ∙ sym e) ∙ read) keeps found steady p;
     }
 
 -- a script that is refused

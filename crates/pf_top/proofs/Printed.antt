@@ -24,7 +24,7 @@ use Rattle.pf_report.specs.declared.bodies.Body.{Body}
 use Rattle.pf_types.specs.Errors.{words_of_error}
 use Rattle.pf_types.specs.declared.query.QueryError.{QueryError}
 use Rattle.pf_client.specs.Replays.{Held, Reaches}
-use Rattle.pf_top.specs.Correct.{AllRead, FilesSeen, IsUnbuilt, needed, needed_by}
+use Rattle.pf_top.specs.Correct.{AllRead, FilesSeen, needed, needed_by}
 use Rattle.pf_top.specs.Evaluations.{IsFileOutput, IsNamedOutput, IsText}
 use Rattle.pf_client.specs.Files.{HoldsContent, TellsContent}
 use Rattle.pf_top.specs.Outputs.{IsPrinted, IsWordsOutput}
@@ -86,9 +86,6 @@ times_printed batch words start end step error (query.Refused e) text told h gri
 
 -- ---- by the words
 
-unbuilt_words : (held : Held) (w w' : Option Replay) (e e' : Option Evaluation) → w ≡ w' → e ≡ e' → IsUnbuilt held w' e' → IsUnbuilt held w e
-unbuilt_words held w w' e e' p q h = subst (λ (x : Option Replay). IsUnbuilt held x e) (sym p) (subst (IsUnbuilt held w') (sym q) h)
-
 needed_words : (held : Held) (words : List (List ℕ)) (e : Option Evaluation) → replay_words words ≡ None → evaluation_words words ≡ e
     → needed held words ≡ needed_by held None e
 needed_words held words e none is =
@@ -107,7 +104,8 @@ other_words limits files words status text none neither steady p =
         p.0,
         record {
           all = subst (AllRead files) (sym (needed_words h.0 words None none neither)) (record { there = tt; steady = steady });
-          unbuilt = unbuilt_words h.0 (replay_words words) None (evaluation_words words) None none neither tt;
+          no_replay = none;
+          no_evaluation = neither;
           whole = p.1;
         },
       ))));

@@ -10,7 +10,7 @@ use Rattle.pf_base.specs.declared.plain.Limits.{Limits}
 use Rattle.pf_core.specs.Cores.{AreLimits}
 use Rattle.pf_model.specs.Cuts.{◌>>=◌, kept}
 use Rattle.pf_journal.specs.Scripts.{number_of}
-use Rattle.pf_top.specs.Words.{OptionName, Part, Replay, Word, plain, last_dashes, named, valued, of_limit, of_window, of_interval, of_shards, of_journal, at_most_once, duration_from, exactly_one, is_dashed, limits_with, number_within, option, others_of, parts_of, replay_behind, replay_of, replay_words, values_of, with_part, word_of}
+use Rattle.pf_top.specs.Words.{OptionName, Part, Replay, Word, plain, last_dashes, named, valued, of_limit, of_window, of_interval, of_shards, of_extents, of_journal, at_most_once, duration_from, exactly_one, is_dashed, limits_with, number_within, option, others_of, parts_of, replay_behind, replay_of, replay_words, values_of, with_part, word_of}
 use Rattle.pf_top.specs.Words as words
 use Rattle.pf_top.specs.WordSteps.{Given, Next, any, before, nothing_given, once, read_all, replay_by, step, value_of, with_option, with_script, with_word}
 use Rattle.pf_top.specs.WordSteps as steps
@@ -30,15 +30,16 @@ script_with (w ∷ []) None = Some w
 script_with (w ∷ (x ∷ ws)) None = None
 script_with (w ∷ ws) (Some s) = None
 
-chosen : Option (Option ℕ) → Option (Option ℕ) → Option (Option ℕ) → Option (Option ℕ) → Option (Option ℕ) → Option (List ℕ) → Option Replay
-chosen limits windows intervals shards journals scripts = do
+chosen : Option (Option ℕ) → Option (Option ℕ) → Option (Option ℕ) → Option (Option ℕ) → Option (Option ℕ) → Option (Option ℕ) → Option (List ℕ) → Option Replay
+chosen limits windows intervals shards extents journals scripts = do
   limit ← limits
   window ← windows
   interval ← intervals
   shards ← shards
+  extents ← extents
   journal ← journals
   script ← scripts
-  Some (record { limit = limit; window = window; interval = interval; shards = shards; journal = journal; script = script })
+  Some (record { limit = limit; window = window; interval = interval; shards = shards; extents = extents; journal = journal; script = script })
 
 abbrev limits_in : Given → List Part → Option (Option ℕ)
 limits_in g ps = further (number_within 1 10000) (values_of of_limit ps) g.limit
@@ -52,6 +53,9 @@ intervals_in g ps = further (duration_from 1000) (values_of of_interval ps) g.in
 abbrev shards_in : Given → List Part → Option (Option ℕ)
 shards_in g ps = further (number_within 1 64) (values_of of_shards ps) g.shards
 
+abbrev extents_in : Given → List Part → Option (Option ℕ)
+extents_in g ps = further (number_within 1 4096) (values_of of_extents ps) g.extents
+
 abbrev journals_in : Given → List Part → Option (Option ℕ)
 journals_in g ps = further (number_within 1 4000000) (values_of of_journal ps) g.journal
 
@@ -59,48 +63,58 @@ abbrev scripts_in : Given → List Part → Option (List ℕ)
 scripts_in g ps = script_with (others_of ps) g.script
 
 replay_on : Given → List Part → Option Replay
-replay_on g ps = chosen (limits_in g ps) (windows_in g ps) (intervals_in g ps) (shards_in g ps) (journals_in g ps) (scripts_in g ps)
+replay_on g ps = chosen (limits_in g ps) (windows_in g ps) (intervals_in g ps) (shards_in g ps) (extents_in g ps) (journals_in g ps) (scripts_in g ps)
 
 -- ---- none of them, and the first of them
 
-chosen_1 : (b c d e : Option (Option ℕ)) (f : Option (List ℕ)) → chosen None b c d e f ≡ None
+chosen_1 : (b c d e f : Option (Option ℕ)) (g : Option (List ℕ)) → chosen None b c d e f g ≡ None
 unfolding chosen
-chosen_1 b c d e f = refl
+chosen_1 b c d e f g = refl
 
-chosen_2 : (a c d e : Option (Option ℕ)) (f : Option (List ℕ)) → chosen a None c d e f ≡ None
+chosen_2 : (a c d e f : Option (Option ℕ)) (g : Option (List ℕ)) → chosen a None c d e f g ≡ None
 unfolding chosen
-chosen_2 None c d e f = refl
-chosen_2 (Some x) c d e f = refl
+chosen_2 None c d e f g = refl
+chosen_2 (Some x) c d e f g = refl
 
-chosen_3 : (a b d e : Option (Option ℕ)) (f : Option (List ℕ)) → chosen a b None d e f ≡ None
+chosen_3 : (a b d e f : Option (Option ℕ)) (g : Option (List ℕ)) → chosen a b None d e f g ≡ None
 unfolding chosen
-chosen_3 None b d e f = refl
-chosen_3 (Some x) None d e f = refl
-chosen_3 (Some x) (Some y) d e f = refl
+chosen_3 None b d e f g = refl
+chosen_3 (Some x) None d e f g = refl
+chosen_3 (Some x) (Some y) d e f g = refl
 
-chosen_4 : (a b c e : Option (Option ℕ)) (f : Option (List ℕ)) → chosen a b c None e f ≡ None
+chosen_4 : (a b c e f : Option (Option ℕ)) (g : Option (List ℕ)) → chosen a b c None e f g ≡ None
 unfolding chosen
-chosen_4 None b c e f = refl
-chosen_4 (Some x) None c e f = refl
-chosen_4 (Some x) (Some y) None e f = refl
-chosen_4 (Some x) (Some y) (Some z) e f = refl
+chosen_4 None b c e f g = refl
+chosen_4 (Some x) None c e f g = refl
+chosen_4 (Some x) (Some y) None e f g = refl
+chosen_4 (Some x) (Some y) (Some z) e f g = refl
 
-chosen_5 : (a b c d : Option (Option ℕ)) (f : Option (List ℕ)) → chosen a b c d None f ≡ None
+chosen_5 : (a b c d f : Option (Option ℕ)) (g : Option (List ℕ)) → chosen a b c d None f g ≡ None
 unfolding chosen
-chosen_5 None b c d f = refl
-chosen_5 (Some x) None c d f = refl
-chosen_5 (Some x) (Some y) None d f = refl
-chosen_5 (Some x) (Some y) (Some z) None f = refl
-chosen_5 (Some x) (Some y) (Some z) (Some w) f = refl
+chosen_5 None b c d f g = refl
+chosen_5 (Some x) None c d f g = refl
+chosen_5 (Some x) (Some y) None d f g = refl
+chosen_5 (Some x) (Some y) (Some z) None f g = refl
+chosen_5 (Some x) (Some y) (Some z) (Some w) f g = refl
 
-chosen_6 : (a b c d e : Option (Option ℕ)) → chosen a b c d e None ≡ None
+chosen_6 : (a b c d e : Option (Option ℕ)) (g : Option (List ℕ)) → chosen a b c d e None g ≡ None
 unfolding chosen
-chosen_6 None b c d e = refl
-chosen_6 (Some x) None c d e = refl
-chosen_6 (Some x) (Some y) None d e = refl
-chosen_6 (Some x) (Some y) (Some z) None e = refl
-chosen_6 (Some x) (Some y) (Some z) (Some w) None = refl
-chosen_6 (Some x) (Some y) (Some z) (Some w) (Some v) = refl
+chosen_6 None b c d e g = refl
+chosen_6 (Some x) None c d e g = refl
+chosen_6 (Some x) (Some y) None d e g = refl
+chosen_6 (Some x) (Some y) (Some z) None e g = refl
+chosen_6 (Some x) (Some y) (Some z) (Some w) None g = refl
+chosen_6 (Some x) (Some y) (Some z) (Some w) (Some v) g = refl
+
+chosen_7 : (a b c d e f : Option (Option ℕ)) → chosen a b c d e f None ≡ None
+unfolding chosen
+chosen_7 None b c d e f = refl
+chosen_7 (Some x) None c d e f = refl
+chosen_7 (Some x) (Some y) None d e f = refl
+chosen_7 (Some x) (Some y) (Some z) None e f = refl
+chosen_7 (Some x) (Some y) (Some z) (Some w) None f = refl
+chosen_7 (Some x) (Some y) (Some z) (Some w) (Some v) None = refl
+chosen_7 (Some x) (Some y) (Some z) (Some w) (Some v) (Some u) = refl
 
 none_further : (read : List ℕ → Option ℕ) (v : List ℕ) (vs : List (List ℕ)) (o : Option ℕ) → once o (read v) ≡ None → further read (v ∷ vs) o ≡ None
 unfolding further
@@ -131,28 +145,33 @@ option_first : (g : Given) (name : OptionName) (value : List ℕ) (ps : List Par
 unfolding replay_on
 option_first g of_limit value ps =
     by_once (number_within 1 10000) value (values_of of_limit ps) g.limit
-    (λ a. chosen a (windows_in g ps) (intervals_in g ps) (shards_in g ps) (journals_in g ps) (scripts_in g ps))
-    (chosen_1 (windows_in g ps) (intervals_in g ps) (shards_in g ps) (journals_in g ps) (scripts_in g ps))
+    (λ a. chosen a (windows_in g ps) (intervals_in g ps) (shards_in g ps) (extents_in g ps) (journals_in g ps) (scripts_in g ps))
+    (chosen_1 (windows_in g ps) (intervals_in g ps) (shards_in g ps) (extents_in g ps) (journals_in g ps) (scripts_in g ps))
     ∙ sym (map_then (λ n. record g { limit = Some n }) (λ h. replay_on h ps) (once g.limit (number_within 1 10000 value)))
 option_first g of_window value ps =
     by_once (duration_from 0) value (values_of of_window ps) g.window
-    (λ b. chosen (limits_in g ps) b (intervals_in g ps) (shards_in g ps) (journals_in g ps) (scripts_in g ps))
-    (chosen_2 (limits_in g ps) (intervals_in g ps) (shards_in g ps) (journals_in g ps) (scripts_in g ps))
+    (λ b. chosen (limits_in g ps) b (intervals_in g ps) (shards_in g ps) (extents_in g ps) (journals_in g ps) (scripts_in g ps))
+    (chosen_2 (limits_in g ps) (intervals_in g ps) (shards_in g ps) (extents_in g ps) (journals_in g ps) (scripts_in g ps))
     ∙ sym (map_then (λ n. record g { window = Some n }) (λ h. replay_on h ps) (once g.window (duration_from 0 value)))
 option_first g of_interval value ps =
     by_once (duration_from 1000) value (values_of of_interval ps) g.interval
-    (λ c. chosen (limits_in g ps) (windows_in g ps) c (shards_in g ps) (journals_in g ps) (scripts_in g ps))
-    (chosen_3 (limits_in g ps) (windows_in g ps) (shards_in g ps) (journals_in g ps) (scripts_in g ps))
+    (λ c. chosen (limits_in g ps) (windows_in g ps) c (shards_in g ps) (extents_in g ps) (journals_in g ps) (scripts_in g ps))
+    (chosen_3 (limits_in g ps) (windows_in g ps) (shards_in g ps) (extents_in g ps) (journals_in g ps) (scripts_in g ps))
     ∙ sym (map_then (λ n. record g { interval = Some n }) (λ h. replay_on h ps) (once g.interval (duration_from 1000 value)))
 option_first g of_shards value ps =
     by_once (number_within 1 64) value (values_of of_shards ps) g.shards
-    (λ d. chosen (limits_in g ps) (windows_in g ps) (intervals_in g ps) d (journals_in g ps) (scripts_in g ps))
-    (chosen_4 (limits_in g ps) (windows_in g ps) (intervals_in g ps) (journals_in g ps) (scripts_in g ps))
+    (λ d. chosen (limits_in g ps) (windows_in g ps) (intervals_in g ps) d (extents_in g ps) (journals_in g ps) (scripts_in g ps))
+    (chosen_4 (limits_in g ps) (windows_in g ps) (intervals_in g ps) (extents_in g ps) (journals_in g ps) (scripts_in g ps))
     ∙ sym (map_then (λ n. record g { shards = Some n }) (λ h. replay_on h ps) (once g.shards (number_within 1 64 value)))
+option_first g of_extents value ps =
+    by_once (number_within 1 4096) value (values_of of_extents ps) g.extents
+    (λ e. chosen (limits_in g ps) (windows_in g ps) (intervals_in g ps) (shards_in g ps) e (journals_in g ps) (scripts_in g ps))
+    (chosen_5 (limits_in g ps) (windows_in g ps) (intervals_in g ps) (shards_in g ps) (journals_in g ps) (scripts_in g ps))
+    ∙ sym (map_then (λ n. record g { extents = Some n }) (λ h. replay_on h ps) (once g.extents (number_within 1 4096 value)))
 option_first g of_journal value ps =
     by_once (number_within 1 4000000) value (values_of of_journal ps) g.journal
-    (λ e. chosen (limits_in g ps) (windows_in g ps) (intervals_in g ps) (shards_in g ps) e (scripts_in g ps))
-    (chosen_5 (limits_in g ps) (windows_in g ps) (intervals_in g ps) (shards_in g ps) (scripts_in g ps))
+    (λ f. chosen (limits_in g ps) (windows_in g ps) (intervals_in g ps) (shards_in g ps) (extents_in g ps) f (scripts_in g ps))
+    (chosen_6 (limits_in g ps) (windows_in g ps) (intervals_in g ps) (shards_in g ps) (extents_in g ps) (scripts_in g ps))
     ∙ sym (map_then (λ n. record g { journal = Some n }) (λ h. replay_on h ps) (once g.journal (number_within 1 4000000 value)))
 
 script_first : (w : List ℕ) (ws : List (List ℕ)) (s : Option (List ℕ)) (give : Option (List ℕ) → Option Replay)
@@ -166,8 +185,8 @@ script_first w (x ∷ ws) (Some s) give none = none
 other_first : (g : Given) (word : List ℕ) (ps : List Part) → replay_on g (words.other word ∷ ps) ≡ (with_script g word >>= λ h. replay_on h ps)
 unfolding replay_on
 other_first g word ps =
-    script_first word (others_of ps) g.script (chosen (limits_in g ps) (windows_in g ps) (intervals_in g ps) (shards_in g ps) (journals_in g ps))
-    (chosen_6 (limits_in g ps) (windows_in g ps) (intervals_in g ps) (shards_in g ps) (journals_in g ps))
+    script_first word (others_of ps) g.script (chosen (limits_in g ps) (windows_in g ps) (intervals_in g ps) (shards_in g ps) (extents_in g ps) (journals_in g ps))
+    (chosen_7 (limits_in g ps) (windows_in g ps) (intervals_in g ps) (shards_in g ps) (extents_in g ps) (journals_in g ps))
     ∙ sym (map_then (λ s. record g { script = Some s }) (λ h. replay_on h ps) (once g.script (Some word)))
 
 -- ---- word by word
@@ -207,7 +226,7 @@ further_none read o = refl
 last_one : (g : Given) (next : Next) → replay_by g g.script next ≡ (parts_in next [] >>= replay_on g)
 unfolding parts_in replay_on further script_with chosen
 last_one g next = by g.script refl next where
-  by : (s : Option (List ℕ)) → g.script ≡ s → (next : Next) → replay_by g s next ≡ (parts_in next [] >>= λ ps. chosen (limits_in g ps) (windows_in g ps) (intervals_in g ps) (shards_in g ps) (journals_in g ps) (script_with (others_of ps) s))
+  by : (s : Option (List ℕ)) → g.script ≡ s → (next : Next) → replay_by g s next ≡ (parts_in next [] >>= λ ps. chosen (limits_in g ps) (windows_in g ps) (intervals_in g ps) (shards_in g ps) (extents_in g ps) (journals_in g ps) (script_with (others_of ps) s))
   by s e (value_of name) = refl
   by None e any = refl
   by (Some x) e any = refl
@@ -255,16 +274,16 @@ one_script [] = refl
 one_script (w ∷ []) = refl
 one_script (w ∷ (x ∷ ws)) = refl
 
-same_chosen : (a a' b b' c c' d d' e e' : Option (Option ℕ)) (f f' : Option (List ℕ)) → a ≡ a' → b ≡ b' → c ≡ c' → d ≡ d' → e ≡ e' → f ≡ f'
-    → chosen a b c d e f ≡ chosen a' b' c' d' e' f'
-same_chosen a a' b b' c c' d d' e e' f f' p q r s t u = cc
+same_chosen : (a a' b b' c c' d d' e e' f f' : Option (Option ℕ)) (g g' : Option (List ℕ)) → a ≡ a' → b ≡ b' → c ≡ c' → d ≡ d' → e ≡ e' → f ≡ f' → g ≡ g'
+    → chosen a b c d e f g ≡ chosen a' b' c' d' e' f' g'
+same_chosen a a' b b' c c' d d' e e' f f' g g' p q r s t u v = cc
 
 from_nothing : (ps : List Part) → replay_on nothing_given ps ≡ replay_of ps
 unfolding replay_on chosen
-from_nothing ps = same_chosen _ _ _ _ _ _ _ _ _ _ _ _
+from_nothing ps = same_chosen _ _ _ _ _ _ _ _ _ _ _ _ _ _
     (once_at_most (number_within 1 10000) (values_of of_limit ps)) (once_at_most (duration_from 0) (values_of of_window ps))
     (once_at_most (duration_from 1000) (values_of of_interval ps)) (once_at_most (number_within 1 64) (values_of of_shards ps))
-    (once_at_most (number_within 1 4000000) (values_of of_journal ps))
+    (once_at_most (number_within 1 4096) (values_of of_extents ps)) (once_at_most (number_within 1 4000000) (values_of of_journal ps))
     (one_script (others_of ps))
 
 read_behind : (ws : List (List ℕ)) → (read_all nothing_given any ws >>= λ s. replay_by s.0 s.0.script s.1) ≡ replay_behind ws
@@ -324,26 +343,29 @@ duration_in least v n e = by (result_ok (duration_of v)) e where
   by (Some k) e = tested k (nat_le least k) refl e
 
 -- of the values that make a replay those that have a range
-pub record AreChosen (a c d e : Option (Option ℕ)) (r : Replay) : Type 0 where
+pub record AreChosen (a c d e f : Option (Option ℕ)) (r : Replay) : Type 0 where
   pub limit : a ≡ Some r.limit
   pub interval : c ≡ Some r.interval
   pub shards : d ≡ Some r.shards
-  pub journal : e ≡ Some r.journal
+  pub extents : e ≡ Some r.extents
+  pub journal : f ≡ Some r.journal
 
-chosen_is : (a b c d e : Option (Option ℕ)) (f : Option (List ℕ)) (r : Replay) → chosen a b c d e f ≡ Some r → AreChosen a c d e r
+chosen_is : (a b c d e f : Option (Option ℕ)) (g : Option (List ℕ)) (r : Replay) → chosen a b c d e f g ≡ Some r → AreChosen a c d e f r
 unfolding chosen
-chosen_is None b c d e f r h = cc
-chosen_is (Some x) None c d e f r h = cc
-chosen_is (Some x) (Some y) None d e f r h = cc
-chosen_is (Some x) (Some y) (Some z) None e f r h = cc
-chosen_is (Some x) (Some y) (Some z) (Some w) None f r h = cc
-chosen_is (Some x) (Some y) (Some z) (Some w) (Some v) None r h = cc
-chosen_is (Some x) (Some y) (Some z) (Some w) (Some v) (Some s) r h =
-    let same : record { limit = x; window = y; interval = z; shards = w; journal = v; script = s } ≡ r = cc in
+chosen_is None b c d e f g r h = cc
+chosen_is (Some x) None c d e f g r h = cc
+chosen_is (Some x) (Some y) None d e f g r h = cc
+chosen_is (Some x) (Some y) (Some z) None e f g r h = cc
+chosen_is (Some x) (Some y) (Some z) (Some w) None f g r h = cc
+chosen_is (Some x) (Some y) (Some z) (Some w) (Some v) None g r h = cc
+chosen_is (Some x) (Some y) (Some z) (Some w) (Some v) (Some u) None r h = cc
+chosen_is (Some x) (Some y) (Some z) (Some w) (Some v) (Some u) (Some s) r h =
+    let same : record { limit = x; window = y; interval = z; shards = w; extents = v; journal = u; script = s } ≡ r = cc in
     record {
       limit = ap (λ (r : Replay). Some r.limit) same;
       interval = ap (λ (r : Replay). Some r.interval) same;
       shards = ap (λ (r : Replay). Some r.shards) same;
+      extents = ap (λ (r : Replay). Some r.extents) same;
       journal = ap (λ (r : Replay). Some r.journal) same;
     }
 
@@ -356,7 +378,7 @@ unfolding chosen
 right_by ps l r e right =
     let is = chosen_is (at_most_once (number_within 1 10000) (values_of of_limit ps)) (at_most_once (duration_from 0) (values_of of_window ps))
     (at_most_once (duration_from 1000) (values_of of_interval ps)) (at_most_once (number_within 1 64) (values_of of_shards ps))
-    (at_most_once (number_within 1 4000000) (values_of of_journal ps)) (exactly_one (others_of ps)) r e in
+    (at_most_once (number_within 1 4096) (values_of of_extents ps)) (at_most_once (number_within 1 4000000) (values_of of_journal ps)) (exactly_one (others_of ps)) r e in
     record {
       some = or_else (λ n. 1 ≤ n) r.limit l.outstanding
           (read_within (λ n. 1 ≤ n) (number_within 1 10000) (values_of of_limit ps) r.limit (λ v n h. (number_in 1 10000 v n h).0) is.limit) right.some;
@@ -366,6 +388,8 @@ right_by ps l r e right =
           (read_within (λ n. 1 ≤ n) (number_within 1 64) (values_of of_shards ps) r.shards (λ v n h. (number_in 1 64 v n h).0) is.shards) right.shards;
       most_shards = or_else (λ n. n ≤ 64) r.shards l.shards
           (read_within (λ n. n ≤ 64) (number_within 1 64) (values_of of_shards ps) r.shards (λ v n h. (number_in 1 64 v n h).1) is.shards) right.most_shards;
+      extents = or_else (λ n. 1 ≤ n) r.extents l.extents
+          (read_within (λ n. 1 ≤ n) (number_within 1 4096) (values_of of_extents ps) r.extents (λ v n h. (number_in 1 4096 v n h).0) is.extents) right.extents;
       bounded = or_else (λ n. n ≤ 4000000) r.journal l.journal
           (read_within (λ n. n ≤ 4000000) (number_within 1 4000000) (values_of of_journal ps) r.journal (λ v n h. (number_in 1 4000000 v n h).1) is.journal) right.bounded;
     }

@@ -32,14 +32,14 @@ third (inl e) = true≢false (sym (ap (λ (n : List ℕ). bytes_eq n (codes "c")
 third (inr (a, inl e)) = true≢false (sym (ap (λ (n : List ℕ). bytes_eq n (codes "c")) e))
 third (inr (a, inr (b, r))) = true≢false b
 
--- the files of a script that runs are needed, be it with step lines, and none of one with a `keep` line, or of one that is refused
+-- the files of a script that runs are needed, be it with step lines, and none of one that is refused
 of_lines : script_files (Ok lines) ≡ codes "a" ∷ codes "b" ∷ codes "c" ∷ []
 of_lines = refl
 
 of_steps : script_files (Ok (record { number = 1; line = ingest (codes "acme") (codes "a") 0 } ∷ record { number = 2; line = plan (codes "q") 1 } ∷ [])) ≡ codes "a" ∷ []
 of_steps = refl
 
-of_keeps : script_files (Ok (record { number = 1; line = ingest (codes "acme") (codes "a") 0 } ∷ record { number = 2; line = keep (codes "q") 1 } ∷ [])) ≡ []
+of_keeps : script_files (Ok (record { number = 1; line = ingest (codes "acme") (codes "a") 0 } ∷ record { number = 2; line = keep (codes "q") 1 } ∷ [])) ≡ codes "a" ∷ []
 of_keeps = refl
 
 of_none : script_files (Err 3) ≡ []

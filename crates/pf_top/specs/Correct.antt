@@ -1,5 +1,5 @@
 -- What the program promises of a replay and of an evaluation: this project's own.
-use Rattle.std.specs.Prelude.{◌≡◌, ℕ, ◌⊎◌, Bool, true, false, cond, Option, Some, None, Result, Ok, Err, List, [], ◌∷◌, take}
+use Rattle.std.specs.Prelude.{◌≡◌, ℕ, ◌⊎◌, Bool, true, false, Option, Some, None, Result, Ok, Err, List, [], ◌∷◌, take}
 use Rattle.pf_base.specs.Batches.{BatchData}
 use Rattle.pf_base.specs.Grids.{grid_of}
 use Rattle.pf_base.specs.declared.plain.Limits.{Limits}
@@ -16,7 +16,7 @@ use Rattle.pf_journal.specs.Report.{report}
 use Rattle.pf_journal.specs.Rest.{Rest}
 use Rattle.pf_journal.specs.Scripts.{Numbered, script_of}
 use Rattle.pf_journal.specs.Weave.{Weave}
-use Rattle.pf_client.specs.Replays.{Agree, HasFailed, HaveMetFull, Held, IsUncached, Reaches, files_of, has_keep}
+use Rattle.pf_client.specs.Replays.{Agree, HasFailed, HaveMetFull, Held, Reaches, files_of}
 use Rattle.pf_top.specs.Refusals.{refused_file, refused_not_built, refused_read, refused_script}
 use Rattle.pf_top.specs.Words.{Evaluation, Replay, evaluation_words, limits_with, replay_words}
 
@@ -46,14 +46,13 @@ pub record Outside : Type 0 where
 
 -- ---- what is read
 
--- the scripts are those that the words name: one that is not refused and has no `keep` line
+-- the scripts are those that the words name: one that is not refused
 abbrev pub AreScripts : Held → Replay → List (List Numbered) → Type 0
-AreScripts held replay scripts =
-    (lines : List Numbered) × ((scripts ≡ lines ∷ []) × ((script_of true (held replay.script) ≡ Ok lines) × (has_keep lines ≡ false)))
+AreScripts held replay scripts = (lines : List Numbered) × ((scripts ≡ lines ∷ []) × (script_of true (held replay.script) ≡ Ok lines))
 
 abbrev pub script_files : Result (List Numbered) ℕ → List (List ℕ)
 script_files (Err line) = []
-script_files (Ok lines) = cond (has_keep lines) [] (files_of lines)
+script_files (Ok lines) = files_of lines
 
 -- the files that are needed, in the order in which they are read: a script, and what it names if it runs; or the file of an
 -- evaluation
@@ -86,7 +85,6 @@ pub record Reported (limits : Limits) (files : FilesSeen) (held : Held) (words :
   pub legal : Legal (limits_with limits replay) names journal
   pub named : AreNames names journal
   pub woven : Weave (record { limits = limits_with limits replay; names = names; files = held; readings = readings }) journal scripts rest
-  pub uncached : Each (λ e. IsUncached e.what) journal
   pub met : HaveMetFull full rest.clients
   pub whole : text ≡ report (record { limits = limits_with limits replay; names = names; files = held; readings = readings }) journal scripts rest
 
@@ -133,15 +131,11 @@ pub record Unread (files : FilesSeen) (held : Held) (words : List (List ℕ)) (t
   pub fault : HasFailed files.sure files.before files.after files.failed name
   pub whole : text ≡ refused_read name
 
--- the words are of no form that is built, or the script that they name has a `keep` line
-abbrev pub IsUnbuilt : Held → Option Replay → Option Evaluation → Type 0
-IsUnbuilt held None None = Unit {0}
-IsUnbuilt held None (Some named) = ⊥
-IsUnbuilt held (Some replay) _ = (lines : List Numbered) × ((script_of true (held replay.script) ≡ Ok lines) × (has_keep lines ≡ true))
-
+-- the words are of no form that is built
 pub record Unbuilt (files : FilesSeen) (held : Held) (words : List (List ℕ)) (text : List ℕ) : Type 0 where
   pub all : AllRead files (needed held words)
-  pub unbuilt : IsUnbuilt held (replay_words words) (evaluation_words words)
+  pub no_replay : replay_words words ≡ None
+  pub no_evaluation : evaluation_words words ≡ None
   pub whole : text ≡ refused_not_built
 
 -- what a run may print

@@ -3,7 +3,7 @@
 use Rattle.std.specs.Prelude.{ℕ, Option, Some, None, cond, option_map, List, [], ◌∷◌, nat_eq}
 use Rattle.pf_model.specs.Cuts.{◌>>=◌, kept}
 use Rattle.pf_top.specs.Words as words
-use Rattle.pf_top.specs.Words.{OptionName, Word, plain, last_dashes, named, valued, of_limit, of_window, of_interval, of_shards, of_journal, duration_from, is_dashed, number_within, word_of}
+use Rattle.pf_top.specs.Words.{OptionName, Word, plain, last_dashes, named, valued, of_limit, of_window, of_interval, of_shards, of_extents, of_journal, duration_from, is_dashed, number_within, word_of}
 use Rattle.pf_top.specs.declared.options.Given.{Given as GivenCode}
 use Rattle.pf_top.specs.declared.options.Name.{Name}
 use Rattle.pf_top.specs.declared.options.Name.TheVariants as code
@@ -24,6 +24,7 @@ pub record Given : Type 0 where
   pub window : Option ℕ
   pub interval : Option ℕ
   pub shards : Option ℕ
+  pub extents : Option ℕ
   pub journal : Option ℕ
   pub script : Option (List ℕ)
 
@@ -43,6 +44,7 @@ with_option g of_limit value = option_map (λ n. record g { limit = Some n }) (o
 with_option g of_window value = option_map (λ n. record g { window = Some n }) (once g.window (duration_from 0 value))
 with_option g of_interval value = option_map (λ n. record g { interval = Some n }) (once g.interval (duration_from 1000 value))
 with_option g of_shards value = option_map (λ n. record g { shards = Some n }) (once g.shards (number_within 1 64 value))
+with_option g of_extents value = option_map (λ n. record g { extents = Some n }) (once g.extents (number_within 1 4096 value))
 with_option g of_journal value = option_map (λ n. record g { journal = Some n }) (once g.journal (number_within 1 4000000 value))
 
 abbrev pub with_script : Given → List ℕ → Option Given
@@ -72,10 +74,10 @@ abbrev pub replay_by : Given → Option (List ℕ) → Next → Option words.Rep
 replay_by g script (value_of name) = None
 replay_by g None _ = None
 replay_by g (Some script) _ =
-    Some (record { limit = g.limit; window = g.window; interval = g.interval; shards = g.shards; journal = g.journal; script = script })
+    Some (record { limit = g.limit; window = g.window; interval = g.interval; shards = g.shards; extents = g.extents; journal = g.journal; script = script })
 
 abbrev pub nothing_given : Given
-nothing_given = record { limit = None; window = None; interval = None; shards = None; journal = None; script = None }
+nothing_given = record { limit = None; window = None; interval = None; shards = None; extents = None; journal = None; script = None }
 
 -- ---- the values of the code
 
@@ -84,6 +86,7 @@ name_in code.Limit = of_limit
 name_in code.Window = of_window
 name_in code.Interval = of_interval
 name_in code.Shards = of_shards
+name_in code.Extents = of_extents
 name_in code.Journal = of_journal
 
 abbrev pub word_in : WordCode → Word
@@ -98,10 +101,10 @@ next_in (code_next.ValueOf name) = value_of (name_in name)
 next_in code_next.Other = other
 
 abbrev pub given_in : GivenCode → Given
-given_in g = record { limit = g.limit; window = g.window; interval = g.interval; shards = g.shards; journal = g.journal; script = option_map (λ s. s.now) g.script }
+given_in g = record { limit = g.limit; window = g.window; interval = g.interval; shards = g.shards; extents = g.extents; journal = g.journal; script = option_map (λ s. s.now) g.script }
 
 abbrev pub state_in : GivenCode × NextCode → Given × Next
 state_in s = (given_in s.0, next_in s.1)
 
 abbrev pub replay_in : Replay → words.Replay
-replay_in r = record { limit = r.limit; window = r.window; interval = r.interval; shards = r.shards; journal = r.journal; script = r.script.now }
+replay_in r = record { limit = r.limit; window = r.window; interval = r.interval; shards = r.shards; extents = r.extents; journal = r.journal; script = r.script.now }

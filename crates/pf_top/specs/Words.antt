@@ -20,6 +20,7 @@ pub data OptionName : Type 0 where
   of_window : OptionName
   of_interval : OptionName
   of_shards : OptionName
+  of_extents : OptionName
   of_journal : OptionName
 
 abbrev pub option_name : List ℕ → Option OptionName
@@ -27,7 +28,8 @@ option_name name =
     cond (bytes_eq name (codes "limit")) (Some of_limit)
     (cond (bytes_eq name (codes "window")) (Some of_window)
     (cond (bytes_eq name (codes "interval")) (Some of_interval)
-    (cond (bytes_eq name (codes "shards")) (Some of_shards) (cond (bytes_eq name (codes "journal")) (Some of_journal) None))))
+    (cond (bytes_eq name (codes "shards")) (Some of_shards)
+    (cond (bytes_eq name (codes "extents")) (Some of_extents) (cond (bytes_eq name (codes "journal")) (Some of_journal) None)))))
 
 -- a word where an option may stand
 pub data Word : Type 0 where
@@ -91,6 +93,7 @@ is_same of_limit of_limit = true
 is_same of_window of_window = true
 is_same of_interval of_interval = true
 is_same of_shards of_shards = true
+is_same of_extents of_extents = true
 is_same of_journal of_journal = true
 is_same _ _ = false
 
@@ -112,6 +115,7 @@ pub record Replay : Type 0 where
   pub window : Option ℕ
   pub interval : Option ℕ
   pub shards : Option ℕ
+  pub extents : Option ℕ
   pub journal : Option ℕ
   pub script : List ℕ
 
@@ -139,9 +143,10 @@ replay_of parts = do
   window ← at_most_once (duration_from 0) (values_of of_window parts)
   interval ← at_most_once (duration_from 1000) (values_of of_interval parts)
   shards ← at_most_once (number_within 1 64) (values_of of_shards parts)
+  extents ← at_most_once (number_within 1 4096) (values_of of_extents parts)
   journal ← at_most_once (number_within 1 4000000) (values_of of_journal parts)
   script ← exactly_one (others_of parts)
-  Some (record { limit = limit; window = window; interval = interval; shards = shards; journal = journal; script = script })
+  Some (record { limit = limit; window = window; interval = interval; shards = shards; extents = extents; journal = journal; script = script })
 
 -- by the words behind the command
 abbrev pub replay_behind : List (List ℕ) → Option Replay
@@ -158,7 +163,7 @@ limits_with l r = record {
   window = unwrap_or r.window l.window;
   interval = unwrap_or r.interval l.interval;
   shards = unwrap_or r.shards l.shards;
-  extents = l.extents;
+  extents = unwrap_or r.extents l.extents;
   journal = unwrap_or r.journal l.journal;
 }
 

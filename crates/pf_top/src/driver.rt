@@ -5,7 +5,7 @@ ghost use Rattle.pf_block.specs.Snaps.{are_timed};
 ghost use Rattle.pf_core.specs.Cores.{AreLimits};
 ghost use Rattle.pf_model.specs.Lists.{Each};
 ghost use Rattle.pf_script.specs.Lines.{AllFollow, IsRead, lines_of};
-ghost use Rattle.pf_client.specs.Replays.{Held, has_keep};
+ghost use Rattle.pf_client.specs.Replays.{Held};
 ghost use Rattle.pf_top.specs.Correct.{Correct, FilesSeen, Outside};
 ghost use Rattle.pf_io.specs.Outside.{Holds};
 ghost use Rattle.pf_journal.specs.Scripts.{most_bytes};
@@ -17,7 +17,6 @@ ghost use Rattle.pf_top.specs.Refusals.{refused_file, refused_line, refused_not_
 ghost use Rattle.pf_top.specs.Words.{evaluation_words, replay_words};
 
 use crate::evaluation::evaluation_of;
-use crate::unbuilt::has_keep;
 use crate::words::{Evaluation, evaluation_words, limits_with, replay_words};
 use pf_base::{Batch, Limits, OutOfMemory, Text};
 use pf_client::{
@@ -106,7 +105,6 @@ fn run_loaded<H: Hop, G: Gate>(
     requires lasts { HaveLast (lines_of script.now) files }
     requires read { Each IsRead script.now.lines.items }
     requires following { AllFollow [] (lines_of script.now) }
-    requires unkept { has_keep (lines_of script.now) ≡ false }
     ensures { IfOk result (λ o. (held : Held) → AreHeld held files → IsRun limits held (lines_of script.now) o.status o.text.items) }
 {
     let queries = read_queries(alloc, script)?;
@@ -135,7 +133,6 @@ fn replay_script<F: Files, H: Hop, G: Gate>(
     requires actors { length hops.old ≡ 32 }
     requires read { Each IsRead script.now.lines.items }
     requires following { AllFollow [] (lines_of script.now) }
-    requires unkept { has_keep (lines_of script.now) ≡ false }
     requires held { Holds (F.told files.old name.now) bytes.items }
     requires short { length bytes.items ≤ most_bytes }
     requires there { F.lost files.old name.now ≡ false }
@@ -276,21 +273,17 @@ fn run_words<F: Files, H: Hop, G: Gate>(
     };
     match read_script(alloc, bytes.as_slice(), true) {
         Ok(script) => {
-            if has_keep(&script) {
-                unbuilt(alloc)
-            } else {
-                let limits = limits_with(limits, &replay);
-                replay_script(
-                    alloc,
-                    limits,
-                    files,
-                    &script,
-                    replay.script,
-                    bytes,
-                    hops,
-                    gate,
-                )
-            }
+            let limits = limits_with(limits, &replay);
+            replay_script(
+                alloc,
+                limits,
+                files,
+                &script,
+                replay.script,
+                bytes,
+                hops,
+                gate,
+            )
         }
         Err(ScriptError::Line { line }) => script_refused(alloc, line),
         Err(ScriptError::OutOfMemory) => Err(OutOfMemory),
@@ -327,11 +320,11 @@ pub fn run_within<F: Files, O: Sink, H: Hop + Drop, G: Gate>(
 /// Does all that the program does: takes its words, reads the files, writes what it prints and answers its status.
 ///
 /// Built are the words `replay SCRIPT`, with the options `--limit N`, `--window DURATION`, `--interval DURATION`,
-/// `--shards N` and `--journal N`, and all scripts without a `keep` line; and the words `eval FILE QUERY START END STEP`, which print the code and the body of a
-/// query over one file. Any text is read as a query or a selector, and one that is refused is answered so. The doors are of no use
-/// to these. The statuses are 0 for a report or an evaluation, 3 for a script with a line that is none, or an evaluation's file
+/// `--shards N`, `--extents N` and `--journal N`; and the words `eval FILE QUERY START END STEP`, which print the code and the body
+/// of a query over one file. Any text is read as a query or a selector, and one that is refused is answered so. The doors are of no
+/// use to these. The statuses are 0 for a report or an evaluation, 3 for a script with a line that is none, or an evaluation's file
 /// that is refused, 4 for a file that was not read, 5 for output that was not taken, 6 for want of memory, 8 for a report of a
-/// client that met the full journal, and 9 for words that are not built and scripts with a `keep` line.
+/// client that met the full journal, and 9 for words that are not built.
 pub fn run<R, F: Files, O: Sink, H: Hop + Send + Drop, G: Gate + Sync, D: Doors>(
     rt: &R,
     alloc: Global,

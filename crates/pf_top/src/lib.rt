@@ -10,7 +10,6 @@ mod driver;
 mod evaluate;
 mod evaluation;
 mod options;
-mod unbuilt;
 mod words;
 
 pub use driver::{DEFAULT_LIMITS, run, run_within};

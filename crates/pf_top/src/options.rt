@@ -17,6 +17,7 @@ enum Name {
     Window,
     Interval,
     Shards,
+    Extents,
     Journal,
 }
 
@@ -50,6 +51,7 @@ struct Given<'a> {
     window: Option<u64>,
     interval: Option<u64>,
     shards: Option<u32>,
+    extents: Option<u32>,
     journal: Option<u64>,
     script: Option<&'a str>,
 }
@@ -82,6 +84,8 @@ fn option_name(text: &[u8]) -> Option<Name>
         Some(Name::Interval)
     } else if text == b"shards".as_slice() {
         Some(Name::Shards)
+    } else if text == b"extents".as_slice() {
+        Some(Name::Extents)
     } else if text == b"journal".as_slice() {
         Some(Name::Journal)
     } else {
@@ -158,6 +162,13 @@ fn shards_of(value: &[u8]) -> Option<u32>
     Some(number as u32)
 }
 
+fn extents_of(value: &[u8]) -> Option<u32>
+    ensures { result ≡ number_within 1 4096 value.now }
+{
+    let number = number_within(value, 1, 4096)?;
+    Some(number as u32)
+}
+
 fn millis_of(value: &[u8]) -> Option<u64>
     ensures { result ≡ result_ok (duration_of value.now) }
 {
@@ -195,6 +206,7 @@ impl<'a> Given<'a> {
                 duration_from(value, 1000),
             )?),
             Name::Shards => given.shards = Some(once(self.shards, shards_of(value))?),
+            Name::Extents => given.extents = Some(once(self.extents, extents_of(value))?),
             Name::Journal => {
                 given.journal = Some(once(self.journal, number_within(value, 1, 4_000_000))?)
             }
@@ -253,6 +265,7 @@ impl<'a> Given<'a> {
             window: self.window,
             interval: self.interval,
             shards: self.shards,
+            extents: self.extents,
             journal: self.journal,
             script: self.script?,
         })
@@ -267,6 +280,7 @@ fn read_all(words: &[Text]) -> Option<(Given<'_>, Next)>
         window: None,
         interval: None,
         shards: None,
+        extents: None,
         journal: None,
         script: None,
     };

@@ -16,6 +16,7 @@ pub struct Replay<'a> {
     pub window: Option<u64>,
     pub interval: Option<u64>,
     pub shards: Option<u32>,
+    pub extents: Option<u32>,
     pub journal: Option<u64>,
     pub script: &'a str,
 }
@@ -41,8 +42,8 @@ pub fn limits_with(limits: Limits, replay: &Replay<'_>) -> Limits
         window: replay.window.unwrap_or(limits.window),
         interval: replay.interval.unwrap_or(limits.interval),
         shards: replay.shards.unwrap_or(limits.shards),
+        extents: replay.extents.unwrap_or(limits.extents),
         journal: replay.journal.unwrap_or(limits.journal),
-        ..limits
     }
 }
 

@@ -2,7 +2,7 @@
 use Rattle.std.proofs.Common.{rules, subst, sym}
 use Rattle.pf_script.specs.Lines.{lines_of}
 use Rattle.pf_client.proofs.Cases.{if_ok_map}
-use Rattle.pf_top.proofs.OutputLaws.{bytes_told, long_output, refused_output, unbuilt_output, unread_output, words_output}
+use Rattle.pf_top.proofs.OutputLaws.{bytes_told, long_output, refused_output, unread_output, words_output}
 use Rattle.pf_core.specs.Cores.{AreLimits}
 use Rattle.pf_top.proofs.WordLaws.{limits_right}
 use Rattle.pf_top.specs.Correct.{FilesSeen}
@@ -30,18 +30,8 @@ returns-in-Ok-clause-output g c =
     if_ok_map _ _ c.replay_script.result
     (λ o replay. words_output c.args.limits c.limits_with-limits.result seen (f.sure c.read_file.new.files) (f.lost c.read_file.new.files) (f.told c.read_file.new.files) (f.faults c.read_file.new.files)
     c.args.words.now (replay_in c.in-Some.replay) c.in-Ok-Bytes.bytes.items c.as_slice.result.now (lines_of c.in-Ok.script) o.status o.text.items (sym c.in-Some.ensures)
-    c.limits_with-limits.ensures (search rules) (search rules) (search rules) (search rules) c.read_file.ensures.kept c.read_file.ensures.kept_lost c.read_file.ensures.kept_sure (search rules) replay)
+    c.limits_with-limits.ensures (search rules) (search rules) (search rules) c.read_file.ensures.kept c.read_file.ensures.kept_lost c.read_file.ensures.kept_sure (search rules) replay)
     c.replay_script.ensures.output
-
-pub returns-then-has_keep-clause-output : goal.returns-then-has_keep-clause-output
-returns-then-has_keep-clause-output g c =
-    let f = g.F.Files in
-    let seen : FilesSeen = record { told = f.told c.args.files.now; sure = f.sure c.args.files.now; lost = f.lost c.args.files.now; before = f.faults c.args.files.now; after = f.faults c.read_file.new.files; failed = f.failed c.read_file.new.files } in
-    if_ok_map _ _ c.unbuilt.result
-    (λ o p. unbuilt_output c.args.limits seen c.args.words.now (replay_in c.in-Some.replay) c.in-Ok-Bytes.bytes.items c.as_slice.result.now (lines_of c.in-Ok.script) o.status o.text.items (sym c.in-Some.ensures)
-    (bytes_told (f.told c.args.files.now c.in-Some.replay.script.now) c.in-Ok-Bytes.field-0 c.in-Ok-Bytes.bytes (search rules) c.in-Ok-Bytes.ensures.contents).0
-    (search rules) (search rules) (search rules) (search rules) (search rules) p)
-    c.unbuilt.ensures
 
 pub returns-in-Err-Line-clause-output : goal.returns-in-Err-Line-clause-output
 returns-in-Err-Line-clause-output g c =

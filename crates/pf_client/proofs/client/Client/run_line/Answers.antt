@@ -55,6 +55,14 @@ returns-in_ok-plan-in-Plan-clause-runs g c =
     c.in_ok-plan-in-Plan.ensures.step known above hands k alone (have.right c.in-Plan.asked _ follows.names)
     (have.kept c.in-Plan.asked _ follows.names follows.is_open)) (search rules))
 
+pub returns-in_ok-keep-in-Keep-clause-runs : goal.returns-in_ok-keep-in-Keep-clause-runs
+returns-in_ok-keep-in-Keep-clause-runs g c =
+    subst (λ (l : Line). GoesOnWith c.args.loaded.now c.args.self.now (numbered c.args.line.now.number l) run.On c.keep.new.self) (sym c.in-Keep.is)
+    (λ first part. quiet_goes first c.args.self.now c.keep.new.self _ (search rules) tt (λ id a. a)
+    (λ known above hands done k alone have kept hs follows.
+    c.in_ok-keep-in-Keep.ensures.step known above hands k alone (have.right c.in-Keep.asked _ follows.names)
+    (have.kept c.in-Keep.asked _ follows.names follows.is_open.0)) (search rules))
+
 pub returns-in_ok-take-in-Take-clause-runs : goal.returns-in_ok-take-in-Take-clause-runs
 returns-in_ok-take-in-Take-clause-runs g c =
     subst (λ (l : Line). GoesOnWith c.args.loaded.now c.args.self.now (numbered c.args.line.now.number l) run.On c.take.new.self) (sym c.in-Take.is)
@@ -88,3 +96,6 @@ returns-in_ok-answer-in-Answer-clause-holds g c = holds_on c.args.self.now c.ans
 
 pub returns-in_ok-plan-in-Plan-clause-holds : goal.returns-in_ok-plan-in-Plan-clause-holds
 returns-in_ok-plan-in-Plan-clause-holds g c = holds_on c.args.self.now c.plan.new.self (search rules) (search rules) c.requires.holds
+
+pub returns-in_ok-keep-in-Keep-clause-holds : goal.returns-in_ok-keep-in-Keep-clause-holds
+returns-in_ok-keep-in-Keep-clause-holds g c = holds_on c.args.self.now c.keep.new.self (search rules) (search rules) c.requires.holds
