@@ -3,6 +3,7 @@
 ghost use Rattle.std.specs.Prelude.{◌≡◌, ◌≤◌, true};
 ghost use Rattle.pf_model.specs.Built.{is_evaluated};
 ghost use Rattle.pf_model.specs.Trees.{height, size, tree_of};
+ghost use Rattle.pf_print.specs.OwnTexts.{HasText};
 ghost use Rattle.pf_types.specs.Asking.{IsWhen};
 
 use crate::language::push_refusal;
@@ -59,6 +60,7 @@ fn push_over(out: &mut Output, query: &BoundQuery, when: When)
 /// What a tree asks once it is bound.
 fn push_tree(out: &mut Output, when: When, tree: Expr)
     requires when { IsWhen when }
+    requires written { HasText (tree_of tree) }
     requires small { size (tree_of tree) ≤ 65536 }
     requires low { height (tree_of tree) ≤ 64 }
     requires evaluated { is_evaluated (tree_of tree) ≡ true }

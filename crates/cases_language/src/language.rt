@@ -4,6 +4,7 @@ ghost use Rattle.std.specs.Prelude.{◌≡◌, ◌≤◌, true};
 ghost use Rattle.pf_lex.specs.Seen.{IsTokenOf};
 ghost use Rattle.pf_model.specs.Built.{is_evaluated};
 ghost use Rattle.pf_model.specs.Trees.{height, size, tree_of};
+ghost use Rattle.pf_print.specs.OwnTexts.{HasText};
 
 use crate::asking::asking;
 use crate::resolution::resolving;
@@ -185,6 +186,7 @@ fn query(out: &mut Output, text: &str) {
 }
 
 fn push_bound(out: &mut Output, tree: Expr)
+    requires written { HasText (tree_of tree) }
     requires small { size (tree_of tree) ≤ 65536 }
     requires low { height (tree_of tree) ≤ 64 }
     requires evaluated { is_evaluated (tree_of tree) ≡ true }

@@ -121,7 +121,9 @@ fn plan(out: &mut Output, table: &mut Table, query: u64, words: &str)
     if table.look(query).is_none() {
         return out.refuse();
     }
-    push_planned(out, table.plan(alloc, query, legs, runs, &snap));
+    let cached = Vec::new(alloc);
+    let planned = table.plan(alloc, query, legs, runs, cached, false, &snap);
+    push_planned(out, planned);
 }
 
 /// What is told of a job.
