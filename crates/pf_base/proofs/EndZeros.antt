@@ -1,6 +1,6 @@
 -- Zeros at the end of digits.
-use Rattle.std.proofs.Common.{◌≡◌, ℕ, ◌+◌, ◌-◌, ◌<◌, ◌≤◌, List, [], ◌∷◌, ◌++◌, length, get_or, take, refl, ap, sym, ◌∙◌, arith}
-use Rattle.std.proofs.lemmas.List.{take_more}
+use Rattle.std.proofs.Common.{◌≡◌, ℕ, ◌+◌, ◌-◌, ◌<◌, ◌≤◌, Bool, true, false, cond, nat_eq, List, [], ◌∷◌, ◌++◌, length, get_or, take, refl, ap, sym, ◌∙◌, arith}
+use Rattle.std.proofs.lemmas.List.{length-take, take_more}
 use Rattle.std.proofs.lemmas.Grind.{common_steps}
 use Rattle.std.proofs.lemmas.Bool.Decides.{nat_tests}
 use Rattle.pf_base.specs.NumberTexts.{with_digit, without_end_zeros}
@@ -42,3 +42,24 @@ pub end_none : (xs : List ℕ) (n : ℕ) → n ≤ 0 → without_end_zeros (take
 end_none xs n h =
     let e : n ≡ 0 = omega arith in
     ap (λ j. without_end_zeros (take j xs)) e ∙ nothing xs ∙ ap (λ j. take j xs) (sym e)
+
+take_none : (xs : List ℕ) → take 0 xs ≡ []
+take_none [] = refl
+take_none (x ∷ xs) = refl
+
+front_of_digit : (b : ℕ) (ys bs : List ℕ) → take (length ys) bs ≡ ys → take (length (with_digit b ys)) (b ∷ bs) ≡ with_digit b ys
+front_of_digit b [] bs h = alone (nat_eq b 48)
+  where
+    alone : (z : Bool) → take (length (cond z [] (b ∷ []))) (b ∷ bs) ≡ cond z [] (b ∷ [])
+    alone true = refl
+    alone false = ap (λ l. b ∷ l) (take_none bs)
+front_of_digit b (c ∷ cs) bs h = ap (λ l. b ∷ l) h
+
+-- what is left stands in front
+pub front_left : (xs : List ℕ) → take (length (without_end_zeros xs)) xs ≡ without_end_zeros xs
+unfolding without_end_zeros
+front_left [] = refl
+front_left (x ∷ xs) = front_of_digit x (without_end_zeros xs) xs (front_left xs)
+
+pub at_most_all : (xs : List ℕ) → length (without_end_zeros xs) ≤ length xs
+at_most_all xs = omega (arith, ap length (front_left xs), length-take (length (without_end_zeros xs)) xs)

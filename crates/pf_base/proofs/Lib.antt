@@ -1,4 +1,6 @@
+mod DigitCounts
 mod Numbers
+mod Written
 mod Worked
 mod EndZeros
 pub mod Hashes

@@ -1,14 +1,14 @@
 //! Numbers as text.
 
-ghost use Rattle.std.specs.Prelude.{◌≡◌, ◌↔◌, ◌+◌, ◌*◌, ◌^◌, ◌<◌, ◌≤◌, ◌++◌, true, length, map, take, vec_len, IfOk, OnOk, OnErr};
-ghost use Rattle.std.specs.Fmt.{decimal};
+ghost use Rattle.std.specs.Prelude.{◌≡◌, ◌↔◌, ◌+◌, ◌*◌, ◌^◌, ◌≤◌, ◌++◌, true, length, map, IfOk, OnOk, OnErr};
 ghost use Rattle.std.specs.Str.{all_ascii_digits};
 ghost use Rattle.std.specs.Char.{to_ascii_lowercase};
-ghost use Rattle.pf_base.specs.NumberTexts.{fraction_digits, fraction_text, micros_text, number_after, Reads, six_digits, value_text, without_end_zeros};
+ghost use Rattle.pf_base.specs.NumberTexts.{fraction_digits, number_after, Reads, value_text};
 ghost use Rattle.pf_base.specs.NumberScans.{capped, decimal_of, digits_in_front, exponent_of, fraction_in_front, is_minus, is_word, past_digits, past_fraction, past_sign, placed, read_of, sign_in_front, signed_by, sizes, small_of, tens_of};
 ghost use Rattle.pf_base.specs.declared.number.Read.{Read};
 
 use crate::memory::OutOfMemory;
+use crate::number_text::write_value;
 use crate::value::{LIM, Value};
 
 /// The greatest size of a value, in micros.
@@ -46,83 +46,10 @@ pub fn push_value(out: &mut Vec<u8>, value: Value) -> Result<(), OutOfMemory>
     ensures err { OnErr result (out.new.items ≡ out.old.items) }
     ensures read_back { Reads (value_text value) (Read.Number value) }
 {
-    let before = out.len();
-    match push_text(out, value.micros()) {
-        Ok(()) => Ok(()),
-        Err(error) => {
-            out.truncate(before);
-            Err(error)
-        }
-    }
-}
-
-fn push_text(out: &mut Vec<u8>, micros: i64) -> Result<(), OutOfMemory>
-    ensures ok { OnOk result (out.new.items ≡ out.old.items ++ value_text micros) }
-    ensures kept { take (vec_len out.old) out.new.items ≡ out.old.items }
-{
-    if micros < 0 {
-        out.push(b'-')?;
-    }
-    push_micros(out, micros.unsigned_abs())
-}
-
-fn push_micros(out: &mut Vec<u8>, micros: u64) -> Result<(), OutOfMemory>
-    ensures ok { OnOk result (out.new.items ≡ out.old.items ++ micros_text micros) }
-    ensures kept { take (vec_len out.old) out.new.items ≡ out.old.items }
-{
-    push_decimal(out, micros / 1_000_000)?;
-    push_fraction(out, (micros % 1_000_000) as u32)
-}
-
-fn push_decimal(out: &mut Vec<u8>, number: u64) -> Result<(), OutOfMemory>
-    ensures ok { OnOk result (out.new.items ≡ out.old.items ++ decimal number) }
-    ensures kept { take (vec_len out.old) out.new.items ≡ out.old.items }
-{
-    if number >= 10 {
-        push_decimal(out, number / 10)?;
-    }
-    out.push(b'0' + (number % 10) as u8)?;
+    let mut buffer = [0; 28];
+    let end = write_value(value, &mut buffer, 0);
+    out.extend_from_slice(&buffer[..end])?;
     Ok(())
-}
-
-fn push_fraction(out: &mut Vec<u8>, micros: u32) -> Result<(), OutOfMemory>
-    requires { micros < 1000000 }
-    ensures ok { OnOk result (out.new.items ≡ out.old.items ++ fraction_text micros) }
-    ensures kept { take (vec_len out.old) out.new.items ≡ out.old.items }
-{
-    if micros == 0 {
-        return Ok(());
-    }
-    out.push(b'.')?;
-    let digits = digits_of(micros);
-    out.extend_from_slice(without_zeros(&digits))?;
-    Ok(())
-}
-
-/// The six digits of a number below a million.
-fn digits_of(number: u32) -> [u8; 6]
-    requires { number < 1000000 }
-    ensures { result ≡ six_digits number }
-{
-    [
-        b'0' + (number / 100_000) as u8,
-        b'0' + (number / 10_000 % 10) as u8,
-        b'0' + (number / 1000 % 10) as u8,
-        b'0' + (number / 100 % 10) as u8,
-        b'0' + (number / 10 % 10) as u8,
-        b'0' + (number % 10) as u8,
-    ]
-}
-
-/// The digits before the zeros at the end.
-fn without_zeros(digits: &[u8]) -> &[u8]
-    ensures { result.now ≡ without_end_zeros digits.now }
-{
-    let mut end = digits.len();
-    while end > 0 && digits[end - 1] == b'0' {
-        end -= 1;
-    }
-    &digits[..end]
 }
 
 /// Whether a `-` stands in front, and what is behind the sign.

@@ -1,7 +1,7 @@
 use Rattle.std.proofs.Common.{◌∙◌, sym, arith}
 use Rattle.pf_base.proofs.EndZeros.{end_falls, end_found, end_none}
-use Rattle.pf_base.proofs.number.without_zeros.Goals as goal
-use Rattle.pf_base.proofs.number.without_zeros.Goals.{then-loop-end-test+else-digits-end-eq48, else-loop-end-test}
+use Rattle.pf_base.proofs.number_text.without_zeros.Goals as goal
+use Rattle.pf_base.proofs.number_text.without_zeros.Goals.{then-loop-end-test+else-digits-end-eq48, else-loop-end-test}
 
 pub loop-end-preserved : goal.loop-end-preserved
 loop-end-preserved c = record {
