@@ -21,3 +21,7 @@ pub kept_on : (n m : ℕ) (o a c : List ℕ) → take n a ≡ o → take m c ≡
 kept_on n m o a c p q eo ea =
     let h : n ≤ m = omega (arith, ap length p, length-take n a) in
     sym (take-take n m c h) ∙ ap (take n) q ∙ p
+
+-- a text behind what a buffer has
+pub join_buffered : (o p t u w x : List ℕ) → p ++ u ≡ o ++ t → w ≡ u ++ x → p ++ w ≡ (o ++ t) ++ x
+join_buffered o p t u w x e f = ap (λ l. p ++ l) f ∙ sym (append_assoc p u x) ∙ ap (λ l. l ++ x) e

@@ -1,4 +1,5 @@
 pub mod BodyLines
+mod Copies
 pub mod ErrorTokens
 pub mod Joined
 pub mod LabelTokens

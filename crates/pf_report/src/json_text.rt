@@ -1,13 +1,14 @@
 //! The JSON of a matrix.
 
-ghost use Rattle.std.specs.Prelude.{◌≡◌, ◌<◌, ◌++◌, ◌∷◌, [], codes, decimal, IfOk, OnOk, take, vec_len};
-ghost use Rattle.pf_base.specs.NumberTexts.{value_text};
-ghost use Rattle.pf_model.specs.Json.{labels_text, matrix_text, point_text, row_text, seconds_text, thousandths_text};
+ghost use Rattle.std.specs.Prelude.{◌≡◌, ◌++◌, ◌∷◌, codes, decimal, IfOk, OnOk, take, vec_len};
+ghost use Rattle.pf_model.specs.Json.{labels_text, matrix_text, point_text, row_text};
 ghost use Rattle.pf_model.specs.Lists.{comma_before, comma_joined};
 
+use crate::heads::{Head, heads_of};
+use crate::points::push_points_by;
 use itoa::Buffer;
 use json::Writer;
-use pf_base::{Labels, OutOfMemory, Sample, Value, push_value};
+use pf_base::{Labels, OutOfMemory, Sample};
 use pf_matrix::MatrixRow;
 use std::alloc::Global;
 
@@ -21,88 +22,11 @@ pub fn push_number(out: &mut Vec<u8>, number: u64) -> Result<(), OutOfMemory>
     Ok(())
 }
 
-/// Appends the three digits of a number of thousandths behind a point, and nothing for none.
-fn push_thousandths(out: &mut Vec<u8>, number: u16) -> Result<(), OutOfMemory>
-    requires { number < 1000 }
-    ensures ok { OnOk result (out.new.items ≡ out.old.items ++ thousandths_text number) }
-    ensures kept { take (vec_len out.old) out.new.items ≡ out.old.items }
-{
-    if number == 0 {
-        return Ok(());
-    }
-    let hundreds = b'0' + (number / 100) as u8;
-    let tens = b'0' + (number / 10 % 10) as u8;
-    let ones = b'0' + (number % 10) as u8;
-    out.extend_from_slice(&[b'.', hundreds, tens, ones])?;
-    Ok(())
-}
-
-/// Appends milliseconds as seconds.
-fn push_seconds(out: &mut Vec<u8>, milliseconds: u64) -> Result<(), OutOfMemory>
-    ensures ok { OnOk result (out.new.items ≡ out.old.items ++ seconds_text milliseconds) }
-    ensures kept { take (vec_len out.old) out.new.items ≡ out.old.items }
-{
-    push_number(out, milliseconds / 1000)?;
-    push_thousandths(out, (milliseconds % 1000) as u16)
-}
-
-/// Appends a bracket and milliseconds as seconds.
-fn push_time(out: &mut Vec<u8>, milliseconds: u64) -> Result<(), OutOfMemory>
-    ensures ok { OnOk result (out.new.items ≡ out.old.items ++ (91 ∷ seconds_text milliseconds)) }
-    ensures kept { take (vec_len out.old) out.new.items ≡ out.old.items }
-{
-    out.push(b'[')?;
-    push_seconds(out, milliseconds)
-}
-
-/// Appends a comma, a value in quotes, and a bracket.
-fn push_quoted(out: &mut Vec<u8>, value: Value) -> Result<(), OutOfMemory>
-    ensures ok { OnOk result (out.new.items ≡ out.old.items ++ (44 ∷ (34 ∷ (value_text value ++ (34 ∷ (93 ∷ [])))))) }
-    ensures kept { take (vec_len out.old) out.new.items ≡ out.old.items }
-{
-    out.extend_from_slice(b",\"")?;
-    push_value(out, value)?;
-    out.extend_from_slice(b"\"]")?;
-    Ok(())
-}
-
-/// Appends a point: its time in seconds and its value in quotes.
-fn push_point(out: &mut Vec<u8>, point: Sample) -> Result<(), OutOfMemory>
-    ensures ok { OnOk result (out.new.items ≡ out.old.items ++ point_text point) }
-    ensures kept { take (vec_len out.old) out.new.items ≡ out.old.items }
-{
-    push_time(out, point.time.unsigned_abs())?;
-    push_quoted(out, point.value)
-}
-
-fn push_next_point(out: &mut Vec<u8>, point: Sample) -> Result<(), OutOfMemory>
-    ensures ok { OnOk result (out.new.items ≡ out.old.items ++ 44 ∷ point_text point) }
-    ensures kept { take (vec_len out.old) out.new.items ≡ out.old.items }
-{
-    out.push(b',')?;
-    push_point(out, point)
-}
-
-/// Appends points, each behind a comma.
-fn push_more_points(out: &mut Vec<u8>, points: &[Sample]) -> Result<(), OutOfMemory>
-    ensures ok { OnOk result (out.new.items ≡ out.old.items ++ comma_before point_text points.now) }
-    ensures kept { take (vec_len out.old) out.new.items ≡ out.old.items }
-{
-    for point in points {
-        push_next_point(out, *point)?;
-    }
-    Ok(())
-}
-
 pub fn push_points(out: &mut Vec<u8>, points: &[Sample]) -> Result<(), OutOfMemory>
     ensures ok { OnOk result (out.new.items ≡ out.old.items ++ comma_joined point_text points.now) }
     ensures kept { take (vec_len out.old) out.new.items ≡ out.old.items }
 {
-    let Some((first, others)) = points.split_first() else {
-        return Ok(());
-    };
-    push_point(out, *first)?;
-    push_more_points(out, others)
+    push_points_by(&[], out, points)
 }
 
 /// A label set as an object.
@@ -137,19 +61,20 @@ pub fn push_metric(alloc: Global, out: &mut Vec<u8>, labels: &Labels) -> Result<
     push_labels(alloc, out, labels)
 }
 
-fn push_values(out: &mut Vec<u8>, points: &[Sample]) -> Result<(), OutOfMemory>
+fn push_values(heads: &[Head], out: &mut Vec<u8>, points: &[Sample]) -> Result<(), OutOfMemory>
     ensures ok { OnOk result (out.new.items
         ≡ out.old.items ++ (codes ",\"values\":[" ++ (comma_joined point_text points.now ++ codes "]}"))) }
     ensures kept { take (vec_len out.old) out.new.items ≡ out.old.items }
 {
     out.extend_from_slice(b",\"values\":[")?;
-    push_points(out, points)?;
+    push_points_by(heads, out, points)?;
     out.extend_from_slice(b"]}")?;
     Ok(())
 }
 
 fn push_series(
     alloc: Global,
+    heads: &[Head],
     out: &mut Vec<u8>,
     labels: &Labels,
     points: &[Sample],
@@ -159,33 +84,68 @@ fn push_series(
     ensures kept { take (vec_len out.old) out.new.items ≡ out.old.items }
 {
     push_metric(alloc, out, labels)?;
-    push_values(out, points)
+    push_values(heads, out, points)
 }
 
-fn push_row(alloc: Global, out: &mut Vec<u8>, row: &MatrixRow) -> Result<(), OutOfMemory>
+fn push_row(
+    alloc: Global,
+    heads: &[Head],
+    out: &mut Vec<u8>,
+    row: &MatrixRow,
+) -> Result<(), OutOfMemory>
     ensures ok { OnOk result (out.new.items ≡ out.old.items ++ row_text row.now) }
     ensures kept { take (vec_len out.old) out.new.items ≡ out.old.items }
 {
-    push_series(alloc, out, &row.labels, &row.points)
+    push_series(alloc, heads, out, &row.labels, &row.points)
 }
 
-fn push_next_row(alloc: Global, out: &mut Vec<u8>, row: &MatrixRow) -> Result<(), OutOfMemory>
+fn push_next_row(
+    alloc: Global,
+    heads: &[Head],
+    out: &mut Vec<u8>,
+    row: &MatrixRow,
+) -> Result<(), OutOfMemory>
     ensures ok { OnOk result (out.new.items ≡ out.old.items ++ 44 ∷ row_text row.now) }
     ensures kept { take (vec_len out.old) out.new.items ≡ out.old.items }
 {
     out.push(b',')?;
-    push_row(alloc, out, row)
+    push_row(alloc, heads, out, row)
 }
 
 /// Appends rows, each behind a comma.
-fn push_more_rows(alloc: Global, out: &mut Vec<u8>, rows: &[MatrixRow]) -> Result<(), OutOfMemory>
+fn push_more_rows(
+    alloc: Global,
+    heads: &[Head],
+    out: &mut Vec<u8>,
+    rows: &[MatrixRow],
+) -> Result<(), OutOfMemory>
     ensures ok { OnOk result (out.new.items ≡ out.old.items ++ comma_before row_text rows.now) }
     ensures kept { take (vec_len out.old) out.new.items ≡ out.old.items }
 {
     for row in rows {
-        push_next_row(alloc, out, row)?;
+        push_next_row(alloc, heads, out, row)?;
     }
     Ok(())
+}
+
+/// The most points of a row.
+fn longest(rows: &[MatrixRow]) -> usize {
+    let mut most = 0;
+    for row in rows {
+        most = row.points.len().max(most);
+    }
+    most
+}
+
+/// The heads that rows share: those of the first row of the greatest length, and none where there is one row.
+fn shared_heads(alloc: Global, rows: &[MatrixRow]) -> Result<Vec<Head>, OutOfMemory> {
+    let most = longest(rows);
+    for row in rows {
+        if rows.len() > 1 && row.points.len() == most {
+            return heads_of(alloc, &row.points);
+        }
+    }
+    Ok(Vec::new(alloc))
 }
 
 fn push_rows(alloc: Global, out: &mut Vec<u8>, rows: &[MatrixRow]) -> Result<(), OutOfMemory>
@@ -195,8 +155,9 @@ fn push_rows(alloc: Global, out: &mut Vec<u8>, rows: &[MatrixRow]) -> Result<(),
     let Some((first, others)) = rows.split_first() else {
         return Ok(());
     };
-    push_row(alloc, out, first)?;
-    push_more_rows(alloc, out, others)
+    let heads = shared_heads(alloc, rows)?;
+    push_row(alloc, &heads, out, first)?;
+    push_more_rows(alloc, &heads, out, others)
 }
 
 /// Appends the body of a successful answer with these rows.
