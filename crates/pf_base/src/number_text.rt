@@ -10,7 +10,6 @@ use crate::value::Value;
 use itoa::write_digits;
 
 /// How many decimal digits a number has.
-#[inline]
 fn digits_in(number: u64) -> usize
     ensures count { result ≡ length (decimal number) }
     ensures most { result ≤ 20 }
@@ -22,7 +21,6 @@ fn digits_in(number: u64) -> usize
 }
 
 /// Writes a number's decimal digits.
-#[inline]
 pub fn write_number(number: u64, buffer: &mut [u8], at: usize) -> usize
     requires { at + 20 ≤ length buffer.old }
     ensures written { take result buffer.new ≡ take at buffer.old ++ decimal number }
@@ -34,7 +32,6 @@ pub fn write_number(number: u64, buffer: &mut [u8], at: usize) -> usize
 }
 
 /// The digits before the zeros at the end.
-#[inline]
 fn without_zeros(digits: &[u8]) -> &[u8]
     ensures { result.now ≡ without_end_zeros digits.now }
 {
@@ -46,7 +43,6 @@ fn without_zeros(digits: &[u8]) -> &[u8]
 }
 
 /// Writes a point and six digits, by the digits of a million and so many micros.
-#[inline]
 fn write_point(micros: u64, buffer: &mut [u8], at: usize)
     requires micros { micros < 1000000 }
     requires room { at + 7 ≤ length buffer.old }
@@ -57,7 +53,6 @@ fn write_point(micros: u64, buffer: &mut [u8], at: usize)
 }
 
 /// Writes a point and the digits of micros without the zeros at their end, and nothing for none.
-#[inline]
 fn write_fraction(micros: u64, buffer: &mut [u8], at: usize) -> usize
     requires micros { micros < 1000000 }
     requires room { at + 7 ≤ length buffer.old }
@@ -71,7 +66,6 @@ fn write_fraction(micros: u64, buffer: &mut [u8], at: usize) -> usize
     at + 1 + without_zeros(&buffer[at + 1..at + 7]).len()
 }
 
-#[inline]
 fn write_micros(micros: u64, buffer: &mut [u8], at: usize) -> usize
     requires { at + 27 ≤ length buffer.old }
     ensures written { take result buffer.new ≡ take at buffer.old ++ micros_text micros }
@@ -82,7 +76,6 @@ fn write_micros(micros: u64, buffer: &mut [u8], at: usize) -> usize
 }
 
 /// Writes a `-` for a negative number of micros.
-#[inline]
 fn write_sign(micros: i64, buffer: &mut [u8], at: usize) -> usize
     requires { at + 1 ≤ length buffer.old }
     ensures written { take result buffer.new ++ micros_text (unsigned_abs micros) ≡ take at buffer.old ++ value_text micros }
@@ -96,7 +89,6 @@ fn write_sign(micros: i64, buffer: &mut [u8], at: usize) -> usize
 }
 
 /// Writes the value's decimal text, as `push_value` appends it.
-#[inline]
 pub fn write_value(value: Value, buffer: &mut [u8], at: usize) -> usize
     requires { at + 28 ≤ length buffer.old }
     ensures written { take result buffer.new ≡ take at buffer.old ++ value_text value }

@@ -10,7 +10,6 @@ use std::alloc::Global;
 use std::marker::Model;
 
 /// Writes the three digits of a number of thousandths behind a point, and nothing for none.
-#[inline]
 fn write_thousandths(number: u16, buffer: &mut [u8], at: usize) -> usize
     requires number { number < 1000 }
     requires room { at + 4 ≤ length buffer.old }
@@ -28,7 +27,6 @@ fn write_thousandths(number: u16, buffer: &mut [u8], at: usize) -> usize
 }
 
 /// Writes milliseconds as seconds.
-#[inline]
 fn write_seconds(milliseconds: u64, buffer: &mut [u8], at: usize) -> usize
     requires { at + 24 ≤ length buffer.old }
     ensures written { take result buffer.new ≡ take at buffer.old ++ seconds_text milliseconds }
@@ -39,7 +37,6 @@ fn write_seconds(milliseconds: u64, buffer: &mut [u8], at: usize) -> usize
 }
 
 /// Writes two bytes.
-#[inline]
 pub fn write_two(first: u8, second: u8, buffer: &mut [u8], at: usize)
     requires { at + 2 ≤ length buffer.old }
     ensures { take (at + 2) buffer.new ≡ take at buffer.old ++ first ∷ second ∷ [] }
@@ -92,7 +89,6 @@ impl Head {
         Head { time, len, bytes }
     }
 
-    #[inline]
     pub fn time(&self) -> u64
         ensures { result ≡ self.now }
     {
@@ -100,7 +96,6 @@ impl Head {
     }
 
     /// Writes the text, and may change what stands behind it.
-    #[inline]
     fn write(&self, buffer: &mut [u8], at: usize) -> usize
         requires { at + 32 ≤ length buffer.old }
         ensures written { take result buffer.new ≡ take at buffer.old ++ head_text self.now }
@@ -121,7 +116,6 @@ pub fn heads_of(alloc: Global, points: &[Sample]) -> Result<Vec<Head>, OutOfMemo
 }
 
 /// The place of the first head from here on that isn't before the time.
-#[inline]
 pub fn seek(heads: &[Head], from: usize, time: u64) -> usize {
     let mut place = from;
     while place < heads.len() && heads[place].time() < time {
@@ -131,7 +125,6 @@ pub fn seek(heads: &[Head], from: usize, time: u64) -> usize {
 }
 
 /// Writes the head of a time: a copy of the one at the place, where that is its own.
-#[inline]
 pub fn write_time(heads: &[Head], place: usize, time: u64, buffer: &mut [u8], at: usize) -> usize
     requires { at + 32 ≤ length buffer.old }
     ensures written { take result buffer.new ≡ take at buffer.old ++ head_text time }

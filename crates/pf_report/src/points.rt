@@ -13,7 +13,7 @@ const POINT: usize = 64;
 const BUFFER: usize = 1024;
 
 /// Writes a point behind a comma: its time in seconds and its value in quotes.
-#[inline]
+#[inline(always)]
 fn write_point(heads: &[Head], place: usize, point: Sample, buffer: &mut [u8], at: usize) -> usize
     requires { at + 64 ≤ length buffer.old }
     ensures written { take result buffer.new ≡ take at buffer.old ++ 44 ∷ point_text point }
@@ -37,7 +37,6 @@ fn push_point(out: &mut Vec<u8>, point: Sample) -> Result<(), OutOfMemory>
 }
 
 /// Appends the front of the buffer where there may be no room for another point, and answers the place for it.
-#[inline]
 fn make_room(out: &mut Vec<u8>, buffer: &[u8], at: usize) -> Result<usize, OutOfMemory>
     requires { (length buffer.now ≡ 1024) × (at ≤ 1024) }
     ensures ok { IfOk result (λ n. out.new.items ++ take n buffer.now ≡ out.old.items ++ take at buffer.now) }
