@@ -43,7 +43,7 @@ fn without_zeros(digits: &[u8]) -> &[u8]
 }
 
 /// Writes a point and six digits, by the digits of a million and so many micros.
-fn write_point(micros: u64, buffer: &mut [u8], at: usize)
+fn write_six_places(micros: u64, buffer: &mut [u8], at: usize)
     requires micros { micros < 1000000 }
     requires room { at + 7 ≤ length buffer.old }
     ensures { take (at + 7) buffer.new ≡ take at buffer.old ++ 46 ∷ six_digits micros }
@@ -62,7 +62,7 @@ fn write_fraction(micros: u64, buffer: &mut [u8], at: usize) -> usize
     if micros == 0 {
         return at;
     }
-    write_point(micros, buffer, at);
+    write_six_places(micros, buffer, at);
     at + 1 + without_zeros(&buffer[at + 1..at + 7]).len()
 }
 

@@ -115,10 +115,14 @@ pub fn heads_of(alloc: Global, points: &[Sample]) -> Result<Vec<Head>, OutOfMemo
     Ok(heads)
 }
 
-/// The place of the first head from here on that isn't before the time.
+/// The most heads that are passed for one point, so that a row with few points is not walked past all heads.
+const PASSED: usize = 8;
+
+/// The place of the first head from here on that isn't before the time, or how far the search went.
 pub fn seek(heads: &[Head], from: usize, time: u64) -> usize {
+    let end = heads.len().min(from.saturating_add(PASSED));
     let mut place = from;
-    while place < heads.len() && heads[place].time() < time {
+    while place < end && heads[place].time() < time {
         place += 1;
     }
     place

@@ -1,4 +1,4 @@
-//! The JSON of points, written into a buffer of some and appended when it is full.
+//! The JSON of points: it is written into a buffer, which is appended when it is full.
 
 ghost use Rattle.std.specs.Prelude.{◌≡◌, ◌+◌, ◌≤◌, ◌++◌, ◌∷◌, IfOk, OnOk, length, take, vec_len};
 ghost use Rattle.pf_model.specs.Json.{point_text};

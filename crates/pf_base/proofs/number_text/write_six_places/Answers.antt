@@ -1,7 +1,7 @@
 use Rattle.std.proofs.Common.{arith}
 use Rattle.pf_base.proofs.DigitCounts.{length_seven}
 use Rattle.pf_base.proofs.Written.{point_in}
-use Rattle.pf_base.proofs.number_text.write_point.Goals as goal
+use Rattle.pf_base.proofs.number_text.write_six_places.Goals as goal
 
 pub write_digits-requires : goal.write_digits-requires
 write_digits-requires c = (omega (arith, length_seven c.args.micros c.requires.micros), c.requires.room)
