@@ -1,10 +1,7 @@
 -- Products, quotients and remainders of values, as the code computes them in bits, are those of the whole numbers.
-use Rattle.std.proofs.Common.{◌≡◌, ℤ, ℕ, zero, suc, false, ◌+◌, ◌/◌, ◌<◌, ◌≤◌, ◌^◌, pos, negsuc, ◌-ℤ◌, ◌*ℤ◌, FitsSigned, to_z, of_z, w64, refl, ap, sym, ◌∙◌, arith, lit<, lit≤, Some}
+use Rattle.std.proofs.Common.{◌≡◌, ℤ, ℕ, zero, suc, false, ◌/◌, ◌≤◌, pos, negsuc, ◌-ℤ◌, ◌*ℤ◌, FitsSigned, to_z, of_z, w64, refl, ap, ◌∙◌, arith, lit<, lit≤, Some}
 use Rattle.std.specs.Prelude.{int_div, int_rem, unsigned_abs, neg_ℤ}
 use Rattle.std.proofs.lemmas.Int.{ints, to_z-of_z, quot_is, rem_is, quot_fits, fits_signed_mul, fits_signed_from_abs, unsigned_abs-mul, quot-rem}
-use Rattle.std.proofs.Common.{List, [], ◌∷◌, ◌++◌, ◌%◌, append_assoc}
-use Rattle.std.specs.Fmt.{decimal}
-use Rattle.std.proofs.lemmas.Fmt.{decimal_step, decimal_digit}
 use mir.Syntax.{w128}
 use native.Mathlib.Nat.{div-le_self}
 use Rattle.pf_base.specs.Arithmetic.{clamp, IsValue, product, quotient, remainder, is_zero}
@@ -87,13 +84,3 @@ pub remainder_at : (a b x y : ℤ) → IsValue a → IsValue b → a ≡ x → b
 remainder_at a b x y ha hb ea eb n =
     let e : Some (to_z w64 (of_z w64 (int_rem (to_z w64 (of_z w64 a)) (to_z w64 (of_z w64 b))))) ≡ remainder a b = let ez = not_zero b hb n in rw ez (ap Some (remainder_is a b ha hb)) in
     e ∙ along remainder a b x y ea eb
-
--- the decimal digits of a number, written front first
-pub decimal_more : (a b c d : List ℕ) (n : ℕ) → 10 ≤ n → n < 2 ^ 64 → b ≡ a ++ decimal (n / 10) → c ≡ b → d ≡ c ++ (48 + n % 10) ∷ [] → d ≡ a ++ decimal n
-decimal_more a b c d n low high eb ec ed =
-    ed ∙ ap (λ x. x ++ (48 + n % 10) ∷ []) (ec ∙ eb) ∙ append_assoc a (decimal (n / 10)) ((48 + n % 10) ∷ []) ∙ ap (λ x. a ++ x) (sym (decimal_step n low high))
-
-pub decimal_last : (a c d : List ℕ) (n : ℕ) → n < 10 → c ≡ a → d ≡ c ++ (48 + n % 10) ∷ [] → d ≡ a ++ decimal n
-decimal_last a c d n low ec ed =
-    let m : n % 10 ≡ n = omega arith in
-    ed ∙ ap (λ x. x ++ (48 + n % 10) ∷ []) ec ∙ ap (λ x. a ++ (48 + x) ∷ []) m ∙ ap (λ x. a ++ x) (sym (decimal_digit n low))
