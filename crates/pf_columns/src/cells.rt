@@ -109,16 +109,16 @@ impl Cells {
         if len as u64 * 2 >= self.held as u64 {
             return self.part(from, len);
         }
-        let columns = cut_columns(alloc, &self.columns, self.from + from, len)?;
+        let columns = cut_columns(alloc, &self.columns, self.from + from, len, 0)?;
         Cells::of(alloc, columns, len)
     }
 
-    /// Columns of these cells alone.
+    /// Columns of these cells alone, each with room for so many steps in all.
     #[tactic(auto, using(crate::proofs::JoinedCells::columns_of_part))]
-    pub(crate) fn cut_columns(&self, alloc: Global) -> Result<Vec<Column>, OutOfMemory>
+    pub(crate) fn cut_columns(&self, alloc: Global, room: u32) -> Result<Vec<Column>, OutOfMemory>
         ensures { IfOk result (λ v. AreColumnsOf self.now v.items) }
     {
-        cut_columns(alloc, &self.columns, self.from, self.len)
+        cut_columns(alloc, &self.columns, self.from, self.len, room)
     }
 
     /// The matrix of the cells at the times of a grid, a cell for each time.

@@ -51,17 +51,25 @@ pub(crate) fn cell_of(alloc: Global, columns: &[Column], step: u32) -> Result<Ce
 }
 
 /// The values of so many steps from one on.
-fn cut_values(
-    alloc: Global,
-    values: &[Option<Value>],
-    from: u32,
-    len: u32,
-) -> Result<Vec<Option<Value>>, OutOfMemory>
-    ensures { IfOk result (λ v. v.items ≡ take len (drop from values.now)) }
+pub(crate) fn window(values: &[Option<Value>], from: u32, len: u32) -> &[Option<Value>]
+    ensures { result.now ≡ take len (drop from values.now) }
 {
     let start = values.len().min(from as usize);
     let end = values.len().min(start + len as usize);
-    Ok(Vec::from_slice(alloc, &values[start..end])?)
+    &values[start..end]
+}
+
+/// A copy of some values, with room for so many in all.
+fn copy_of(
+    alloc: Global,
+    values: &[Option<Value>],
+    room: u32,
+) -> Result<Vec<Option<Value>>, OutOfMemory>
+    ensures { IfOk result (λ v. v.items ≡ values.now) }
+{
+    let mut found = Vec::with_capacity(alloc, values.len().max(room as usize))?;
+    found.extend_from_slice(values)?;
+    Ok(found)
 }
 
 /// Whether some step has a value.
@@ -76,22 +84,23 @@ fn has_value(values: &[Option<Value>]) -> bool
     false
 }
 
-/// The columns that have a value at one of so many steps, with these steps' values.
+/// The columns that have a value at one of so many steps, with these steps' values and room for so many in all.
 pub(crate) fn cut_columns(
     alloc: Global,
     columns: &[Column],
     from: u32,
     len: u32,
+    room: u32,
 ) -> Result<Vec<Column>, OutOfMemory>
     ensures { IfOk result (λ v. v.items ≡ joined (cut_column from len) columns.now) }
 {
-    let mut found = Vec::new(alloc);
+    let mut found = Vec::with_capacity(alloc, columns.len())?;
     for column in columns {
-        let values = cut_values(alloc, &column.values, from, len)?;
-        if has_value(&values) {
+        let values = window(&column.values, from, len);
+        if has_value(values) {
             found.push(Column {
                 labels: column.labels.clone()?,
-                values,
+                values: copy_of(alloc, values, room)?,
             })?;
         }
     }

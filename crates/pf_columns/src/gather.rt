@@ -4,7 +4,7 @@ ghost use Rattle.std.specs.Prelude.{◌≡◌, ◌+◌, ◌++◌, ◌≤◌, IfO
 ghost use Rattle.pf_base.specs.Grids.{points};
 ghost use Rattle.pf_columns.specs.Columns.{points_in, rows_in};
 
-use crate::column::{Column, value_of};
+use crate::column::{Column, value_of, window};
 use pf_base::{Grid, OutOfMemory, Sample, Value};
 use pf_matrix::MatrixRow;
 use std::alloc::Global;
@@ -31,6 +31,15 @@ pub(crate) fn push_points(
     Ok(())
 }
 
+/// How many values there are.
+fn count_of(values: &[Option<Value>]) -> usize {
+    let mut count = 0;
+    for value in values {
+        count += value.is_some() as usize;
+    }
+    count
+}
+
 /// The points of a column.
 fn points_of(
     alloc: Global,
@@ -41,7 +50,8 @@ fn points_of(
     requires { from + grid.now.len ≤ 4294967295 }
     ensures { IfOk result (λ v. v.items ≡ points_in (points grid.now) from values.now) }
 {
-    let mut points = Vec::new(alloc);
+    let count = count_of(window(values, from, grid.len()));
+    let mut points = Vec::with_capacity(alloc, count)?;
     push_points(&mut points, values, from, grid)?;
     Ok(points)
 }
@@ -56,7 +66,7 @@ pub(crate) fn rows_of(
     requires { from + grid.now.len ≤ 4294967295 }
     ensures { IfOk result (λ v. v.items ≡ rows_in (points grid.now) from columns.now) }
 {
-    let mut rows = Vec::new(alloc);
+    let mut rows = Vec::with_capacity(alloc, columns.len())?;
     for column in columns {
         let points = points_of(alloc, &column.values, from, grid)?;
         if !points.is_empty() {

@@ -120,8 +120,9 @@ struct Stretch {
     len: u32,
 }
 
-/// The columns of parts, one after another. It calls itself as deep as the number of parts can be halved.
-fn stretch_over(alloc: Global, parts: &[Cells]) -> Result<Stretch, OutOfMemory>
+/// The columns of parts, one after another, those of the first part with room for so many steps in all. It calls itself as deep as
+/// the number of parts can be halved.
+fn stretch_over(alloc: Global, parts: &[Cells], room: u32) -> Result<Stretch, OutOfMemory>
     requires { length (joined (λ cells. cells) parts.now) ≤ 4294967295 }
     ensures columns { IfOk result (λ s. AreColumnsOf (joined (λ cells. cells) parts.now) s.columns.items) }
     ensures many { IfOk result (λ s. s.len ≡ length (joined (λ cells. cells) parts.now)) }
@@ -134,15 +135,15 @@ fn stretch_over(alloc: Global, parts: &[Cells]) -> Result<Stretch, OutOfMemory>
     }
     if parts.len() == 1 {
         let part = &parts[0];
-        let columns = part.cut_columns(alloc)?;
+        let columns = part.cut_columns(alloc, room)?;
         return Ok(Stretch {
             columns,
             len: part.count(),
         });
     }
     let half = halved(parts);
-    let first = stretch_over(alloc, half.front)?;
-    let second = stretch_over(alloc, half.behind)?;
+    let first = stretch_over(alloc, half.front, room)?;
+    let second = stretch_over(alloc, half.behind, 0)?;
     let columns = joined(alloc, first.columns, second.columns, first.len)?;
     Ok(Stretch {
         columns,
@@ -150,8 +151,21 @@ fn stretch_over(alloc: Global, parts: &[Cells]) -> Result<Stretch, OutOfMemory>
     })
 }
 
-/// The cells of runs, one after another. Those of one run alone are shared, not copied; else a value is copied at most once for
-/// each time that the number of parts can be halved, and label sets are compared only where two lists are joined.
+/// How many steps all parts have, where the first has half of them or more, and else 0.
+fn room_for(parts: &[Cells]) -> u32 {
+    let Some(first) = parts.first() else {
+        return 0;
+    };
+    let mut all = 0u32;
+    for part in parts {
+        all = all.saturating_add(part.count());
+    }
+    if first.count() < all / 2 { 0 } else { all }
+}
+
+/// The cells of runs, one after another. Those of one run alone are shared, not copied. Else a value is copied once, and at most
+/// once more for each time that the number of parts can be halved; one of a first run that has half of all steps is copied once.
+/// Label sets are compared only where two lists are joined.
 pub fn join_cells(alloc: Global, parts: Vec<Cells>) -> Result<Cells, OutOfMemory>
     requires { length (joined (λ cells. cells) parts.items) ≤ 4294967295 }
     ensures { IfOk result (λ c. c ≡ joined (λ cells. cells) parts.items) }
@@ -159,6 +173,6 @@ pub fn join_cells(alloc: Global, parts: Vec<Cells>) -> Result<Cells, OutOfMemory
     if parts.len() == 1 {
         return Ok(parts[0].clone()?);
     }
-    let Stretch { columns, len } = stretch_over(alloc, &parts)?;
+    let Stretch { columns, len } = stretch_over(alloc, &parts, room_for(&parts))?;
     Cells::of(alloc, columns, len)
 }
