@@ -1,5 +1,5 @@
 -- Keys that are sorted, each once, and found by a binary search.
-use Rattle.std.proofs.Common.{◌≡◌, ◌<◌, ◌≤◌, ◌⊎◌, inl, inr, ℕ, zero, suc, Bool, true, false, cond, ◌||◌, Some, None, Result, Ok, Err, List, [], ◌∷◌, length, get_or, refl, sym, ap, ◌∙◌, subst, arith}
+use Rattle.std.proofs.Common.{◌≡◌, ◌+◌, ◌<◌, ◌≤◌, ◌⊎◌, inl, inr, ℕ, zero, suc, Bool, true, false, cond, ◌||◌, Some, None, Result, Ok, Err, List, [], ◌∷◌, ◌++◌, append_assoc, drop, length, map, get_or, refl, sym, ap, ◌∙◌, subst, arith}
 use Rattle.std.specs.List.{All, list_any}
 use Rattle.std.specs.Result.{MatchResult}
 use Rattle.std.specs.List.Sorted.{IsBinarySearchResult, IsSearchInRange}
@@ -121,6 +121,33 @@ place_at (m ∷ ms) r (suc i) l h e =
     let less : labels_cmp m l ≡ Less = sym (ap (labels_cmp m) e) ∙ above_at m ms r.0 i l (omega (arith, h)) in
     let other : same_labels l m ≡ false = same_turned l m ∙ ap is_eq less in
     ap suc (place_at ms r.1 i l (omega (arith, h)) e) ∙ sym (ap (λ b. cond b 0 (suc (place_in ms l))) other)
+
+-- ---- the places of label sets that rise
+
+there : (ms : List Pairs) (i : ℕ) (d e : Pairs) → i < length ms → get_or ms i d ≡ get_or ms i e
+there [] i d e h = absurd (omega (arith, h))
+there (m ∷ ms) zero d e h = refl
+there (m ∷ ms) (suc i) d e h = there ms i d e (omega (arith, h))
+
+from_place : (ms : List Pairs) (i : ℕ) → i < length ms → drop i ms ≡ get_or ms i [] ∷ drop (suc i) ms
+from_place [] i h = absurd (omega (arith, h))
+from_place (m ∷ ms) zero h = refl
+from_place (m ∷ ms) (suc i) h = from_place ms i (omega (arith, h))
+
+pub one_place : (ms : List Pairs) (i : ℕ) (found : List ℕ) → AreRising ms → i < length ms
+    → found ++ map (place_in ms) (drop i ms) ≡ map (place_in ms) ms
+    → (found ++ i ∷ []) ++ map (place_in ms) (drop (i + 1) ms) ≡ map (place_in ms) ms
+one_place ms i found r h so_far =
+    let l = get_or ms i [] in
+    let place : i ≡ place_in ms l = place_at ms r i l h (there ms i l [] h) in
+    let next : i + 1 ≡ suc i = omega arith in
+    append_assoc found (i ∷ []) (map (place_in ms) (drop (i + 1) ms))
+    ∙ (λ j. found ++ place j ∷ map (place_in ms) (drop (next j) ms))
+    ∙ ap (λ ls. found ++ map (place_in ms) ls) (sym (from_place ms i h))
+    ∙ so_far
+
+pub all_distinct : (ls : List Pairs) → AreRising ls → ls ≡ distinct ls
+all_distinct ls r = alike ls (distinct ls) (ascends ls r) (distinct_ascends ls) (λ k. sym (distinct_in k ls))
 
 -- ---- a binary search
 

@@ -10,11 +10,13 @@ ghost use Rattle.pf_model.specs.Cells.{distinct};
 ghost use Rattle.pf_model.specs.Selection.{same_labels};
 ghost use Rattle.pf_columns.specs.Columns.{AreRising, columns_labels};
 ghost use Rattle.pf_columns.specs.Groups.{groups_by, is_again, place_in, unrepeated};
+ghost use Rattle.pf_columns.specs.Steps.{rise_above};
 
 use crate::column::Column;
 use pf_base::{Labels, OutOfMemory};
 use pf_model::Grouping;
 use std::alloc::Global;
+use std::cmp::Ordering;
 use std::marker::Model;
 
 /// The groups of columns: the keys, each once, in label order, and for each column the place of its key among them.
@@ -52,7 +54,7 @@ fn keys_of(
 ) -> Result<Vec<Labels>, OutOfMemory>
     ensures { IfOk result (λ v. v.items ≡ map (group_key grouping.now.without grouping.now.labels) (columns_labels columns.now)) }
 {
-    let mut found = Vec::new(alloc);
+    let mut found = Vec::with_capacity(alloc, columns.len())?;
     for column in columns {
         found.push(group_key(grouping, &column.labels)?)?;
     }
@@ -136,6 +138,47 @@ fn places_in(alloc: Global, sets: &[Labels], all: &[Labels]) -> Result<Vec<usize
     Ok(found)
 }
 
+/// Whether each label set is below the next.
+fn are_rising(sets: &[Labels]) -> bool
+    ensures { result ≡ rise_above None sets.now }
+{
+    let mut last: Option<&Labels> = None;
+    for labels in sets {
+        if let Some(last) = last {
+            if last.cmp(labels) != Ordering::Less {
+                return false;
+            }
+        }
+        last = Some(labels);
+    }
+    true
+}
+
+/// The place of each of some label sets that rise among all of them.
+fn own_places(alloc: Global, sets: &[Labels]) -> Result<Vec<usize>, OutOfMemory>
+    requires { AreRising sets.now }
+    ensures { IfOk result (λ v. v.items ≡ map (place_in sets.now) sets.now) }
+{
+    let mut found = Vec::with_capacity(alloc, sets.len())?;
+    for i in 0..sets.len() {
+        found.push(i)?;
+    }
+    Ok(found)
+}
+
+/// The groups of keys: each once, in label order, and the place of each of all. Keys that rise are compared once, and not copied.
+fn groups_of(alloc: Global, all: Vec<Labels>) -> Result<GroupIds, OutOfMemory>
+    ensures { IfOk result (λ g. g ≡ record { keys = distinct all.items; of = map (place_in (distinct all.items)) all.items }) }
+{
+    if are_rising(&all) {
+        let of = own_places(alloc, &all)?;
+        return Ok(GroupIds { keys: all, of });
+    }
+    let keys = distinct(alloc, &all)?;
+    let of = places_in(alloc, &keys, &all)?;
+    Ok(GroupIds { keys, of })
+}
+
 impl GroupIds {
     /// The groups of columns by their keys: the labels that `by` keeps, or that `without` leaves.
     pub fn by(
@@ -146,8 +189,6 @@ impl GroupIds {
         ensures { IfOk result (λ g. g ≡ groups_by (group_key grouping.now.without grouping.now.labels) (columns_labels columns.now)) }
     {
         let all = keys_of(alloc, grouping, columns)?;
-        let keys = distinct(alloc, &all)?;
-        let of = places_in(alloc, &keys, &all)?;
-        Ok(GroupIds { keys, of })
+        groups_of(alloc, all)
     }
 }
