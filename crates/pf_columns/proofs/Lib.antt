@@ -10,6 +10,7 @@ pub mod SortedColumns
 pub mod Fusing
 pub mod GroupKeys
 pub mod WithoutName
+pub mod KeptLabels
 pub mod GroupedCells
 pub mod GroupColumns
 pub mod Sums

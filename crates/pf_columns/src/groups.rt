@@ -3,6 +3,7 @@
 ghost use Rattle.std.specs.Prelude.{◌≡◌, true, map, None, IfOk};
 ghost use Rattle.std.specs.List.{All, list_any};
 ghost use Rattle.std.specs.Option.{option_copied};
+ghost use Rattle.pf_base.specs.LabelChanges.{kept, stands_in};
 ghost use Rattle.pf_base.specs.LabelOrder.{labels_cmp};
 ghost use Rattle.pf_base.specs.Sorting.{isort};
 ghost use Rattle.pf_model.specs.Aggregation.{group_key};
@@ -13,7 +14,7 @@ ghost use Rattle.pf_columns.specs.Groups.{groups_by, is_again, place_in, unrepea
 ghost use Rattle.pf_columns.specs.Steps.{rise_above};
 
 use crate::column::Column;
-use pf_base::{Labels, OutOfMemory};
+use pf_base::{Labels, OutOfMemory, Text};
 use pf_model::Grouping;
 use std::alloc::Global;
 use std::cmp::Ordering;
@@ -34,6 +35,36 @@ impl Model for GroupIds {
     ghost view = { λ g. record { keys = g.keys.items; of = g.of.items } };
 }
 
+/// Whether a name is one of some.
+fn is_one_of(name: &str, names: &[Text]) -> bool
+    ensures { result ≡ stands_in names.now name.now }
+{
+    names.iter().any(|one| one.as_str() == name)
+}
+
+/// Whether the names of a label set are all among some.
+#[tactic(auto, using(crate::proofs::KeptLabels::all_kept))]
+fn has_no_other(labels: &Labels, names: &[Text]) -> bool
+    ensures { result ≡ true → kept names.now labels.now ≡ labels.now }
+{
+    for i in 0..labels.count() {
+        if !is_one_of(labels.name(i), names) {
+            return false;
+        }
+    }
+    true
+}
+
+/// The labels of some names. Where there are no others, nothing is copied.
+fn kept(labels: &Labels, names: &[Text]) -> Result<Labels, OutOfMemory>
+    ensures { IfOk result (λ l. l ≡ kept names.now labels.now) }
+{
+    if has_no_other(labels, names) {
+        return Ok(labels.clone()?);
+    }
+    labels.keep(names)
+}
+
 /// The labels that `by` keeps, or that `without` leaves.
 #[tactic(auto, using(crate::proofs::WithoutName::left_without_name))]
 fn group_key(grouping: &Grouping, labels: &Labels) -> Result<Labels, OutOfMemory>
@@ -42,7 +73,7 @@ fn group_key(grouping: &Grouping, labels: &Labels) -> Result<Labels, OutOfMemory
     if grouping.without {
         labels.without_name()?.leave_out(&grouping.labels)
     } else {
-        labels.keep(&grouping.labels)
+        kept(labels, &grouping.labels)
     }
 }
 
