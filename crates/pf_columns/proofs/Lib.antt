@@ -3,6 +3,7 @@ pub mod LabelRank
 pub mod Rising
 pub mod Parts
 pub mod PointWalk
+pub mod PointRoom
 pub mod Occurring
 pub mod GatheredRows
 pub mod Below

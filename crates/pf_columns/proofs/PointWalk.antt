@@ -4,7 +4,7 @@ use Rattle.std.specs.List.{slice_get}
 use Rattle.pf_base.specs.declared.plain.Sample.{Sample}
 use Rattle.pf_columns.specs.Columns.{value_in, point_at, points_in}
 
-drop_at : {X : Type 0} (xs : List X) (i : ℕ) (x : X) → slice_get xs i ≡ Some x → drop i xs ≡ x ∷ drop (suc i) xs
+pub drop_at : {X : Type 0} (xs : List X) (i : ℕ) (x : X) → slice_get xs i ≡ Some x → drop i xs ≡ x ∷ drop (suc i) xs
 drop_at [] i x h = cc
 drop_at (y ∷ xs) zero x h = let same : y ≡ x = cc in ap (λ z. z ∷ xs) same
 drop_at (y ∷ xs) (suc i) x h = drop_at xs i x h

@@ -1,6 +1,6 @@
 //! Rows of a matrix from columns.
 
-ghost use Rattle.std.specs.Prelude.{◌≡◌, ◌+◌, ◌++◌, ◌≤◌, IfOk, OnOk};
+ghost use Rattle.std.specs.Prelude.{◌≡◌, ◌+◌, ◌++◌, ◌≤◌, filter, is_some, length, vec_capacity, IfOk, OnOk};
 ghost use Rattle.pf_base.specs.Grids.{points};
 ghost use Rattle.pf_columns.specs.Columns.{points_in, rows_in};
 
@@ -32,12 +32,33 @@ pub(crate) fn push_points(
 }
 
 /// How many values there are.
-fn count_of(values: &[Option<Value>]) -> usize {
+fn count_of(values: &[Option<Value>]) -> usize
+    ensures { result ≡ length (filter is_some values.now) }
+{
     let mut count = 0;
     for value in values {
-        count += value.is_some() as usize;
+        if value.is_some() {
+            count += 1;
+        }
     }
     count
+}
+
+/// Pushes the points of a column at the times of a grid, the first of which is that of the step `from`. There is room for them.
+fn put_points(found: &mut Vec<Sample>, values: &[Option<Value>], from: u32, grid: &Grid)
+    requires steps { from + grid.now.len ≤ 4294967295 }
+    requires room { length found.old.items + length (points_in (points grid.now) from values.now) ≤ vec_capacity found.old }
+    ensures { found.new.items ≡ found.old.items ++ points_in (points grid.now) from values.now }
+{
+    for i in 0..grid.len() {
+        let time = grid.at(i);
+        if let Some(value) = value_of(values, from + i) {
+            found.push_reserved(Sample {
+                time: time as i64,
+                value,
+            });
+        }
+    }
 }
 
 /// The points of a column.
@@ -52,7 +73,7 @@ fn points_of(
 {
     let count = count_of(window(values, from, grid.len()));
     let mut points = Vec::with_capacity(alloc, count)?;
-    push_points(&mut points, values, from, grid)?;
+    put_points(&mut points, values, from, grid);
     Ok(points)
 }
 
