@@ -48,8 +48,16 @@ abbrev pub up_a : Pairs
 up_a = (codes "__name__", codes "up") ∷ (codes "job", codes "a") ∷ []
 
 -- `up{job="a"} 1 60000`
+abbrev pub up_page : List ℕ
+up_page = codes "up{job=\"a\"} 1 60000\n"
+
 abbrev pub up_batch : BatchData
 up_batch = batch (row up_a 60000 (pos 1000000) ∷ [])
+
+-- files by their names; any other is empty
+abbrev pub files_of : List (List ℕ × List ℕ) → List ℕ → List ℕ
+files_of [] name = []
+files_of (file ∷ more) name = cond (bytes_eq file.0 name) file.1 (files_of more name)
 
 abbrev pub equal : List ℕ → List ℕ → Matcher
 equal label value = record { label = label; sign = match.Equal; text = value }
@@ -112,7 +120,7 @@ limits_of outstanding journal =
     record { outstanding = outstanding; window = 600000; interval = 86400000; shards = 4; extents = 256; journal = journal }
 
 abbrev pub known_of : Limits → List (List ℕ) → Known
-known_of limits names = record { limits = limits; names = names; files = λ name. []; readings = reads }
+known_of limits names = record { limits = limits; names = names; files = files_of ((codes "up", up_page) ∷ []); readings = reads }
 
 -- with ample limits, and the tenant `acme` alone
 abbrev pub usual : Known

@@ -1,4 +1,4 @@
--- Worked examples of legal and woven journals: those of the small sessions. That the one file gives its batch is a premise.
+-- Worked examples of legal and woven journals: those of the small sessions.
 use Rattle.std.proofs.Common.{◌≡◌, Some, zero, suc, subst, slice_get, add-zero, zero-add, arith, ℕ, ◌+◌, List, [], ◌∷◌, drop, refl, sym, codes, inl, inr, lit≤, lit<}
 use Rattle.std.proofs.lemmas.Option.{none-some}
 use Rattle.json.proofs.Found.{Some_inj}
@@ -7,9 +7,9 @@ use Rattle.std.specs.Fmt.{digits}
 use Rattle.std.specs.Option.{is_none}
 use Rattle.std.specs.Str.{bytes_eq}
 use Rattle.pf_base.specs.Arithmetic.{clamp}
-use Rattle.pf_journal.proofs.Examples.{differ, up_batch}
+use Rattle.pf_journal.proofs.Examples.{differ}
+use Rattle.pf_journal.proofs.Pages.{up_gives}
 use Rattle.pf_journal.proofs.Sessions.{cancel_journal, cancel_known, cancel_rest, cancel_scripts, failed_journal, failed_known, failed_rest, failed_scripts, full_journal, full_known, full_rest, full_scripts, limit_journal, limit_known, limit_rest, limit_scripts, steps_journal, steps_known, steps_rest, steps_scripts, two_journal, two_known, two_rest, two_scripts, want_journal, want_known, want_rest, want_scripts}
-use Rattle.pf_journal.specs.Files.{Gives}
 use Rattle.pf_journal.specs.Legal.{Legal, moments}
 use Rattle.pf_journal.specs.Machine.{Entry}
 use Rattle.pf_journal.specs.Rest.{Client, Known, Rest, ran}
@@ -18,24 +18,21 @@ use Rattle.pf_journal.specs.Turns.{own_moments, ran_lines}
 use Rattle.pf_journal.specs.Weave.{AreTried, RunsTo, Weave, Woven}
 
 -- a client is woven into a journal
-abbrev IsWovenIn : Known → List Entry → ℕ → List Numbered → Client → Type 0
+abbrev pub IsWovenIn : Known → List Entry → ℕ → List Numbered → Client → Type 0
 IsWovenIn known journal client lines c =
     Woven known (own_moments client (moments journal)) lines c
     × RunsTo known.limits journal client c.why (drop (ran c) lines) (ran_lines lines c.told)
 
 -- each client of a session
-abbrev AllWoven : Known → List Entry → ℕ → List (List Numbered) → List Client → Type 0
+abbrev pub AllWoven : Known → List Entry → ℕ → List (List Numbered) → List Client → Type 0
 AllWoven known journal client [] [] = Unit {0}
 AllWoven known journal client (lines ∷ scripts) (c ∷ cs) =
     IsWovenIn known journal client lines c × AllWoven known journal (client + 1) scripts cs
 AllWoven known journal client _ _ = ⊥
 
-abbrev IsSession : Known → List Entry → List (List Numbered) → Rest → Type 0
+abbrev pub IsSession : Known → List Entry → List (List Numbered) → Rest → Type 0
 IsSession known journal scripts rest =
     Legal known.limits known.names journal × (AllWoven known journal 0 scripts rest.clients × AreTried journal rest)
-
-abbrev FileGives : Type 0
-FileGives = Gives [] 0 up_batch
 
 -- the clients of a session are those of its weave
 each_client : (known : Known) (journal : List Entry) (from : ℕ) (scripts : List (List Numbered)) (cs : List Client)
@@ -98,9 +95,9 @@ limit_is_a_session = (
   ),
 )
 
-cancel_is_a_session : FileGives → IsSession cancel_known cancel_journal cancel_scripts cancel_rest
+cancel_is_a_session : IsSession cancel_known cancel_journal cancel_scripts cancel_rest
 unfolding clamp digits
-cancel_is_a_session h = (
+cancel_is_a_session = (
   (
     record { allowed = record { tenant = record { next = lit≤ tt; most = lit< tt }; judged = refl; counted = refl }; room = lit≤ tt; named = lit≤ tt },
     (
@@ -122,7 +119,7 @@ cancel_is_a_session h = (
           rising = (lit< tt, (lit< tt, (lit< tt, (lit< tt, tt))));
           lined = (inl refl, ((inr (inl refl)), ((inr (inr (inr (inr (inr (inl refl)))))), ((inr (inr (inr (inr (inr (inr (inr (inr (inr (inl refl)))))))))), tt))));
           each = (
-            record { matched = ((refl, h), refl); roomy = lit≤ tt },
+            record { matched = ((refl, up_gives), refl); roomy = lit≤ tt },
             (
               record { matched = ((refl, refl), refl); roomy = lit≤ tt },
               (
@@ -164,9 +161,9 @@ cancel_is_a_session h = (
   ),
 )
 
-full_is_a_session : FileGives → IsSession full_known full_journal full_scripts full_rest
+full_is_a_session : IsSession full_known full_journal full_scripts full_rest
 unfolding clamp digits
-full_is_a_session h = (
+full_is_a_session = (
   (
     record { allowed = record { tenant = record { next = lit≤ tt; most = lit< tt }; judged = refl; counted = refl }; room = lit≤ tt; named = lit≤ tt },
     tt,
@@ -179,7 +176,7 @@ full_is_a_session h = (
           rising = (lit< tt, tt);
           lined = (inl refl, tt);
           each = (
-            record { matched = ((refl, h), refl); roomy = lit≤ tt },
+            record { matched = ((refl, up_gives), refl); roomy = lit≤ tt },
             (
               record { matched = tt; roomy = tt },
               tt,
@@ -194,9 +191,9 @@ full_is_a_session h = (
   ),
 )
 
-steps_is_a_session : FileGives → IsSession steps_known steps_journal steps_scripts steps_rest
+steps_is_a_session : IsSession steps_known steps_journal steps_scripts steps_rest
 unfolding clamp digits
-steps_is_a_session h = (
+steps_is_a_session = (
   (
     record { allowed = record { tenant = record { next = lit≤ tt; most = lit< tt }; judged = refl; counted = refl }; room = lit≤ tt; named = lit≤ tt },
     (
@@ -212,7 +209,7 @@ steps_is_a_session h = (
           rising = (lit< tt, (lit< tt, tt));
           lined = (inl refl, ((inr (inl refl)), tt));
           each = (
-            record { matched = ((refl, h), refl); roomy = lit≤ tt },
+            record { matched = ((refl, up_gives), refl); roomy = lit≤ tt },
             (
               record { matched = ((refl, refl), refl); roomy = lit≤ tt },
               (
@@ -263,9 +260,9 @@ steps_is_a_session h = (
   ),
 )
 
-failed_is_a_session : FileGives → IsSession failed_known failed_journal failed_scripts failed_rest
+failed_is_a_session : IsSession failed_known failed_journal failed_scripts failed_rest
 unfolding clamp digits
-failed_is_a_session h = (
+failed_is_a_session = (
   (
     record { allowed = record { tenant = record { next = lit≤ tt; most = lit< tt }; judged = refl; counted = refl }; room = lit≤ tt; named = lit≤ tt },
     (
@@ -284,7 +281,7 @@ failed_is_a_session h = (
           rising = (lit< tt, (lit< tt, (lit< tt, tt)));
           lined = (inl refl, ((inr (inl refl)), ((inr (inr (inr (inr (inr (inl refl)))))), tt)));
           each = (
-            record { matched = ((refl, h), refl); roomy = lit≤ tt },
+            record { matched = ((refl, up_gives), refl); roomy = lit≤ tt },
             (
               record { matched = ((refl, refl), refl); roomy = lit≤ tt },
               (
@@ -311,9 +308,9 @@ failed_is_a_session h = (
   ),
 )
 
-want_is_a_session : FileGives → IsSession want_known want_journal want_scripts want_rest
+want_is_a_session : IsSession want_known want_journal want_scripts want_rest
 unfolding clamp digits
-want_is_a_session h = (
+want_is_a_session = (
   (
     record { allowed = record { tenant = record { next = lit≤ tt; most = lit< tt }; judged = refl; counted = refl }; room = lit≤ tt; named = lit≤ tt },
     (
@@ -332,7 +329,7 @@ want_is_a_session h = (
           rising = (lit< tt, (lit< tt, (lit< tt, tt)));
           lined = (inl refl, ((inr (inl refl)), ((inr (inr (inr (inl refl)))), tt)));
           each = (
-            record { matched = ((refl, h), refl); roomy = lit≤ tt },
+            record { matched = ((refl, up_gives), refl); roomy = lit≤ tt },
             (
               record { matched = ((refl, refl), refl); roomy = lit≤ tt },
               (
@@ -362,9 +359,9 @@ want_is_a_session h = (
   ),
 )
 
-two_is_a_session : FileGives → IsSession two_known two_journal two_scripts two_rest
+two_is_a_session : IsSession two_known two_journal two_scripts two_rest
 unfolding clamp digits
-two_is_a_session h = (
+two_is_a_session = (
   (
     record { allowed = record { tenant = record { next = lit≤ tt; most = lit< tt }; judged = refl; counted = refl }; room = lit≤ tt; named = lit≤ tt },
     (
@@ -389,7 +386,7 @@ two_is_a_session h = (
           rising = (lit< tt, (lit< tt, (lit< tt, tt)));
           lined = (inl refl, ((inr (inl refl)), ((inr (inr (inl refl))), tt)));
           each = (
-            record { matched = ((refl, h), refl); roomy = lit≤ tt },
+            record { matched = ((refl, up_gives), refl); roomy = lit≤ tt },
             (
               record { matched = ((refl, refl), refl); roomy = lit≤ tt },
               (
@@ -425,13 +422,13 @@ two_is_a_session h = (
 )
 
 -- a session is woven, where its queries are read as they are said to be
-cancel_is_woven : FileGives → ((text : List ℕ) (r : Reading) → cancel_known.readings text ≡ Some r → IsReading text r)
+cancel_is_woven : ((text : List ℕ) (r : Reading) → cancel_known.readings text ≡ Some r → IsReading text r)
     → Weave cancel_known cancel_journal cancel_scripts cancel_rest
-cancel_is_woven h read = record {
+cancel_is_woven read = record {
   many = refl;
   each = λ client lines c a b. subst (λ k. IsWovenIn cancel_known cancel_journal k lines c) (zero-add client)
-      (each_client cancel_known cancel_journal 0 cancel_scripts cancel_rest.clients (cancel_is_a_session h).1.0 client lines c a b);
+      (each_client cancel_known cancel_journal 0 cancel_scripts cancel_rest.clients cancel_is_a_session.1.0 client lines c a b);
   nobody_else = (lit< tt, (lit< tt, (lit< tt, (lit< tt, tt))));
   read = read;
-  tried = (cancel_is_a_session h).1.1;
+  tried = cancel_is_a_session.1.1;
 }
