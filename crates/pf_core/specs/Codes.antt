@@ -14,7 +14,7 @@ use Rattle.pf_extent.specs.declared.key.Key.{Key}
 use Rattle.pf_journal.specs.Asking.{Asked}
 use Rattle.pf_journal.specs.Machine.{Entry, What, append, delete, ask, full, no_tenant, cancel, answer}
 use Rattle.pf_model.specs.Log.{Verdict, taken, too_old, repeated, differs}
-use Rattle.pf_model.specs.TreeCode.{bytes_code, matchers_code}
+use Rattle.pf_model.proofs.TreeCode.{bytes_code, matchers_code}
 use Rattle.pf_model.specs.declared.expr.Matcher.{Matcher}
 use Rattle.pf_query.specs.Codes.{asked_code, grid_code}
 use Rattle.pf_query.specs.declared.job.Hand.{Hand}

@@ -8,11 +8,11 @@ use Rattle.pf_base.specs.declared.plain.Row.{Row}
 use Rattle.pf_model.specs.Binding.{patterns_of}
 use Rattle.pf_model.specs.Legs.{LegsData, PartData, leg_part, node_part, of_shard}
 use Rattle.pf_model.specs.Lists.{Each, at}
-use Rattle.pf_model.specs.Merging.{below, leg_parts}
+use Rattle.pf_model.specs.Merging.{below}
 use Rattle.pf_model.specs.Sharding.{is_covered, is_mergeable, is_selector, is_sharded, sharded_from, sharded_nodes}
 use Rattle.pf_model.specs.Trees as tree
 use Rattle.pf_model.specs.Trees.{Tree, preorder}
-use Rattle.pf_model.proofs.LegParts.{leg_parts_are}
+use Rattle.pf_model.proofs.LegParts.{leg_parts, leg_parts_are}
 use Rattle.pf_columns.proofs.Below.{first_below}
 use Rattle.pf_selectors.specs.declared.times.Times.{Times}
 use Rattle.pf_selectors.specs.Times.{time_at}

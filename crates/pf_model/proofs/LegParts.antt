@@ -4,11 +4,20 @@ use Rattle.std.proofs.lemmas.Nat.{div-mul-add, mod-mul-add}
 use Rattle.pf_base.specs.declared.plain.Row.{Row}
 use Rattle.pf_model.specs.declared.functions.AggOp.{AggOp}
 use Rattle.pf_model.specs.Clauses.{Grouped}
-use Rattle.pf_model.specs.Legs.{leg_part, node_part, numbered, of_shard}
+use Rattle.pf_model.specs.Legs.{LegsData, PartData, leg_part, node_part, numbered, of_shard}
 use Rattle.pf_model.specs.Lists.{at}
-use Rattle.pf_model.specs.Merging.{below, leg_parts, shard_parts}
+use Rattle.pf_model.specs.Merging.{below}
 use Rattle.pf_model.specs.Trees as tree
 use Rattle.pf_model.specs.Trees.{Tree, Trees, preorder}
+
+-- the parts of all shards of an aggregation, at a time
+abbrev pub shard_parts : AggOp → Grouped → Tree → List Row → ℕ → ℤ → List PartData
+shard_parts op g arg samples n t =
+    below (λ i. node_part (Some (tree.aggregate op g (tree.more arg tree.none))) (of_shard i n samples) t) n
+
+-- the parts of the legs of one node, which stand together
+abbrev pub leg_parts : List Row → LegsData → ℕ → ℤ → List PartData
+leg_parts samples legs place t = below (λ i. leg_part samples legs (place * legs.shards + i) t) legs.shards
 
 below_within : {X : Type 0} (f g : ℕ → X) (n : ℕ) → ((i : ℕ) → i < n → f i ≡ g i) → below f n ≡ below g n
 below_within f g zero h = refl

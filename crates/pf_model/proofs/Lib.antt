@@ -28,4 +28,5 @@ mod WorkedTables
 mod WorkedTexts
 mod WorkedTokens
 mod WorkedTyping
+pub mod TreeCode
 pub mod TreeOf

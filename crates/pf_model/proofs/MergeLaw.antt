@@ -21,10 +21,10 @@ use Rattle.pf_model.specs.declared.functions.RangeFn.{RangeFn}
 use Rattle.pf_model.specs.declared.functions.RangeFn.TheVariants as range_fn
 use Rattle.pf_model.specs.Cells.{element, without_name, cell_of}
 use Rattle.pf_model.specs.Clauses.{Grouped, Matched}
-use Rattle.pf_model.specs.Evaluation.{outcome, outcomes, beside, instant_outcome, selected, windows, read_time, timed}
+use Rattle.pf_model.specs.Evaluation.{eval, outcome, outcomes, beside, instant_outcome, selected, windows, read_time, timed}
 use Rattle.pf_model.specs.InstantFunctions.{absent_labels, each_value, instant_function, floor, ceil, sign_of, round_by, clamp_by, with_scalar}
 use Rattle.pf_model.specs.Legs.{of_shard, PartData, GroupPart, whole, grouped, bad, grouped_part, partials}
-use Rattle.pf_model.specs.Merging.{below, all_groups, merged_groups, finished, first_error, cell_unless, merged_cell, MergesToWhole}
+use Rattle.pf_model.specs.Merging.{below, all_groups, merged_groups, finished, first_error, cell_unless, merged_cell}
 use Rattle.pf_model.specs.Lists.{joined}
 use Rattle.pf_model.specs.Matching.{operated, result_labels, is_arithmetic}
 use Rattle.pf_model.specs.Micros.{seconds}
@@ -35,6 +35,7 @@ use Rattle.pf_model.specs.Sharding.{is_literal, are_literals, is_range_selector,
 use Rattle.pf_model.specs.Trees as tree
 use Rattle.pf_model.specs.Trees.{Tree, Trees}
 use Rattle.pf_model.proofs.Folds.{in_shard}
+use Rattle.pf_model.proofs.LegParts.{shard_parts}
 use Rattle.pf_model.proofs.ShardedSelectors.{selected_of_shard, windows_of_shard}
 use Rattle.pf_model.proofs.MergedParts.{merged_values}
 use Rattle.pf_model.proofs.ShardSteps.{IsPart, IsSharded, StaysInShard, cell_sharded, joined_kept, moved, one_kept, shard_without_name, through}
@@ -399,6 +400,12 @@ module _ (g : Grouped) (n : ℕ) (positive : 0 < n) where
   law_by op m (scalar v) part h = absurd h
   law_by op m (ranges from to ss) part h = absurd h
   law_by op m (text bytes) part h = absurd h
+
+-- the parts of a shardable aggregation, merged, are its value over all samples, errors included
+abbrev pub MergesToWhole : Type 0
+MergesToWhole =
+    (op : AggOp) (g : Grouped) (arg : Tree) (samples : List Row) (t : ℤ) (n : ℕ) → is_mergeable op ≡ true → 0 < n → is_plain arg ≡ true
+    → merged_cell op (shard_parts op g arg samples n t) ≡ eval samples (tree.aggregate op g (tree.more arg tree.none)) t
 
 pub merges : MergesToWhole
 merges op g arg samples t n m positive h =

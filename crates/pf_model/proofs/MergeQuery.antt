@@ -1,20 +1,58 @@
 -- A query whose selectors all stand in sharded aggregations has its value from the merged parts of these, errors included.
-use Rattle.std.proofs.Common.{◌≡◌, ℕ, zero, suc, ◌+◌, ◌<◌, ℤ, Bool, true, false, cond, ◌&&◌, ◌||◌, List, [], ◌∷◌, ◌++◌, length, Some, refl, sym, ap, ◌∙◌, arith}
+use Rattle.std.proofs.Common.{◌≡◌, ℕ, zero, suc, ◌+◌, ◌<◌, ℤ, Bool, true, false, cond, ◌&&◌, ◌||◌, List, [], ◌∷◌, ◌++◌, length, Option, Some, refl, sym, ap, ◌∙◌, arith}
 use Rattle.pf_base.specs.declared.plain.Row.{Row}
 use Rattle.pf_model.specs.declared.cell.StepCell.{StepCell}
+use Rattle.pf_model.specs.declared.cell.StepCell.TheVariants.{Good}
 use Rattle.pf_model.specs.declared.expr.Function.{Function}
 use Rattle.pf_model.specs.declared.expr.Function.TheVariants as function
 use Rattle.pf_model.specs.declared.functions.AggOp.{AggOp}
 use Rattle.pf_model.specs.declared.functions.InstantFn.TheVariants as instant
 use Rattle.pf_model.specs.Clauses.{Grouped}
-use Rattle.pf_model.specs.Evaluation.{called, outcome, outcomes}
+use Rattle.pf_model.specs.Evaluation.{called, eval, outcome, outcomes}
 use Rattle.pf_model.specs.Lists.{at}
-use Rattle.pf_model.specs.Merging.{cell_at, merged_outcome, merged_outcomes, MergesQueries}
+use Rattle.pf_model.specs.Merging.{merged_cell}
 use Rattle.pf_model.specs.Outcomes.{Outcome, scalar, elements, ranges, text, bad, aggregation, first_bad, of_cell, operation, signed, step_cell}
-use Rattle.pf_model.specs.Sharding.{are_covered, is_covered, is_mergeable, is_one_plain}
+use Rattle.pf_model.specs.Sharding.{are_covered, is_covered, is_mergeable, is_one_plain, is_sharded}
 use Rattle.pf_model.specs.Trees as tree
 use Rattle.pf_model.specs.Trees.{Tree, Trees, preorder, all_preorder, size, sizes}
+use Rattle.pf_model.proofs.LegParts.{shard_parts}
 use Rattle.pf_model.proofs.MergeLaw.{and_left, and_right, merges}
+
+-- ---- the value of a query from merged parts
+
+-- the merged cell of a sharded aggregation of a query
+abbrev pub cell_at : Option Tree → List Row → ℕ → ℤ → StepCell
+cell_at (Some (tree.aggregate op g (tree.more arg args))) samples shards t = merged_cell op (shard_parts op g arg samples shards t)
+cell_at _ samples shards t = Good []
+
+-- what a node is from the merged cells of the sharded aggregations, by their numbers in preorder; the node's own is n
+abbrev mutual
+  pub merged_outcome : (ℕ → StepCell) → ℕ → Tree → ℤ → Outcome
+  merged_outcome cells n (tree.number v) t = scalar (Some v)
+  merged_outcome cells n (tree.text bytes) t = text bytes
+  merged_outcome cells n (tree.unary minus arg) t = signed minus (merged_outcome cells (n + 1) arg t)
+  merged_outcome cells n (tree.binary op m left right) t =
+      operation op m (merged_outcome cells (n + 1) left t) (merged_outcome cells (n + 1 + size left) right t)
+  merged_outcome cells n (tree.call f args) t = called [] f args (merged_outcomes cells (n + 1) args t) t
+  merged_outcome cells n (tree.aggregate op g args) t =
+      cond (is_sharded (tree.aggregate op g args)) (of_cell (cells n)) (aggregation op g (merged_outcomes cells (n + 1) args t))
+  merged_outcome cells n (tree.select ms range mods) t = elements []
+  merged_outcome cells n (tree.subquery arg range resolution mods) t = elements []
+
+  pub merged_outcomes : (ℕ → StepCell) → ℕ → Trees → ℤ → List Outcome
+  merged_outcomes cells n tree.none t = []
+  merged_outcomes cells n (tree.more arg args) t = merged_outcome cells n arg t ∷ merged_outcomes cells (n + size arg) args t
+
+-- the value of a query whose selectors all stand in sharded aggregations, from the merged parts of these
+abbrev pub merged_value : Tree → List Row → ℕ → ℤ → StepCell
+merged_value query samples shards t =
+    step_cell (merged_outcome (λ n. cell_at (at (preorder query) n) samples shards t) 0 query t)
+
+-- it is the value over all samples
+abbrev pub MergesQueries : Type 0
+MergesQueries =
+    (query : Tree) (samples : List Row) (shards : ℕ) (t : ℤ) → 0 < shards → is_covered query ≡ true
+    → merged_value query samples shards t ≡ eval samples query t
 
 -- ---- the places of nodes
 

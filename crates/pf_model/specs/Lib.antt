@@ -30,7 +30,6 @@ pub mod Selection
 pub mod Sharding
 pub mod Tests
 pub mod Tokens
-pub mod TreeCode
 pub mod Trees
 pub mod Typing
 pub mod Words

@@ -22,7 +22,7 @@ pub struct Measured {
 
 impl Model for Measured {
     ghost use Rattle.std.specs.Prelude.{◌≡◌, ◌≤◌};
-    ghost use Rattle.pf_model.specs.TreeCode.{coded_tree};
+    ghost use Rattle.pf_model.proofs.TreeCode.{coded_tree};
     ghost use Rattle.pf_model.specs.Trees.{Tree, height, tree_of};
 
     ghost Value = { Tree };
@@ -44,7 +44,7 @@ pub struct Arguments {
 impl Model for Arguments {
     ghost use Rattle.std.specs.Prelude.{◌≡◌, ◌≤◌, List, map};
     ghost use Rattle.std.specs.Coded.{coded_list};
-    ghost use Rattle.pf_model.specs.TreeCode.{coded_tree};
+    ghost use Rattle.pf_model.proofs.TreeCode.{coded_tree};
     ghost use Rattle.pf_model.specs.Trees.{Tree, heights, tree_of, trees_of};
 
     ghost Value = { List Tree };

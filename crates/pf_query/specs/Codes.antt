@@ -6,7 +6,7 @@ use Rattle.pf_journal.specs.Asking.{Asked}
 use Rattle.pf_model.specs.declared.expr.Kind.{Kind}
 use Rattle.pf_model.specs.declared.expr.Kind.TheVariants.{Scalar, Instant, Range, Text}
 use Rattle.pf_model.specs.Direct as direct
-use Rattle.pf_model.specs.TreeCode.{bytes_code, coded_tree}
+use Rattle.pf_model.proofs.TreeCode.{bytes_code, coded_tree}
 use Rattle.pf_model.specs.Trees.{Tree}
 
 abbrev pub kind_number : Kind → ℕ

@@ -4,7 +4,7 @@ use Rattle.std.specs.Coded.{Coded, code_by, coded×, coded_ℕ}
 use base.Stored.{coded_list}
 use Rattle.pf_model.specs.Legs.{LegsData}
 use Rattle.pf_model.specs.Sharding.{is_shardable, sharded_nodes}
-use Rattle.pf_model.specs.TreeCode.{coded_tree}
+use Rattle.pf_model.proofs.TreeCode.{coded_tree}
 use Rattle.pf_model.specs.Trees.{Tree}
 
 -- a query, the series of each of its selectors, and the texts of its patterns

@@ -31,7 +31,7 @@ pub struct BoundQuery {
 
 impl Model for BoundQuery {
     ghost use Rattle.std.specs.Arc.{arc_value};
-    ghost use Rattle.pf_model.specs.TreeCode.{coded_tree};
+    ghost use Rattle.pf_model.proofs.TreeCode.{coded_tree};
     ghost use Rattle.pf_model.specs.Trees.{Tree, tree_of};
     ghost use Rattle.pf_types.specs.Asking.{IsBound};
 

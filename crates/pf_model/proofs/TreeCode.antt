@@ -1,4 +1,4 @@
--- How a tree is told from others where a model's value holds one. This project's own.
+-- How a tree is told from others where a model's value holds one: a code, which no contract cites. This project's own.
 use Rattle.std.specs.Prelude.{◌≡◌, ℕ, ℤ, Bool, true, false, cond, nat_eq, List, [], ◌∷◌, Option}
 use Rattle.std.specs.Coded.{coded×, coded_option, code_by}
 use Rattle.std.specs.Str.{bytes_eq}
