@@ -11,6 +11,7 @@ pub mod LeastRepeated
 pub mod Put
 pub mod Repeats
 pub mod ShardSteps
+pub mod Sorted
 pub mod Sorting
 mod WorkedLabels
 pub mod StableSorting

@@ -56,7 +56,7 @@ id_by l m ms true e r f a (suc g) h =
 id_by l m ms false e r f a zero h = suc_zero (place_in ms l) ∙ sym e
 id_by l m ms false e r f a (suc g) h = eq_suc (place_in ms l) g ∙ f a g (omega (arith, h))
 
-id_is : (ks : List Pairs) → AreRising ks → (l : Pairs) → stands_in l ks ≡ true → (g : ℕ) → g < length ks → nat_eq (place_in ks l) g ≡ same_labels l (get_or ks g [])
+pub id_is : (ks : List Pairs) → AreRising ks → (l : Pairs) → stands_in l ks ≡ true → (g : ℕ) → g < length ks → nat_eq (place_in ks l) g ≡ same_labels l (get_or ks g [])
 id_is [] r l a g h = absurd (omega (arith, h))
 id_is (m ∷ ms) r l a g h = id_by l m ms (same_labels l m) refl r.0 (id_is ms r.1 l) a g h
 
@@ -146,7 +146,7 @@ pub below_alike : {X : Type 0} (f g : ℕ → X) (n : ℕ) → ((k : ℕ) → f 
 below_alike f g zero e = refl
 below_alike f g (suc n) e = λ i. below_alike f g n e i ++ (e n i ∷ [])
 
-length_take_alike : {X Y : Type 0} (xs : List X) (ys : List Y) (i : ℕ) → length xs ≡ length ys → length (take i xs) ≡ length (take i ys)
+pub length_take_alike : {X Y : Type 0} (xs : List X) (ys : List Y) (i : ℕ) → length xs ≡ length ys → length (take i xs) ≡ length (take i ys)
 length_take_alike xs ys zero e = refl
 length_take_alike [] [] (suc i) e = refl
 length_take_alike [] (y ∷ ys) (suc i) e = absurd (omega (arith, e))

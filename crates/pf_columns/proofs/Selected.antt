@@ -10,6 +10,7 @@ use Rattle.std.proofs.lemmas.List.{ext_get_or, take_all, take_at}
 use Rattle.std.proofs.lemmas.List.Elements.{All-cons, All-head, All-tail}
 use Rattle.std.proofs.lemmas.List.Sorted.{IsPermutation-append, IsPermutation-cons, IsPermutation-middle, IsPermutation-refl, IsPermutation-trans}
 use Rattle.pf_base.specs.Sorting.{ins, isort}
+use Rattle.pf_base.proofs.Sorted.{is_sorted, sort_moves}
 use Rattle.pf_base.proofs.Sorting.{All-ins, Ascends, ascends_isort, sorted_is}
 use Rattle.pf_columns.specs.Ranks.{entry_cmp, marked}
 use Rattle.pf_columns.specs.declared.ranked.Entry.{Entry}
@@ -23,25 +24,7 @@ not_above a Less e h = cc
 not_above a Equal e h = ap is_gt e
 not_above a Greater e h = ap is_gt e
 
-not_below : (a b : Ordering) → a ≡ ordering_reverse b → is_gt b ≡ false → is_lt a ≡ false
-not_below a Less e h = ap is_lt e
-not_below a Equal e h = ap is_lt e
-not_below a Greater e h = cc
-
 module _ {X : Type 0} (R : X → X → Ordering) where
-  insert_moves_by : (x y : X) (ys : List X) (b : Bool) → IsPermutation (x ∷ ys) (ins R x ys) → IsPermutation (x ∷ y ∷ ys) (cond b (y ∷ ins R x ys) (x ∷ y ∷ ys))
-  insert_moves_by x y ys true p =
-      IsPermutation-trans (x ∷ y ∷ ys) (y ∷ x ∷ ys) (y ∷ ins R x ys) (IsPermutation-middle (x ∷ []) y ys) (IsPermutation-cons y (x ∷ ys) (ins R x ys) p)
-  insert_moves_by x y ys false p = IsPermutation-refl (x ∷ y ∷ ys)
-
-  insert_moves : (x : X) (ys : List X) → IsPermutation (x ∷ ys) (ins R x ys)
-  insert_moves x [] = IsPermutation-refl (x ∷ [])
-  insert_moves x (y ∷ ys) = insert_moves_by x y ys (is_gt (R x y)) (insert_moves x ys)
-
-  sort_moves : (xs : List X) → IsPermutation xs (isort R xs)
-  sort_moves [] = IsPermutation-refl []
-  sort_moves (x ∷ xs) = IsPermutation-trans (x ∷ xs) (x ∷ isort R xs) (isort R (x ∷ xs)) (IsPermutation-cons x xs (isort R xs) (sort_moves xs)) (insert_moves x (isort R xs))
-
   module _ (o : IsTotalOrder R) where
     all_isort : (P : X → Type 0) (xs : List X) → All P xs → All P (isort R xs)
     all_isort P [] a = a
@@ -57,18 +40,6 @@ module _ {X : Type 0} (R : X → X → Ordering) where
     ascends_append (x ∷ xs) ys a b h =
         let P : X → Type 0 = λ z. All (λ y. is_gt (R z y) ≡ false) ys in
         (all_append (λ y. is_gt (R x y) ≡ false) xs ys a.0 (All-head P x xs h), ascends_append xs ys a.1 b (All-tail P x xs h))
-
-    sorted_by : (x : X) (xs : List X) → All (λ y. is_gt (R x y) ≡ false) xs → (d : X) → 0 < length xs → is_lt (R (get_or xs 0 d) x) ≡ false
-    sorted_by x xs a d h = not_below (R (get_or xs 0 d) x) (R x (get_or xs 0 d)) (o.antisymm (get_or xs 0 d) x) (a 0 d h)
-
-    sorted : (xs : List X) → Ascends R xs → (k : ℕ) (d : X) → suc k < length xs → is_lt (R (get_or xs (suc k) d) (get_or xs k d)) ≡ false
-    sorted [] a k d h = absurd (omega (arith, h))
-    sorted (x ∷ xs) a zero d h = sorted_by x xs a.0 d (omega (arith, h))
-    sorted (x ∷ xs) a (suc k) d h = sorted xs a.1 k d (omega (arith, h))
-
-    is_sorted : (xs : List X) → Ascends R xs → IsSorted R xs
-    is_sorted xs a k d l h =
-        subst (λ i. is_lt (R (get_or xs i d) (get_or xs k d)) ≡ false) (sym (add-one k)) (sorted xs a k d (omega (arith, h)))
 
     module _ (exact : (x y : X) → R x y ≡ Equal → x ≡ y) where
       -- what a selection ensures
@@ -86,9 +57,9 @@ module _ {X : Type 0} (R : X → X → Ordering) where
           (λ j e l. upto o (get_or front k d) x (get_or behind j e) (up k d h) (on j e l))) in
           let moved : IsPermutation xs (isort R front ++ isort R behind) =
           IsPermutation-trans xs (front ++ behind) (isort R front ++ isort R behind) p
-          (IsPermutation-append front (isort R front) behind (isort R behind) (sort_moves front) (sort_moves behind)) in
+          (IsPermutation-append front (isort R front) behind (isort R behind) (sort_moves R front) (sort_moves R behind)) in
           sym (sorted_is R o exact xs (isort R front ++ isort R behind) moved
-          (is_sorted (isort R front ++ isort R behind) (ascends_append (isort R front) (isort R behind) (ascends_isort R o front) (ascends_isort R o behind) apart)))
+          (is_sorted R o (isort R front ++ isort R behind) (ascends_append (isort R front) (isort R behind) (ascends_isort R o front) (ascends_isort R o behind) apart)))
 
 -- ---- marks
 

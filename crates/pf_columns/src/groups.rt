@@ -66,7 +66,7 @@ fn kept(labels: &Labels, names: &[Text]) -> Result<Labels, OutOfMemory>
 }
 
 /// The labels that `by` keeps, or that `without` leaves.
-#[tactic(auto, using(crate::proofs::WithoutName::left_without_name))]
+#[tactic(auto, using(pf_model::proofs::WithoutName::left_without_name))]
 fn group_key(grouping: &Grouping, labels: &Labels) -> Result<Labels, OutOfMemory>
     ensures { IfOk result (λ l. l ≡ group_key grouping.now.without grouping.now.labels labels.now) }
 {

@@ -13,7 +13,8 @@ use Rattle.pf_base.specs.LabelSets.{Pairs}
 use Rattle.pf_base.specs.Sorting.{ins, isort}
 use Rattle.pf_base.proofs.Sorting.{Ascends, ascends_isort, sorted_is}
 use Rattle.pf_block.specs.LabelOrders.{by_label, ids_by_label, numbered_from}
-use Rattle.pf_block.proofs.LabelOrdering.{by_label_exact, by_label_total, is_sorted, length_numbered, numbered_at, sort_moves}
+use Rattle.pf_base.proofs.Sorted.{is_sorted, sort_moves}
+use Rattle.pf_block.proofs.LabelOrdering.{by_label_exact, by_label_total, length_numbered, numbered_at}
 use Rattle.pf_model.specs.declared.expr.Matcher.{Matcher}
 use Rattle.pf_model.specs.Binding.{accepted_from, accepted_ids, accepted_of}
 use Rattle.pf_model.specs.Selection.{accepts}

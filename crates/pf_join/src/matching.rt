@@ -26,7 +26,7 @@ struct Joined {
 }
 
 /// The labels of other names than these, without the metric name.
-#[tactic(auto, using(crate::proofs::WithoutName::left_without_name))]
+#[tactic(auto, using(pf_model::proofs::WithoutName::left_without_name))]
 fn others_left(labels: &Labels, names: &[Text]) -> Result<Labels, OutOfMemory>
     ensures { IfOk result (λ l. l ≡ left_out (metric_name ∷ names.now) labels.now) }
 {

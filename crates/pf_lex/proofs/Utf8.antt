@@ -29,10 +29,10 @@ one_low b h = subst IsUtf8 (encode_ascii b h) (IsUtf8-encode b (low_scalar b h))
 
 -- ---- bytes of higher characters
 
-abbrev is_high : ℕ → Bool
+abbrev pub is_high : ℕ → Bool
 is_high b = nat_lt 127 b
 
-high_encode : (c : ℕ) → 128 ≤ c → list_all is_high (encode_utf8 c) ≡ true
+pub high_encode : (c : ℕ) → 128 ≤ c → list_all is_high (encode_utf8 c) ≡ true
 unfolding encode_utf8
 high_encode c h = elim (bool_cases (nat_lt c 128)) [
   | inl t ↦ absurd (low c h t)

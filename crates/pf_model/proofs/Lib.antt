@@ -13,6 +13,7 @@ mod MergedParts
 pub mod OneAnswer
 pub mod OnePlace
 pub mod Places
+pub mod PreorderSizes
 pub mod SelectorLabels
 mod ShardSteps
 mod ShardedCells
@@ -30,3 +31,4 @@ mod WorkedTokens
 mod WorkedTyping
 pub mod TreeCode
 pub mod TreeOf
+pub mod WithoutName

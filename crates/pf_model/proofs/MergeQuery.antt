@@ -16,6 +16,7 @@ use Rattle.pf_model.specs.Sharding.{are_covered, is_covered, is_mergeable, is_on
 use Rattle.pf_model.specs.Trees as tree
 use Rattle.pf_model.specs.Trees.{Tree, Trees, preorder, all_preorder, size, sizes}
 use Rattle.pf_model.proofs.LegParts.{shard_parts}
+use Rattle.pf_model.proofs.PreorderSizes.{preorder_size}
 use Rattle.pf_model.proofs.MergeLaw.{and_left, and_right, merges}
 
 -- ---- the value of a query from merged parts
@@ -55,29 +56,6 @@ MergesQueries =
     → merged_value query samples shards t ≡ eval samples query t
 
 -- ---- the places of nodes
-
-sizes_append : (xs ys : List Tree) (m l : ℕ) → length xs ≡ m → length ys ≡ l → length (xs ++ ys) ≡ m + l
-sizes_append [] ys m l h k = omega (arith, h, k)
-sizes_append (x ∷ xs) ys m l h k =
-    let rest : length (xs ++ ys) ≡ length xs + length ys = sizes_append xs ys (length xs) (length ys) refl refl in
-    omega (arith, rest, h, k)
-
-mutual
-  preorder_size : (q : Tree) → length (preorder q) ≡ size q
-  preorder_size (tree.number v) = refl
-  preorder_size (tree.text bytes) = refl
-  preorder_size (tree.unary minus q) = let h : length (preorder q) ≡ size q = preorder_size q in omega (arith, h)
-  preorder_size (tree.binary op m l r) =
-      let both : length (preorder l ++ preorder r) ≡ size l + size r = sizes_append (preorder l) (preorder r) (size l) (size r) (preorder_size l) (preorder_size r) in
-      omega (arith, both)
-  preorder_size (tree.call f args) = let h : length (all_preorder args) ≡ sizes args = preorder_sizes args in omega (arith, h)
-  preorder_size (tree.aggregate op g args) = let h : length (all_preorder args) ≡ sizes args = preorder_sizes args in omega (arith, h)
-  preorder_size (tree.select ms range mods) = refl
-  preorder_size (tree.subquery q range resolution mods) = let h : length (preorder q) ≡ size q = preorder_size q in omega (arith, h)
-
-  preorder_sizes : (qs : Trees) → length (all_preorder qs) ≡ sizes qs
-  preorder_sizes tree.none = refl
-  preorder_sizes (tree.more q qs) = sizes_append (preorder q) (all_preorder qs) (size q) (sizes qs) (preorder_size q) (preorder_sizes qs)
 
 -- the first and the further ones of a list
 at_first : (xs ys : List Tree) (k : ℕ) → k < length xs → at (xs ++ ys) k ≡ at xs k

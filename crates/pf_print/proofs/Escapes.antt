@@ -15,6 +15,7 @@ use Rattle.pf_base.specs.NumberTexts.{value_text, micros_text, fraction_text, si
 use Rattle.pf_base.specs.Arithmetic.{IsValue}
 use Rattle.std.specs.Fmt.{decimal}
 use Rattle.pf_model.specs.Canonical.{string_byte, string_bytes_of}
+use Rattle.pf_lex.proofs.Utf8.{high_encode, is_high}
 use lib.Utf8.{scalar, scalars, encodes}
 
 pub escaped_onto : (xs ys : List ℕ) → string_bytes_of (xs ++ ys) ≡ string_bytes_of xs ++ string_bytes_of ys
@@ -39,37 +40,6 @@ escaped_all xs = ap string_bytes_of (all xs)
     all (x ∷ xs) = ap (λ ys. x ∷ ys) (all xs)
 
 -- ---- bytes of higher characters
-
-abbrev is_high : ℕ → Bool
-is_high b = nat_lt 127 b
-
-high_encode : (c : ℕ) → 128 ≤ c → list_all is_high (encode_utf8 c) ≡ true
-unfolding encode_utf8
-high_encode c h = elim (bool_cases (nat_lt c 128)) [
-  | inl t ↦ absurd (low c h t)
-  | inr n ↦ rw n (elim (bool_cases (nat_lt c 2048)) [
-    | inl t ↦ rw t (by_two (c / 64) (c % 64))
-    | inr m ↦ rw m (elim (bool_cases (nat_lt c 65536)) [
-      | inl t ↦ rw t (by_three (c / 4096) (c / 64 % 64) (c % 64))
-      | inr k ↦ rw k (by_four (c / 262144) (c / 4096 % 64) (c / 64 % 64) (c % 64))
-    ])
-  ])
-]
-  where
-    low : (c : ℕ) → 128 ≤ c → nat_lt c 128 ≡ true → ⊥
-    low c h t = grind (arith, nat_tests)
-
-    above : (k n : ℕ) → 127 < k → nat_lt 127 (k + n) ≡ true
-    above k n h = grind (arith, nat_tests)
-
-    by_two : (a b : ℕ) → list_all is_high ((192 + a) ∷ (128 + b) ∷ []) ≡ true
-    by_two a b = let x = above 192 a (omega arith) in let y = above 128 b (omega arith) in rw (x, y) refl
-
-    by_three : (a b d : ℕ) → list_all is_high ((224 + a) ∷ (128 + b) ∷ (128 + d) ∷ []) ≡ true
-    by_three a b d = let x = above 224 a (omega arith) in let y = above 128 b (omega arith) in let z = above 128 d (omega arith) in rw (x, y, z) refl
-
-    by_four : (a b d e : ℕ) → list_all is_high ((240 + a) ∷ (128 + b) ∷ (128 + d) ∷ (128 + e) ∷ []) ≡ true
-    by_four a b d e = let x = above 240 a (omega arith) in let y = above 128 b (omega arith) in let z = above 128 d (omega arith) in let w = above 128 e (omega arith) in rw (x, y, z, w) refl
 
 high_byte : (b : ℕ) → is_high b ≡ true → string_byte b ≡ b ∷ []
 high_byte b h =

@@ -1,5 +1,4 @@
--- Threads may share what is asked, jobs and the table: they may be sent to another, and be lent to several. The tree of a query, which holds
--- itself, is shown by itself.
+-- Threads may share what is asked, jobs and the table: they may be sent to another, and be lent to several.
 use denote.Param.Send.{IsSend, IsSync, sendable}
 use Rattle.std.proofs.Crossing.{crosses}
 use Rattle.std.proofs.MapsCrossing.{crosses as maps_cross}
@@ -7,9 +6,7 @@ use Rattle.pf_block.specs.contracts.snap.Snap as Snap
 use Rattle.pf_columns.proofs.Crossing.{steps_cross}
 use Rattle.pf_extent.specs.contracts.done.DoneCells as DoneCells
 use Rattle.pf_match.proofs.Crossing.{patterns_cross}
-use Rattle.pf_model.proofs.Crossing.{matchers_cross}
-use Rattle.pf_model.proofs.expr.Expr.TheLaws.TheKnot as knot
-use Rattle.pf_model.specs.contracts.expr.Expr as Expr
+use Rattle.pf_model.proofs.Crossing.{matchers_cross, tree_crosses}
 use Rattle.pf_query.specs.contracts.asked.Asked as Asked
 use Rattle.pf_query.specs.contracts.job.Held as Held
 use Rattle.pf_query.specs.contracts.job.Job as Job
@@ -18,17 +15,11 @@ use Rattle.pf_query.specs.contracts.table.Table as Table
 use Rattle.pf_query.specs.contracts.work.Work as Work
 use Rattle.pf_shard.proofs.Crossing.{groups_cross, legs_cross}
 
-Expr-send : IsSend Expr.the_field.row
-Expr-send = search (crosses, knot.crosses, sendable) depth 60 fits 20000
-
-Expr-sync : IsSync Expr.the_field.row
-Expr-sync = search (crosses, knot.crosses, sendable) depth 60 fits 20000
-
 pub Asked-send : IsSend Asked.the_row
-Asked-send = search (Expr-send, Expr-sync, matchers_cross, patterns_cross, crosses, sendable) depth 60 fits 20000
+Asked-send = search (tree_crosses, matchers_cross, patterns_cross, crosses, sendable) depth 60 fits 20000
 
 pub Asked-sync : IsSync Asked.the_row
-Asked-sync = search (Expr-send, Expr-sync, matchers_cross, patterns_cross, crosses, sendable) depth 60 fits 20000
+Asked-sync = search (tree_crosses, matchers_cross, patterns_cross, crosses, sendable) depth 60 fits 20000
 
 -- for a search over a type that holds what is asked
 pub ruleset asked_cross = (Asked-send, Asked-sync)

@@ -1,26 +1,18 @@
--- Threads may share legs and what they are over runs: they may be sent to another, and be lent to several. The tree of a query, which holds itself, is shown by
--- itself.
+-- Threads may share legs and what they are over runs: they may be sent to another, and be lent to several.
 use denote.Param.Send.{IsSend, IsSync, sendable}
 use Rattle.std.proofs.Crossing.{crosses}
 use Rattle.pf_match.proofs.Crossing.{patterns_cross}
-use Rattle.pf_model.proofs.expr.Expr.TheLaws.TheKnot as knot
-use Rattle.pf_model.specs.contracts.expr.Expr as Expr
+use Rattle.pf_model.proofs.Crossing.{tree_crosses}
 use Rattle.pf_shard.specs.contracts.groups.GroupColumn as GroupColumn
 use Rattle.pf_shard.specs.contracts.groups.GroupSteps as GroupSteps
 use Rattle.pf_shard.specs.contracts.legs.Legs as Legs
 use Rattle.pf_shard.specs.contracts.legs.Resolved as Resolved
 
-Expr-send : IsSend Expr.the_field.row
-Expr-send = search (crosses, knot.crosses, sendable) depth 60 fits 20000
-
-Expr-sync : IsSync Expr.the_field.row
-Expr-sync = search (crosses, knot.crosses, sendable) depth 60 fits 20000
-
 pub Resolved-send : IsSend Resolved.the_row
-Resolved-send = search (Expr-send, Expr-sync, patterns_cross, crosses, sendable) depth 60 fits 20000
+Resolved-send = search (tree_crosses, patterns_cross, crosses, sendable) depth 60 fits 20000
 
 pub Resolved-sync : IsSync Resolved.the_row
-Resolved-sync = search (Expr-send, Expr-sync, patterns_cross, crosses, sendable) depth 60 fits 20000
+Resolved-sync = search (tree_crosses, patterns_cross, crosses, sendable) depth 60 fits 20000
 
 pub Legs-send : IsSend Legs.the_row
 Legs-send = search (Resolved-send, Resolved-sync, crosses, sendable) depth 60 fits 20000

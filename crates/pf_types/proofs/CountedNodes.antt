@@ -16,6 +16,7 @@ use Rattle.pf_model.specs.Binding.{fifth_text, matchers_in, pattern_of, patterns
 use Rattle.pf_model.specs.Clauses.{Grouped, Matched}
 use Rattle.pf_model.specs.Queries.{counted, counted_in, is_counted, is_label_replace}
 use Rattle.pf_model.specs.Trees.{Tree, Trees, number, text, unary, binary, call, aggregate, select, subquery, none, more, preorder, all_preorder, size, sizes, tree_of, trees_of}
+use Rattle.pf_model.proofs.PreorderSizes.{preorder_size}
 use Rattle.pf_model.proofs.TreeOf.{number_tree, text_tree, unary_tree, binary_tree, call_tree, aggregate_tree, select_tree, subquery_tree}
 use Rattle.pf_types.specs.Counted.{all_counted, text_in}
 use Rattle.pf_types.proofs.Operands.{rest, rest_more, rest_none}
@@ -105,24 +106,6 @@ on_ok_map (Ok x) P Q f h = f h
 on_ok_map (Err e) P Q f h = tt
 
 -- ---- how many there are
-
-mutual
-  preorder_size : (q : Tree) → length (preorder q) ≡ size q
-  preorder_size (number v) = refl
-  preorder_size (text bytes) = refl
-  preorder_size (unary minus q) = let h : length (preorder q) ≡ size q = preorder_size q in omega (arith, h)
-  preorder_size (binary op m l r) =
-      let both : length (preorder l ++ preorder r) ≡ size l + size r = length-append (preorder l) (preorder r) ∙ ap (λ n. n + length (preorder r)) (preorder_size l) ∙ ap (λ n. size l + n) (preorder_size r) in
-      omega (arith, both)
-  preorder_size (call f args) = let h : length (all_preorder args) ≡ sizes args = preorder_sizes args in omega (arith, h)
-  preorder_size (aggregate op g args) = let h : length (all_preorder args) ≡ sizes args = preorder_sizes args in omega (arith, h)
-  preorder_size (select ms range mods) = refl
-  preorder_size (subquery q range resolution mods) = let h : length (preorder q) ≡ size q = preorder_size q in omega (arith, h)
-
-  preorder_sizes : (qs : Trees) → length (all_preorder qs) ≡ sizes qs
-  preorder_sizes none = refl
-  preorder_sizes (more q qs) =
-      length-append (preorder q) (all_preorder qs) ∙ ap (λ n. n + length (all_preorder qs)) (preorder_size q) ∙ ap (λ n. size q + n) (preorder_sizes qs)
 
 fewer : (ts : List Tree) → length (counted_in ts) ≤ length ts
 fewer [] = omega arith

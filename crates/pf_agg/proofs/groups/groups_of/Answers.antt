@@ -9,7 +9,8 @@ use Rattle.pf_columns.specs.Columns.{columns_labels}
 use Rattle.pf_columns.specs.Groups.{place_in}
 use Rattle.pf_columns.proofs.Below.{length_below}
 use Rattle.pf_agg.specs.Buckets.{those_of}
-use Rattle.pf_agg.proofs.GroupElements.{groups_are, ids_below}
+use Rattle.pf_columns.proofs.GroupColumns.{ids_below}
+use Rattle.pf_agg.proofs.GroupElements.{groups_are}
 use Rattle.pf_agg.proofs.groups.groups_of.Goals as goal
 
 abbrev bucket : Vec (Bor Element) Global → List Element

@@ -2,7 +2,7 @@ use Rattle.std.proofs.Common.{◌++◌, ◌∷◌, [], List, map, Bor, Vec, Glob
 use Rattle.std.specs.Prelude.{slice_set}
 use Rattle.std.proofs.lemmas.List.{get_or-map, map-set}
 use Rattle.pf_model.specs.declared.cell.Element.{Element}
-use Rattle.pf_agg.proofs.GroupElements.{map_snoc}
+use Rattle.pf_columns.proofs.GroupColumns.{map_snoc}
 use Rattle.pf_agg.proofs.groups.put_element.Goals as goal
 
 abbrev now : Bor Element → Element

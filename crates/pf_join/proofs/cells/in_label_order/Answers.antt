@@ -2,7 +2,7 @@ use Rattle.std.proofs.Common.{rules, tests}
 use Rattle.std.proofs.lemmas.List.Sorted.{answers_always}
 use Rattle.pf_base.proofs.StableSorting.{stable_sorted_is}
 use Rattle.pf_model.specs.Cells.{element_cmp}
-use Rattle.pf_join.proofs.ElementOrder.{element_total, element_lt, element_weak}
+use Rattle.pf_math.proofs.ElementOrder.{element_total, element_lt, element_weak}
 use Rattle.pf_join.proofs.cells.in_label_order.Goals as goal
 
 -- the sort compares labels

@@ -1,6 +1,6 @@
 use Rattle.std.proofs.Common.{◌++◌, ◌∷◌, [], ap, ◌∙◌}
 use Rattle.pf_join.specs.KeyedElements.{keyed_of}
-use Rattle.pf_join.proofs.Joining.{mapped_next}
+use Rattle.pf_math.proofs.Joining.{mapped_next}
 use Rattle.pf_join.proofs.matching.keyed.Goals as goal
 
 pub loop-element-preserved : goal.loop-element-preserved

@@ -1,5 +1,5 @@
 use Rattle.std.proofs.Common.{◌++◌, ◌∷◌, [], ap, ◌∙◌}
-use Rattle.pf_join.proofs.Joining.{mapped_next}
+use Rattle.pf_math.proofs.Joining.{mapped_next}
 use Rattle.pf_join.proofs.matching.labels_of.Goals as goal
 
 pub loop-joined-preserved : goal.loop-joined-preserved

@@ -2,7 +2,7 @@ use Rattle.std.proofs.Common.{◌++◌, map, ap, ◌∙◌}
 use Rattle.pf_model.specs.Lists.{joined}
 use Rattle.pf_join.specs.KeyedElements.{keyed_results}
 use Rattle.pf_join.specs.Results.{result_of}
-use Rattle.pf_join.proofs.Joining.{joined_next}
+use Rattle.pf_math.proofs.Joining.{joined_next}
 use Rattle.pf_join.proofs.matching.results.Goals as goal
 
 pub loop-left-preserved : goal.loop-left-preserved
