@@ -16,9 +16,10 @@ use Rattle.pf_model.specs.Evaluation.{beside, instant_outcome, outcome, outcomes
 use Rattle.pf_model.specs.Legs.{PartData, node_part, of_shard}
 use Rattle.pf_model.specs.Merging.{below, merged_cell}
 use Rattle.pf_model.specs.Outcomes.{Outcome, aggregation, scalar, elements, ranges, text, bad, first_bad, instant_call, of_cell, operation, step_cell}
-use Rattle.pf_model.specs.Sharding.{are_covered, are_literals, is_covered, is_elementwise, is_first_plain, is_literal, is_mergeable, is_one_plain, is_over_series, is_plain, is_range_selector, is_set_operator, is_sharded}
+use Rattle.pf_model.specs.Sharding.{are_covered, are_literals, is_covered, is_elementwise, is_first_plain, is_literal, is_mergeable, is_one_plain, is_over_series, is_plain, is_range_selector, is_sharded}
 use Rattle.pf_model.specs.Trees as tree
 use Rattle.pf_model.specs.Trees.{Tree, Trees, all_preorder, preorder}
+use Rattle.pf_model.specs.Words.{is_set_operator}
 use Rattle.pf_model.proofs.MergeLaw.{merges}
 use Rattle.pf_selectors.specs.declared.times.Times.{Times}
 use Rattle.pf_selectors.specs.Times.{time_at}

@@ -10,9 +10,10 @@ use Rattle.pf_model.specs.Binding.{matchers_in, selectors_of}
 use Rattle.pf_model.specs.Built.{are_arguments, are_evaluated, is_evaluated, is_lawful_call, is_range, is_range_argument, is_string}
 use Rattle.pf_model.specs.Clauses.{Grouped}
 use Rattle.pf_model.specs.Lists.{Each, at}
-use Rattle.pf_model.specs.Sharding.{are_covered, are_literals, is_covered, is_elementwise, is_literal, is_mergeable, is_one_plain, is_over_series, is_plain, is_range_selector, is_set_operator, is_sharded, sharded_from, sharded_nodes}
+use Rattle.pf_model.specs.Sharding.{are_covered, are_literals, is_covered, is_elementwise, is_literal, is_mergeable, is_one_plain, is_over_series, is_plain, is_range_selector, is_sharded, sharded_from, sharded_nodes}
 use Rattle.pf_model.specs.Trees as tree
 use Rattle.pf_model.specs.Trees.{Tree, Trees, all_preorder, height, heights, preorder}
+use Rattle.pf_model.specs.Words.{is_set_operator}
 use Rattle.pf_shard.specs.Bound.{first_selector, node_matchers}
 use Rattle.pf_eval.specs.Plain.{first_matchers, plain_matchers}
 use Rattle.pf_eval.proofs.BoundLists.{matchers_append, two_true}

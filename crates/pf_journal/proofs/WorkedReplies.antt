@@ -1,9 +1,10 @@
 -- Worked examples of replies, entries and bodies that the small journals do not show, computed.
-use Rattle.std.proofs.Common.{◌≡◌, ℕ, List, [], ◌∷◌, refl, Option, Some, None, codes}
+use Rattle.std.proofs.Common.{◌≡◌, ℕ, List, [], ◌∷◌, refl, Option, Some, None, Ok, Err, codes}
 use Rattle.std.specs.Fmt.{digits}
 use Rattle.json.specs.Print.{escape_byte}
 use Rattle.pf_model.specs.Exposition.{too_many}
-use Rattle.pf_journal.proofs.Examples.{at_line, line, usual}
+use Rattle.pf_journal.proofs.Examples.{at_line, grid, line, reads, up_over, usual}
+use Rattle.pf_journal.specs.Asking.{ranged}
 use Rattle.pf_journal.specs.Bodies.{journal_body}
 use Rattle.pf_journal.specs.Files as files
 use Rattle.pf_journal.specs.Legal.{Moment}
@@ -176,3 +177,16 @@ keep_is_unplanned = refl
 entry_of_a_stranger : entry_text (codes "acme" ∷ []) 1030 (at_line 9 (no_tenant (codes "beta"))) ≡ codes "1030 client 0 line 9 tenants full beta\n"
 unfolding digits
 entry_of_a_stranger = refl
+
+-- ---- what is asked
+
+query_is_asked : ranged reads 60000 180500 60000 (codes "up{job=\"a\"}") ≡ Some (Ok (up_over (grid 60000 60000 3)))
+query_is_asked = refl
+
+-- the grid's refusal comes before the query's
+no_step_is_refused : ranged reads 0 0 0 (codes "sum(") ≡ Some (Err (codes "zero step"))
+no_step_is_refused = refl
+
+query_is_refused : ranged reads 0 0 1 (codes "sum(") ≡ Some (Err (codes "unexpected at 4"))
+unfolding digits
+query_is_refused = refl

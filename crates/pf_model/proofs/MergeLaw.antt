@@ -31,9 +31,10 @@ use Rattle.pf_model.specs.Micros.{seconds}
 use Rattle.pf_model.specs.Outcomes as node
 use Rattle.pf_model.specs.Outcomes.{Outcome, Series, scalar, elements, ranges, text, of_cell, first_bad, scalars_of, signed, negated, operation, aggregation, step_cell, instant_call, of_series, of_elements, ranged_labels}
 use Rattle.pf_model.specs.RangeFunctions.{range_function, keeps_name}
-use Rattle.pf_model.specs.Sharding.{is_literal, are_literals, is_range_selector, is_elementwise, is_over_series, is_plain, is_set_operator, is_mergeable}
+use Rattle.pf_model.specs.Sharding.{is_literal, are_literals, is_range_selector, is_elementwise, is_over_series, is_plain, is_mergeable}
 use Rattle.pf_model.specs.Trees as tree
 use Rattle.pf_model.specs.Trees.{Tree, Trees}
+use Rattle.pf_model.specs.Words.{is_set_operator}
 use Rattle.pf_model.proofs.Folds.{in_shard}
 use Rattle.pf_model.proofs.LegParts.{shard_parts}
 use Rattle.pf_model.proofs.ShardedSelectors.{selected_of_shard, windows_of_shard}

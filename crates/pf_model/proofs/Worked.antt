@@ -1,7 +1,6 @@
 -- Worked examples of queries, computed.
-use Rattle.std.proofs.Common.{◌≡◌, ℕ, pos, List, [], ◌∷◌, refl, Some, None, Ok, Err, codes, true, false, cond}
+use Rattle.std.proofs.Common.{◌≡◌, ℕ, pos, List, [], ◌∷◌, refl, Some, None, codes, true, false}
 use Rattle.std.specs.Fmt.{digits}
-use Rattle.std.specs.Str.{bytes_eq}
 use Rattle.pf_model.specs.declared.expr.Function.TheVariants as called
 use Rattle.pf_model.specs.declared.expr.Matcher.{Matcher}
 use Rattle.pf_model.specs.declared.expr.MatchSign.{MatchSign}
@@ -11,10 +10,9 @@ use Rattle.pf_model.specs.declared.functions.RangeFn.TheVariants as ranged
 use Rattle.pf_model.specs.declared.functions.Sign.TheVariants as operator
 use Rattle.pf_model.specs.declared.expr.Side.TheVariants as side
 use Rattle.pf_model.specs.Built.{is_evaluated}
-use Rattle.pf_model.specs.Direct.{Asked}
 use Rattle.pf_model.specs.ErrorTexts.{of_grammar, of_kinds, empty_selector, query_text}
-use Rattle.pf_model.specs.Queries.{CanRefuse, Readings, asked_of, first_empty, lawful, may_be_no_selector, may_be_refused, no_selector, refused, selecting, selector}
-use Rattle.pf_model.specs.Parsing.{bad_token, unexpected}
+use Rattle.pf_model.specs.Queries.{CanRefuse, first_empty, may_be_no_selector, may_be_refused, no_selector, selecting, selector}
+use Rattle.pf_model.specs.Parsing.{bad_token}
 use Rattle.pf_model.specs.Trees.{Tree, instant, no_mods}
 use Rattle.pf_model.specs.Trees as tree
 use Rattle.pf_model.specs.Typing.{bool_needed}
@@ -24,10 +22,6 @@ equal label value = record { label = label; sign = match.Equal; text = value }
 
 up_job : List Matcher
 up_job = equal (codes "__name__") (codes "up") ∷ (equal (codes "job") (codes "a") ∷ [])
-
--- the one query of the examples
-reads_up_job : Readings
-reads_up_job text = cond (bytes_eq text (codes "up{job=\"a\"}")) (Some (lawful (instant up_job))) None
 
 -- ---- queries
 
@@ -114,18 +108,3 @@ text_of_an_empty_selector = refl
 text_of_kinds : query_text (of_kinds (bool_needed 12)) ≡ codes "node 12: bool needed"
 unfolding digits
 text_of_kinds = refl
-
-abbrev first_asked : Asked
-first_asked = record { tree = instant up_job; grid = record { start = 60000; step = 60000; len = 3 } }
-
-first_query_is_read : asked_of reads_up_job 60000 180500 60000 (codes "up{job=\"a\"}") ≡ Some (Ok first_asked)
-unfolding reads_up_job
-first_query_is_read = refl
-
--- the grid's refusal comes before the query's
-no_step_is_refused : asked_of (λ text. Some (refused (of_grammar (unexpected 2)))) 0 0 0 (codes "up") ≡ Some (Err (codes "zero step"))
-no_step_is_refused = refl
-
-query_is_refused : asked_of (λ text. Some (refused (of_grammar (unexpected 2)))) 0 0 1 (codes "up") ≡ Some (Err (codes "unexpected at 2"))
-unfolding digits
-query_is_refused = refl

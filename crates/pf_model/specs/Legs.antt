@@ -74,7 +74,3 @@ leg_part samples legs leg t = by_nodes legs.nodes where
   by_nodes : List ℕ → PartData
   by_nodes [] = whole_part (eval samples legs.query t)
   by_nodes (n ∷ ns) = node_part (node_of legs leg) (of_shard (leg % legs.shards) legs.shards samples) t
-
--- and over a run: its values at the run's times
-abbrev pub leg_values : List Row → LegsData → ℕ → List ℤ → List PartData
-leg_values samples legs leg times = map (leg_part samples legs leg) times

@@ -1,22 +1,17 @@
 -- How the queries and the selectors of scripts are read. Prometheus, Querying basics: Time series selectors, whose rule it is
 -- that a selector refuses the empty text; the order of refusals is this project's own.
-use Rattle.std.specs.Prelude.{◌≡◌, ℕ, pos, ◌+◌, ◌⊎◌, Bool, true, false, ◌&&◌, not, cond, Option, Some, None, Result, Ok, Err, List, [], ◌∷◌, take}
+use Rattle.std.specs.Prelude.{◌≡◌, ℕ, pos, ◌+◌, ◌⊎◌, Bool, true, false, ◌&&◌, not, cond, Option, Some, None, List, [], ◌∷◌, take}
 use Rattle.std.specs.List.{filter, list_any}
 use Rattle.std.specs.Option.{is_none}
 use Rattle.std.specs.Ordering.{int_eq}
-use Rattle.pf_base.specs.GridLists.{GridData}
-use Rattle.pf_base.specs.Grids.{grid_of}
-use Rattle.pf_base.specs.declared.grid.GridError.{GridError}
 use Rattle.pf_model.specs.declared.expr.Function.{Function}
 use Rattle.pf_model.specs.declared.expr.Function.TheVariants as called
 use Rattle.pf_model.specs.declared.expr.Matcher.{Matcher}
 use Rattle.pf_model.specs.declared.expr.Mods.{Mods}
 use Rattle.pf_model.specs.declared.functions.InstantFn.TheVariants as function
-use Rattle.pf_model.specs.Direct.{Asked}
-use Rattle.pf_model.specs.ErrorTexts.{QueryFault, of_grammar, of_kinds, refused_pattern, empty_selector, grid_text, query_text}
+use Rattle.pf_model.specs.ErrorTexts.{QueryFault, of_grammar, of_kinds, refused_pattern, empty_selector}
 use Rattle.pf_model.specs.Lists.{at}
 use Rattle.pf_model.specs.Parsing.{Refusal, Parses, Refuses}
-use Rattle.pf_model.specs.Resolving.{resolved_over}
 use Rattle.pf_model.specs.Selection.{accepts_empty, all_compared}
 use Rattle.pf_model.specs.Trees.{Tree, call, select, preorder}
 use Rattle.pf_model.specs.Typing.{asked_fault}
@@ -100,18 +95,6 @@ is_plain _ = false
 -- how queries are read, by their texts
 abbrev pub Readings : Type 0
 Readings = List ℕ → Option Reading
-
--- what is asked by a grid and a query, the grid's ends put in, or the text of the refusal, the grid's first; none of a query
--- that is not read
-abbrev pub asked_with : Result GridData GridError → Option Reading → Option (Result Asked (List ℕ))
-asked_with (Err refusal) reading = Some (Err (grid_text refusal))
-asked_with (Ok grid) None = None
-asked_with (Ok grid) (Some (lawful tree)) = Some (Ok (record { tree = resolved_over grid tree; grid = grid }))
-asked_with (Ok grid) (Some (refused fault)) = Some (Err (query_text fault))
-
--- what is asked by times in milliseconds and a query
-abbrev pub asked_of : Readings → ℕ → ℕ → ℕ → List ℕ → Option (Result Asked (List ℕ))
-asked_of readings start end step query = asked_with (grid_of start end step) (readings query)
 
 -- ---- selectors of deletions
 

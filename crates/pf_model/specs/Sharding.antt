@@ -9,10 +9,9 @@ use Rattle.pf_model.specs.declared.functions.InstantFn.{InstantFn}
 use Rattle.pf_model.specs.declared.functions.InstantFn.TheVariants.{Abs, Ceil, Floor, Sgn, Round, Clamp, ClampMin, ClampMax, Timestamp}
 use Rattle.pf_model.specs.declared.functions.RangeFn.{RangeFn}
 use Rattle.pf_model.specs.declared.functions.RangeFn.TheVariants.{AbsentOverTime}
-use Rattle.pf_model.specs.declared.functions.Sign.{Sign}
-use Rattle.pf_model.specs.declared.functions.Sign.TheVariants.{And, Or, Unless}
 use Rattle.pf_model.specs.Trees as tree
 use Rattle.pf_model.specs.Trees.{Tree, Trees, preorder}
+use Rattle.pf_model.specs.Words.{is_set_operator}
 
 -- a number, or one sign before a number
 abbrev pub is_literal : Tree → Bool
@@ -44,12 +43,6 @@ is_elementwise f = false
 abbrev pub is_over_series : RangeFn → Bool
 is_over_series AbsentOverTime = false
 is_over_series f = true
-
-abbrev pub is_set_operator : Sign → Bool
-is_set_operator And = true
-is_set_operator Or = true
-is_set_operator Unless = true
-is_set_operator sign = false
 
 -- a call whose first argument is plain or not; `plain_first` says so
 abbrev pub is_plain_call : Function → Trees → Bool → Bool

@@ -134,37 +134,20 @@ level_of operator.Or = 6
 
 -- `== != < <= > >=`
 abbrev pub is_comparison : Sign → Bool
-is_comparison operator.Add = false
-is_comparison operator.Sub = false
-is_comparison operator.Mul = false
-is_comparison operator.Div = false
-is_comparison operator.Rem = false
 is_comparison operator.Equal = true
 is_comparison operator.NotEqual = true
 is_comparison operator.Less = true
 is_comparison operator.LessOrEqual = true
 is_comparison operator.Greater = true
 is_comparison operator.GreaterOrEqual = true
-is_comparison operator.And = false
-is_comparison operator.Or = false
-is_comparison operator.Unless = false
+is_comparison _ = false
 
 -- `and or unless`
 abbrev pub is_set_operator : Sign → Bool
-is_set_operator operator.Add = false
-is_set_operator operator.Sub = false
-is_set_operator operator.Mul = false
-is_set_operator operator.Div = false
-is_set_operator operator.Rem = false
-is_set_operator operator.Equal = false
-is_set_operator operator.NotEqual = false
-is_set_operator operator.Less = false
-is_set_operator operator.LessOrEqual = false
-is_set_operator operator.Greater = false
-is_set_operator operator.GreaterOrEqual = false
 is_set_operator operator.And = true
 is_set_operator operator.Or = true
 is_set_operator operator.Unless = true
+is_set_operator _ = false
 
 abbrev pub match_text : MatchSign → List ℕ
 match_text match.Equal = codes "="

@@ -2,8 +2,9 @@
 
 ghost use Rattle.std.specs.Prelude.{◌≡◌, ◌<◌, ◌&&◌, length, map};
 ghost use Rattle.pf_resolve.specs.Forms.{any_has_selector, has_selector, is_number, is_range};
-ghost use Rattle.pf_model.specs.Sharding.{are_covered, are_literals, is_covered, is_elementwise, is_first_plain, is_literal, is_mergeable, is_one_plain, is_over_series, is_plain, is_plain_call, is_range_selector, is_set_operator, is_shardable};
+ghost use Rattle.pf_model.specs.Sharding.{are_covered, are_literals, is_covered, is_elementwise, is_first_plain, is_literal, is_mergeable, is_one_plain, is_over_series, is_plain, is_plain_call, is_range_selector, is_shardable};
 ghost use Rattle.pf_model.specs.Trees.{tree_of, trees_of};
+ghost use Rattle.pf_model.specs.Words.{is_set_operator};
 
 use pf_model::{AggOp, Expr, Function, InstantFn, RangeFn, Sign};
 
