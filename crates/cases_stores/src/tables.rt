@@ -11,7 +11,9 @@ use pf_block::Snap;
 use pf_columns::StepCells;
 use pf_match::Pattern;
 use pf_parse::parse;
-use pf_query::{Collected, FailedTry, Finished, Held, PlanError, Planned, Stop, Table};
+use pf_query::{
+    Collected, FailedTry, Finished, Held, MOST_TENANTS, PlanError, Planned, Stop, Table,
+};
 use pf_shard::{Legs, Part, Resolved, rewrite};
 use std::sync::Arc;
 
@@ -82,7 +84,7 @@ fn open(out: &mut Output, table: &mut Table, query: u64, words: &str)
     ensures { IsTable table.new }
 {
     let tenant = out.number(words);
-    if tenant >= 1024 || table.look(query).is_some() {
+    if tenant >= MOST_TENANTS || table.look(query).is_some() {
         return out.refuse();
     }
     match table.open(query, tenant) {

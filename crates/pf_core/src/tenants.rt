@@ -6,13 +6,11 @@ ghost use Rattle.pf_store.specs.Standing.{IsLog, LogData};
 ghost use Rattle.pf_core.specs.Seats.{AreTenants, IsFree, IsUnknown, Seats, TenantsData, count_at, counted_as, is_named, settled};
 
 use pf_base::{OutOfMemory, Tenant};
+use pf_query::MOST_TENANTS;
 use pf_store::TenantLog;
 use std::alloc::Global;
 use std::collections::HashMap;
 use std::marker::Model;
-
-/// The greatest number of tenants.
-const MOST_TENANTS: usize = 1024;
 
 /// A name that is to be known, and the key under which it will be found.
 #[derive(Drop)]
@@ -157,7 +155,7 @@ impl Tenants {
                 newcomer: None,
             }));
         }
-        if self.names.len() >= MOST_TENANTS {
+        if self.names.len() >= MOST_TENANTS as usize {
             return Ok(None);
         }
         Ok(Some(Seat {

@@ -8,7 +8,8 @@ use Rattle.std.proofs.lemmas.List.Sums.{sum_by-append, sum_by-set}
 use Rattle.std.proofs.Math.ListN.{get_or-eq_default}
 use Rattle.pf_queue.specs.Rings.{AreDifferent, waits, without}
 use Rattle.pf_query.specs.Jobs.{QueueData, is_empty, no_queue, tries_left_in, tries_left_of}
-use Rattle.pf_query.specs.Queueing.{AreEmpty, AreQueues, AreWith, most_tenants, queue_in, ring_in, tries_left, waiting_in}
+use Rattle.pf_journal.specs.Machine.{most_tenants}
+use Rattle.pf_query.specs.Queueing.{AreEmpty, AreQueues, AreWith, queue_in, ring_in, tries_left, waiting_in}
 use Rattle.pf_query.specs.declared.job.Job.{Job}
 use Rattle.pf_query.specs.declared.queues.Queues.{Queues}
 use Rattle.pf_query.proofs.Turns.{Turns, last_in, taken_out}

@@ -4,6 +4,7 @@ use Rattle.std.specs.Option.{option_map}
 use Rattle.std.specs.Prelude.{IfSome}
 use Rattle.pf_base.specs.GridLists.{GridData}
 use Rattle.pf_block.specs.Snaps.{SnapData}
+use Rattle.pf_journal.specs.Machine.{most_tenants}
 use Rattle.pf_model.specs.Lists.{Each}
 use Rattle.pf_shard.specs.Lawful.{IsLawful, ResolvedLegs, legs_data}
 use Rattle.pf_query.specs.Jobs.{is_other_hand, is_other_job}
@@ -74,7 +75,7 @@ none_in_hand E q v n hands h k =
 
 -- ---- a query is opened
 
-module _ (E F : Kept) (old new : Queues) (a : Agree E (waiting_in old) (hands_in old)) (q u : ℕ) (known : u < 1024) (fresh : E q ≡ None)
+module _ (E F : Kept) (old new : Queues) (a : Agree E (waiting_in old) (hands_in old)) (q u : ℕ) (known : u < most_tenants) (fresh : E q ≡ None)
     (set : F q ≡ Some (entry_with u None None)) (entries : (p : ℕ) → (p ≡ q → ⊥) → F p ≡ E p) (same : AreSame old new) where
   other_query : (p v : ℕ) (s : Option Stop) (w : WorkData) → E p ≡ Some (entry_with v s (Some w)) → p ≡ q → ⊥
   other_query p v s w h e = no_entry (E q) (entry_with v s (Some w)) fresh (subst (λ x. E x ≡ Some (entry_with v s (Some w))) e h)

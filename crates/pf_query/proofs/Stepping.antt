@@ -2,6 +2,7 @@
 use Rattle.std.proofs.Common.{◌≡◌, ◌∙◌, ℕ, ◌+◌, ◌<◌, ◌≤◌, inl, inr, true, false, nat_eq, Option, Some, None, List, [], ◌∷◌, ◌++◌, filter, refl, sym, ap, subst, arith, slice_get}
 use Rattle.std.specs.Prelude.{IfSome}
 use Rattle.pf_base.specs.GridLists.{GridData}
+use Rattle.pf_journal.specs.Machine.{most_tenants}
 use Rattle.pf_model.specs.Lists.{Each}
 use Rattle.pf_query.specs.Jobs.{hand_of, has_hand, is_other_job, job_of_held, without_hand}
 use Rattle.pf_shard.specs.declared.parts.Part.{Part}
@@ -26,7 +27,7 @@ tenant_of o u s w e h k = entry_is o e (entry_with u s w) k h
 
 -- the fact of an entry by its parts
 pub entry_fact : (query : ℕ) (W : ℕ → List Job) (H : ℕ → List Hand) (u : ℕ) (s : Option Stop) (w : Option WorkData)
-    → u < 1024 → IfSome w IsWork → ((n : ℕ) → IsPlaced s w n (jobs_named query n (W u)) (hands_named query n (H u))) → IsEntry query W H (entry_with u s w)
+    → u < most_tenants → IfSome w IsWork → ((n : ℕ) → IsPlaced s w n (jobs_named query n (W u)) (hands_named query n (H u))) → IsEntry query W H (entry_with u s w)
 entry_fact query W H u s w k h p = record { known = k; work = h; placed = p }
 
 -- the changes that one tenant's queue goes through

@@ -7,6 +7,7 @@ use Rattle.pf_base.specs.GridLists.{GridData}
 use Rattle.pf_block.specs.Snaps.{SnapData}
 use Rattle.pf_queue.specs.Rings.{without}
 use Rattle.pf_shard.specs.Lawful.{IsLawful, ResolvedLegs, legs_data}
+use Rattle.pf_journal.specs.Machine.{most_tenants}
 use Rattle.pf_query.specs.Entries.{is_planned, opened_entry, planned_entry, state_of, with_change}
 use Rattle.pf_query.specs.Jobs.{is_empty, is_other_hand, is_other_job, tries_left_in}
 use Rattle.pf_query.specs.Queueing.{AreAdded, AreNotInHand, AreNotWaiting, AreQueues, AreSame, AreWith, IsSameQueue, hands_in, ring_in, tries_left, waiting_in}
@@ -73,10 +74,10 @@ ended_after q r s u query a b =
 
 -- ---- tenants are known
 
-pub known_tenant : (old : Table) (query : ℕ) (e : Entry) → IsTable old → raw_of old query ≡ Some e → e.tenant < 1024
+pub known_tenant : (old : Table) (query : ℕ) (e : Entry) → IsTable old → raw_of old query ≡ Some e → e.tenant < most_tenants
 known_tenant old query e t h = (t.agree.all_kept query (data_of e) (ap (λ (o : Option Entry). option_map data_of o) h)).known
 
-pub told_tenant : (old : Table) (query : ℕ) (s : EntryState) → Some s ≡ option_map state_of (raw_of old query) → IsTable old → s.tenant < 1024
+pub told_tenant : (old : Table) (query : ℕ) (s : EntryState) → Some s ≡ option_map state_of (raw_of old query) → IsTable old → s.tenant < most_tenants
 told_tenant old query s h t =
     let k = told (raw_of old query) s h in
     let l = known_tenant old query k.entry t k.was in
@@ -102,7 +103,7 @@ one_entry e f h = cc
 
 -- ---- a query is opened
 
-module _ (old new : Table) (query tenant : ℕ) (t : IsTable old) (fresh : entry_in old query ≡ None) (known : tenant < 1024)
+module _ (old new : Table) (query tenant : ℕ) (t : IsTable old) (fresh : entry_in old query ≡ None) (known : tenant < most_tenants)
     (set : (p : ℕ) → raw_of new p ≡ cond (nat_eq query p) (Some (opened_entry tenant)) (raw_of old p)) (same : new.queues ≡ old.queues) where
   opened_here : raw_of new query ≡ Some (opened_entry tenant)
   opened_here = set query ∙ ap (λ b. cond b (Some (opened_entry tenant)) (raw_of old query)) (eq_same query)

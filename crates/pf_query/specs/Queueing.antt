@@ -1,16 +1,13 @@
 -- The queues of all tenants, as contracts see them: the jobs that wait and those in hand by tenant, and the ring of the tenants that
 -- have a job that waits. This project's own.
 use Rattle.std.specs.Prelude.{◌≡◌, ℕ, ◌+◌, ◌-◌, ◌<◌, true, not, cond, List, [], ◌∷◌, ◌++◌, MatchOption, Option, filter, length, slice_index_or, sum_by}
+use Rattle.pf_journal.specs.Machine.{most_tenants}
 use Rattle.pf_queue.specs.Rings.{AreDifferent, waits, without}
 use Rattle.pf_query.specs.Jobs.{QueueData, hand_of, held_of, is_empty, is_other_hand, is_other_job, job_of_held, no_queue, tries_left_in, without_hand}
 use Rattle.pf_query.specs.declared.job.Hand.{Hand}
 use Rattle.pf_query.specs.declared.job.Held.{Held}
 use Rattle.pf_query.specs.declared.job.Job.{Job}
 use Rattle.pf_query.specs.declared.queues.Queues.{Queues}
-
--- the number of tenants
-abbrev pub most_tenants : ℕ
-most_tenants = 1024
 
 -- a tenant's queue; beyond the tenants there is none
 abbrev pub queue_in : Queues → ℕ → QueueData

@@ -7,6 +7,7 @@ use Rattle.std.specs.Prelude.{◌≡◌, ℕ, ◌+◌, ◌-◌, ◌<◌, ◌≤�
 use Rattle.pf_base.specs.GridLists.{GridData}
 use Rattle.pf_base.specs.declared.plain.JobHead.{JobHead}
 use Rattle.pf_block.specs.Snaps.{SnapData}
+use Rattle.pf_journal.specs.Machine.{most_tenants}
 use Rattle.pf_model.specs.Lists.{Each}
 use Rattle.pf_queue.specs.Rings.{without}
 use Rattle.pf_shard.specs.Lawful.{ResolvedLegs}
@@ -129,7 +130,7 @@ IsPlaced (Some why) work number jobs hands = (jobs ≡ 0) × (hands ≤ 1)
 
 -- what is kept of a query
 pub record IsEntry (query : ℕ) (waiting : ℕ → List Job) (hands : ℕ → List Hand) (e : EntryData) : Type 0 where
-  pub known : e.tenant < 1024
+  pub known : e.tenant < most_tenants
   pub work : IfSome e.work IsWork
   pub placed : (number : ℕ) → IsPlaced e.stop e.work number (jobs_named query number (waiting e.tenant)) (hands_named query number (hands e.tenant))
 

@@ -42,6 +42,6 @@ pub use asked::Asked;
 pub use cover::cover_more;
 pub use gathered::Gathered;
 pub use job::{Hand, Held, Job};
-pub use queues::Queues;
+pub use queues::{MOST_TENANTS, Queues};
 pub use stop::Stop;
 pub use table::Table;

@@ -1,6 +1,7 @@
 //! The jobs of all tenants.
 
 ghost use Rattle.std.specs.Prelude.{◌≡◌, ◌+◌, ◌-◌, ◌<◌, ◌≤◌, true, false, cond, IfOk, OnErr, OnOk};
+ghost use Rattle.pf_journal.specs.Machine.{most_tenants};
 ghost use Rattle.pf_query.specs.Jobs.{has_hand, hand_of, tries_left_in};
 ghost use Rattle.pf_query.specs.Queueing.{AreAdded, AreEmpty, AreNotInHand, AreNotWaiting, AreQueues, AreSame, IsPutBack, IsReleased, Takes, TakesTries, hands_in, tries_left};
 
@@ -11,7 +12,7 @@ use pf_queue::Ring;
 use std::alloc::Global;
 
 /// The greatest number of tenants.
-const MOST_TENANTS: u32 = 1024;
+pub const MOST_TENANTS: u32 = 1024;
 
 /// The jobs of each of 1,024 tenants, by number: those that wait, first in first out, and those in the hands of actors; and the
 /// ring of the tenants with a job that waits.
@@ -40,7 +41,7 @@ impl Queues {
     /// Adds jobs of a tenant last. Where memory runs out, nothing is changed.
     pub fn add(&mut self, tenant: u32, jobs: Vec<Job>) -> Result<(), OutOfMemory>
         requires queues { AreQueues self.old }
-        requires known { tenant < 1024 }
+        requires known { tenant < most_tenants }
         ensures ok { OnOk result (AreAdded self.old tenant jobs.items self.new) }
         ensures ok_tries { OnOk result (tries_left self.new ≡ tries_left self.old + tries_left_in jobs.items) }
         ensures err { OnErr result (AreSame self.old self.new) }
@@ -116,7 +117,7 @@ impl Queues {
     /// Takes out the jobs of a query that wait. Its tenant leaves the ring where no other job waits.
     pub fn drop_waiting(&mut self, tenant: u32, query: u64)
         requires queues { AreQueues self.old }
-        requires known { tenant < 1024 }
+        requires known { tenant < most_tenants }
         ensures dropped { AreNotWaiting self.old tenant query self.new }
         ensures tries { tries_left self.new ≤ tries_left self.old }
         ensures queues { AreQueues self.new }
@@ -131,7 +132,7 @@ impl Queues {
     /// Takes out the jobs of a query in hand.
     pub fn drop_hands(&mut self, tenant: u32, query: u64)
         requires queues { AreQueues self.old }
-        requires known { tenant < 1024 }
+        requires known { tenant < most_tenants }
         ensures dropped { AreNotInHand self.old tenant query self.new }
         ensures tries { tries_left self.new ≡ tries_left self.old }
         ensures queues { AreQueues self.new }

@@ -4,6 +4,7 @@ ghost use Rattle.std.specs.Arc.{arc_value};
 ghost use Rattle.std.specs.HashMap.{get};
 ghost use Rattle.std.specs.Option.{option_map};
 ghost use Rattle.std.specs.Prelude.{◌≡◌, ℕ, ◌<◌, ◌≤◌, [], IfOk, IfErr, IfSome, IsSome, None, OnErr, OnOk, Some, length, nat_eq};
+ghost use Rattle.pf_journal.specs.Machine.{most_tenants};
 ghost use Rattle.pf_shard.specs.Lawful.{IsLawful, legs_data};
 ghost use Rattle.pf_query.specs.Entries.{state_of};
 ghost use Rattle.pf_extent.specs.Done.{steps_in};
@@ -49,7 +50,7 @@ impl Table {
     pub fn open(&mut self, query: u64, tenant: u32) -> Result<(), OutOfMemory>
         requires table { IsTable self.old }
         requires fresh { entry_in self.old query ≡ None }
-        requires known { tenant < 1024 }
+        requires known { tenant < most_tenants }
         ensures ok { OnOk result (IsOpened self.old query tenant self.new) }
         ensures err { OnErr result (IsSameTable self.old self.new) }
         ensures table { IsTable self.new }
