@@ -1,12 +1,8 @@
 -- The elements of the groups, which are found once, are those with the group's key.
-use Rattle.std.proofs.Common.{◌≡◌, ◌<◌, ◌+◌, ℕ, zero, suc, Bool, true, false, cond, ◌||◌, nat_eq, List, [], ◌∷◌, ◌++◌, map, length, take, get_or, refl, sym, ap, ◌∙◌, subst, append-nil, arith}
-use Rattle.std.proofs.lemmas.Bool.Decides.{nat_tests}
-use Rattle.std.specs.List.{All, filter}
-use Rattle.std.specs.Ordering.{is_eq}
+use Rattle.std.proofs.Common.{◌≡◌, ◌<◌, ◌+◌, ℕ, suc, Bool, true, false, cond, nat_eq, List, [], ◌∷◌, ◌++◌, map, length, take, get_or, refl, sym, ap, ◌∙◌, subst, arith}
+use Rattle.std.specs.List.{filter}
 use Rattle.std.specs.Prelude.{slice_set}
 use Rattle.std.proofs.lemmas.Grind.{take_at_read}
-use Rattle.std.proofs.lemmas.List.{get_or-set_same, get_or-set_other, length-set, map-id}
-use Rattle.std.proofs.lemmas.List.Elements.{All-nil, All-cons}
 use Rattle.pf_base.specs.LabelSets.{Pairs}
 use Rattle.pf_model.specs.declared.cell.Element.{Element}
 use Rattle.pf_model.specs.Aggregation.{groups}
@@ -14,11 +10,10 @@ use Rattle.pf_model.specs.Cells.{distinct, labels_of}
 use Rattle.pf_model.specs.Lists.{Each}
 use Rattle.pf_model.specs.Merging.{below}
 use Rattle.pf_model.specs.Selection.{same_labels}
-use Rattle.pf_model.proofs.KeySets.{same_is, stands_in}
-use Rattle.pf_model.proofs.SelectorLabels.{AllAbove}
+use Rattle.pf_model.proofs.KeySets.{stands_in}
 use Rattle.pf_columns.specs.Columns.{AreRising}
 use Rattle.pf_columns.specs.Groups.{place_in}
-use Rattle.pf_columns.proofs.Below.{below_is, first_below, in_below, length_below}
+use Rattle.pf_columns.proofs.Below.{first_below}
 use Rattle.pf_columns.proofs.GroupColumns.{below_alike, id_is, length_take_alike, put_is}
 use Rattle.pf_columns.proofs.GroupKeys.{distinct_rising, each_stands}
 use Rattle.pf_agg.specs.Buckets.{grouped, those_of}

@@ -1,14 +1,9 @@
 -- Some of a run's steps as a run.
-use Rattle.std.proofs.Common.{◌≡◌, ◌∙◌, ℕ, ◌+◌, ◌-◌, ◌*◌, ◌/◌, ◌≤◌, ◌<◌, Bool, true, false, cond, eqb, Ok, Err, refl, ap, arith}
-use Rattle.std.proofs.lemmas.Bool.{eqb-true, le-ltb}
-use Rattle.std.proofs.lemmas.Nat.{div-add-mod'}
-use Rattle.std.proofs.Math.Nat.{add-mul, add-mul-mod_self_right, mul-div_left, mul-le-mul_right}
-use Rattle.std.specs.Prelude.{◌||◌, nat_eq, nat_lt}
+use Rattle.std.proofs.Common.{◌≡◌, ◌∙◌, ℕ, ◌+◌, ◌-◌, ◌*◌, ◌≤◌, Ok, ap, arith}
+use Rattle.std.proofs.Math.Nat.{add-mul, add-mul-mod_self_right, mul-le-mul_right}
 use Rattle.pf_base.specs.GridLists.{GridData, IsGrid}
 use Rattle.pf_base.specs.Grids.{grid_of}
-use Rattle.pf_base.specs.declared.grid.GridError.TheVariants.{ZeroStep, TimeTooLarge, EndBeforeStart, TooManySteps}
 use Rattle.pf_split.proofs.Runs.{aligned_is}
-use Rattle.pf_split.specs.Lefts.{run_data}
 use Rattle.pf_results.specs.Runs.{part_of}
 
 pub part_is_grid : (g : GridData) (i n : ℕ) → IsGrid g → 1 ≤ g.step → 1 ≤ n → i + n ≤ g.len → IsGrid (part_of g i n)

@@ -1,9 +1,8 @@
 -- The numbers that one walk finds are those of the nodes in preorder.
 use Rattle.std.proofs.Common.{◌≡◌, ℕ, ◌+◌, Bool, true, false, cond, List, [], ◌∷◌, ◌++◌, length, refl, sym, ap, ◌∙◌, arith}
-use Rattle.std.proofs.lemmas.List.{length-append}
 use Rattle.pf_model.proofs.PreorderSizes.{preorder_size}
 use Rattle.pf_model.specs.Sharding.{is_sharded, sharded_from, sharded_nodes}
-use Rattle.pf_model.specs.Trees.{Tree, Trees, number, text, unary, binary, call, aggregate, select, subquery, none, more, preorder, all_preorder, size, sizes}
+use Rattle.pf_model.specs.Trees.{Tree, Trees, number, text, unary, binary, call, aggregate, select, subquery, none, more, preorder, all_preorder, size}
 use Rattle.pf_shard.specs.Numbers.{all_numbers_in, numbers_in}
 
 one_further : (b : Bool) (n : ℕ) (xs ys zs : List ℕ) → xs ≡ ys ++ zs → cond b (n ∷ xs) xs ≡ cond b (n ∷ ys) ys ++ zs

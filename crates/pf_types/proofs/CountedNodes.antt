@@ -1,6 +1,5 @@
 -- The counted nodes of a query, by its variants.
 use Rattle.std.proofs.Common.{◌≡◌, ◌∙◌, sym, ap, refl, arith, ℕ, ℤ, Result, Ok, Err, OnOk, ◌+◌, ◌<◌, ◌≤◌, Bool, true, false, true≢false, cond, Option, List, [], ◌∷◌, ◌++◌, drop, get_or, length, map, append-nil, append_assoc, suc}
-use Rattle.std.proofs.lemmas.List.{length-append}
 use Rattle.std.proofs.lemmas.List.Elements.{filter-append}
 use Rattle.std.specs.Prelude.{Box, Vec}
 use Rattle.pf_model.specs.declared.expr.BinaryOp.{BinaryOp}
@@ -15,7 +14,7 @@ use Rattle.pf_model.specs.declared.functions.InstantFn.TheVariants as function
 use Rattle.pf_model.specs.Binding.{fifth_text, matchers_in, pattern_of, patterns_in}
 use Rattle.pf_model.specs.Clauses.{Grouped, Matched}
 use Rattle.pf_model.specs.Queries.{counted, counted_in, is_counted, is_label_replace}
-use Rattle.pf_model.specs.Trees.{Tree, Trees, number, text, unary, binary, call, aggregate, select, subquery, none, more, preorder, all_preorder, size, sizes, tree_of, trees_of}
+use Rattle.pf_model.specs.Trees.{Tree, Trees, number, text, unary, binary, call, aggregate, select, subquery, more, preorder, all_preorder, size, tree_of, trees_of}
 use Rattle.pf_model.proofs.PreorderSizes.{preorder_size}
 use Rattle.pf_model.proofs.TreeOf.{number_tree, text_tree, unary_tree, binary_tree, call_tree, aggregate_tree, select_tree, subquery_tree}
 use Rattle.pf_types.specs.Counted.{all_counted, text_in}
