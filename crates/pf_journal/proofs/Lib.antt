@@ -6,11 +6,13 @@ pub mod Growing
 pub mod Opened
 mod Pages
 mod Sessions
+pub mod Tallying
 mod WorkedCaches
 mod WorkedFrozen
 mod WorkedRefusals
 mod WorkedReplies
 mod WorkedReports
 mod WorkedScripts
+mod WorkedSummaries
 mod WorkedTenants
 mod WorkedWeaves

@@ -11,6 +11,7 @@ pub mod Report
 pub mod Rest
 pub mod Scripts
 pub mod Steps
+pub mod Summaries
 pub mod Turns
 pub mod Unentered
 pub mod Weave
