@@ -5,4 +5,5 @@ pub mod Heads
 pub mod Points
 pub mod Replies
 pub mod Steps
+pub mod Summaries
 pub mod Words

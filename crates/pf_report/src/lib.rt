@@ -3,7 +3,7 @@
 //! What the layers above use: each `push_..` appends to the report exactly the text that its definition gives, and leaves
 //! what stands before it. Lines are words with one blank between them, and end with a line feed; bodies are JSON.
 //! `push_line` writes any line, and each other call one kind: the line of a client and the replies to its lines, the
-//! journal's first line and its entries, the lines of actors, and what an evaluation prints. Where memory ran out, nothing
+//! journal's first line and its entries, the lines of actors, what an evaluation prints, and the line of a session. Where memory ran out, nothing
 //! more is to be read from the report: a part of the text may stand there.
 #![tactic(auto)]
 
@@ -24,6 +24,7 @@ mod points;
 mod refused_rows;
 mod replies;
 mod steps;
+mod summaries;
 mod vectors;
 mod word;
 
@@ -41,4 +42,5 @@ pub use steps::{
     DoneReply, KeepReply, PlanReply, Stop, TakeReply, push_done_reply, push_keep_reply,
     push_plan_reply, push_take_reply,
 };
+pub use summaries::{Tally, push_summary};
 pub use word::{Word, push_line};
