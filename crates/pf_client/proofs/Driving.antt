@@ -218,11 +218,11 @@ no_answer known t (script.keep id asked) q k code c e n fits = absurd fits
 no_answer known t (script.take w) q k code c e n fits = absurd fits
 no_answer known t (script.done w) q k code c e n fits = absurd fits
 
-abbrev IsMatchedAs : Known → Turn → Line → Option What → Type 0
+abbrev pub IsMatchedAs : Known → Turn → Line → Option What → Type 0
 IsMatchedAs known t line None = Unit {0}
 IsMatchedAs known t line (Some what) = Fits known t line what
 
-matched_as : (known : Known) (t : Turn) (m : Machine) (n : ℕ) (entered : Option What) → IsMatched known t (moment_with m n entered) → IsMatchedAs known t t.ran.line.line entered
+pub matched_as : (known : Known) (t : Turn) (m : Machine) (n : ℕ) (entered : Option What) → IsMatched known t (moment_with m n entered) → IsMatchedAs known t t.ran.line.line entered
 matched_as known t m n None h = tt
 matched_as known t m n (Some what) h = h.0
 

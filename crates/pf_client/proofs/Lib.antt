@@ -17,6 +17,7 @@ pub mod Runs
 pub mod SlotLaws
 pub mod StepLines
 pub mod Steps
+pub mod Tallying
 pub mod TextReads
 pub mod Texts
 pub mod Works

@@ -1,5 +1,5 @@
 -- The report of a client that stopped, and the beginning of one.
-use Rattle.std.proofs.Common.{◌≡◌, ℕ, zero, suc, ◌<◌, Bool, Option, Some, None, List, [], ◌∷◌, ◌++◌, codes, decimal, drop, length, map, slice_get, take, refl, sym, ap, ◌∙◌, subst, append-nil, append_assoc, arith, ◌+◌, ◌*◌, ◌≤◌, ◌⊎◌, inl, inr, filter, option_map, replicate, sum, rules}
+use Rattle.std.proofs.Common.{◌≡◌, ℕ, zero, suc, ◌<◌, Bool, true, false, Option, Some, None, List, [], ◌∷◌, ◌++◌, codes, decimal, drop, length, map, slice_get, take, refl, sym, ap, ◌∙◌, subst, append-nil, append_assoc, arith, ◌+◌, ◌*◌, ◌≤◌, ◌⊎◌, inl, inr, filter, option_map, replicate, sum, rules}
 use Rattle.std.specs.BTreeMap.{IsEmpty, get, get_by_text}
 use Rattle.std.specs.Option.{option_and_then}
 use Rattle.std.specs.Prelude.{slice_index_or}
@@ -13,8 +13,9 @@ use Rattle.pf_journal.specs.Legal.{Moment, moments}
 use Rattle.pf_journal.specs.Machine.{Entry, open_at}
 use Rattle.pf_journal.specs.Replies.{line_text}
 use Rattle.pf_journal.specs.Report.{actors_from, client_text, entries_from, journal_text, report}
-use Rattle.pf_journal.specs.Rest.{Client as ToldClient, Known, Rest, Told, nothing, refused_file, no_memory, journal_full, waiting, failed_five, of_plan, of_take, of_done, of_keep, at_end}
+use Rattle.pf_journal.specs.Rest.{Client as ToldClient, Known, Rest, Told, Why, nothing, refused_file, no_memory, journal_full, waiting, failed_five, of_plan, of_take, of_done, of_keep, at_end}
 use Rattle.pf_journal.specs.Scripts.{Numbered}
+use Rattle.pf_journal.specs.Summaries.{Tally}
 use Rattle.pf_journal.specs.Turns.{own_moments, ran_lines}
 use Rattle.pf_journal.specs.Steps.{again, empty, exhausted, gone, lacked, not_held, stored}
 use Rattle.pf_journal.specs.Weave.{RunsTo, Weave, Woven, failed_answers, failed_in, failed_told}
@@ -33,7 +34,9 @@ use Rattle.pf_client.specs.Clients.{IsKnown}
 use Rattle.pf_client.specs.Replays.{HaveMetFull, Held}
 use Rattle.pf_client.specs.Drives.{IsReport, is_full, why_of}
 use Rattle.pf_client.specs.Files.{AreHeld}
-use Rattle.pf_client.specs.Going.{AreCounted, HasStopped, IsGoing, hands_last, own_of}
+use Rattle.pf_client.specs.Summaries.{HaveEnded, IsSummary, why_by}
+use Rattle.pf_client.specs.Tallies.{IsCounted}
+use Rattle.pf_client.specs.Going.{AreCounted, HasRun, HasStopped, IsGoing, hands_last, own_of}
 use Rattle.pf_client.specs.Hands.{HaveHands, HoldsJobs, held_by, is_job_of}
 use Rattle.pf_client.specs.declared.client.LineRun.{LineRun}
 use Rattle.pf_client.specs.declared.client.LineRun.TheVariants as run
@@ -197,19 +200,20 @@ one_of : {X : Type 0} (x y : X) (n : ℕ) → slice_get (x ∷ []) n ≡ Some y 
 one_of x y zero h = (refl, some_is x y h)
 one_of x y (suc n) h = cc
 
-pub reported : (limits : Limits) (loaded : Loaded) (lines : List Numbered) (run : LineRun) (met : Bool) (c : Client) (text : List ℕ) (held : Held)
-    → AreHeld held loaded.files → AreReadAs loaded.queries → length lines ≤ 18446744073709551615 → Stands c.core → HasStopped loaded limits lines (why_of run) c
-    → text ≡ c.out.items ++ (journal_text c.core.names c.core.journal ++ actors_from 0 c.core.failed)
-    → met ≡ is_full run
-    → IsReport limits held lines met text
-reported limits loaded lines run met c text held are right short stands stopped whole full =
+-- a core is known by its own limits and names
+itself : (c : CoreData) (held : Held) (loaded : Loaded) → IsKnown (record { limits = c.limits; names = c.names; files = held; readings = readings_in loaded.queries }) c
+itself c held loaded = record { limits = refl; more = []; names = sym (append-nil c.names) }
+
+-- a client that stopped, with its only script, is woven into its journal
+pub woven_alone : (limits : Limits) (loaded : Loaded) (lines : List Numbered) (why : Why) (c : Client) (held : Held)
+    → AreHeld held loaded.files → AreReadAs loaded.queries → length lines ≤ 18446744073709551615 → Stands c.core
+    → (has : HasRun (record { limits = c.core.limits; names = c.core.names; files = held; readings = readings_in loaded.queries }) limits lines why c)
+    → Weave (record { limits = c.core.limits; names = c.core.names; files = held; readings = readings_in loaded.queries }) c.core.journal (lines ∷ [])
+    (record { clients = record { told = has.told; why = why } ∷ []; failed = c.core.failed })
+woven_alone limits loaded lines why c held are right short stands has =
     let known : Known = record { limits = c.core.limits; names = c.core.names; files = held; readings = readings_in loaded.queries } in
-    let told : IsTold known loaded = record { held = are; readings = refl } in
-    let kn : IsKnown known c.core = record { limits = refl; more = []; names = sym (append-nil c.core.names) } in
-    let has = stopped known told kn in
-    let one : ToldClient = record { told = has.told; why = why_of run } in
-    let rest : Rest = record { clients = one ∷ []; failed = c.core.failed } in
-    let woven : Weave known c.core.journal (lines ∷ []) rest = record {
+    let one : ToldClient = record { told = has.told; why = why } in
+    record {
       many = refl;
       each = λ client ls d at_ls at_d. each_one known c lines one has.has_told.woven has.runs client ls d at_ls at_d;
       nobody_else = each_so _ _ (λ (e : Entry) (h : e.client ≡ 0). first_only e h) c.core.journal has.has_told.alone;
@@ -219,20 +223,7 @@ reported limits loaded lines run met c text held are right short stands stopped 
         five = five_each c.core stands.covered;
         shown = let n = all_shown c.core has.told lines has.has_told.tried has.has_told.woven.few short in omega (arith, n);
       };
-    } in
-    let text_is : text ≡ report known c.core.journal (lines ∷ []) rest =
-    whole ∙ ap (λ (bytes : List ℕ). bytes ++ (journal_text c.core.names c.core.journal ++ actors_from 0 c.core.failed)) (has.has_told.said ∙ sym (append-nil _)) in
-    subst (λ (b : Bool). IsReport limits held lines b text) (sym full) (subst (λ (l : Limits). IsReport l held lines (is_full run) text) has.limited (record {
-      journal = c.core.journal;
-      names = c.core.names;
-      readings = readings_in loaded.queries;
-      rest = rest;
-      legal = stands.legal;
-      named = stands.names;
-      woven = woven;
-      met = met_by run has.told;
-      whole = text_is;
-    })) where
+    } where
       first_only : (e : Entry) → e.client ≡ 0 → e.client < 1
       first_only e h = omega (arith, h)
 
@@ -246,6 +237,54 @@ reported limits loaded lines run met c text held are right short stands stopped 
           subst (λ (x : List Numbered). Woven known (own_of c.core) x d × RunsTo known.limits c.core.journal 0 d.why (drop (length d.told) x) (ran_lines x d.told)) same_ls
           (subst (λ (y : ToldClient). Woven known (own_of c.core) lines y × RunsTo known.limits c.core.journal 0 y.why (drop (length y.told) lines) (ran_lines lines y.told)) same_d (woven, runs))
       each_one known c lines one woven runs (suc n) ls d at_ls at_d = cc
+
+pub reported : (limits : Limits) (loaded : Loaded) (lines : List Numbered) (run : LineRun) (met : Bool) (c : Client) (text : List ℕ) (held : Held)
+    → AreHeld held loaded.files → AreReadAs loaded.queries → length lines ≤ 18446744073709551615 → Stands c.core → HasStopped loaded limits lines (why_of run) c
+    → text ≡ c.out.items ++ (journal_text c.core.names c.core.journal ++ actors_from 0 c.core.failed)
+    → met ≡ is_full run
+    → IsReport limits held lines met text
+reported limits loaded lines run met c text held are right short stands stopped whole full =
+    let known : Known = record { limits = c.core.limits; names = c.core.names; files = held; readings = readings_in loaded.queries } in
+    let has = stopped known (record { held = are; readings = refl }) (itself c.core held loaded) in
+    let rest : Rest = record { clients = record { told = has.told; why = why_of run } ∷ []; failed = c.core.failed } in
+    let text_is : text ≡ report known c.core.journal (lines ∷ []) rest =
+    whole ∙ ap (λ (bytes : List ℕ). bytes ++ (journal_text c.core.names c.core.journal ++ actors_from 0 c.core.failed)) (has.has_told.said ∙ sym (append-nil _)) in
+    subst (λ (b : Bool). IsReport limits held lines b text) (sym full) (subst (λ (l : Limits). IsReport l held lines (is_full run) text) has.limited (record {
+      journal = c.core.journal;
+      names = c.core.names;
+      readings = readings_in loaded.queries;
+      rest = rest;
+      legal = stands.legal;
+      named = stands.names;
+      woven = woven_alone limits loaded lines (why_of run) c held are right short stands has;
+      met = met_by run has.told;
+      whole = text_is;
+    }))
+
+-- ---- the summary
+
+ended_by : (full : Bool) (told : List Told) → HaveEnded full (record { told = told; why = why_by full } ∷ [])
+ended_by false told = (refl, tt)
+ended_by true told = λ h. h.0 refl
+
+pub summarized : (limits : Limits) (loaded : Loaded) (lines : List Numbered) (full : Bool) (t : Tally) (c : Client) (held : Held)
+    → AreHeld held loaded.files → AreReadAs loaded.queries → length lines ≤ 18446744073709551615 → Stands c.core → HasStopped loaded limits lines (why_by full) c
+    → IsCounted loaded t c → IsSummary limits held lines full t
+summarized limits loaded lines full t c held are right short stands stopped count =
+    let known : Known = record { limits = c.core.limits; names = c.core.names; files = held; readings = readings_in loaded.queries } in
+    let told : IsTold known loaded = record { held = are; readings = refl } in
+    let has = stopped known told (itself c.core held loaded) in
+    subst (λ (l : Limits). IsSummary l held lines full t) has.limited (record {
+      journal = c.core.journal;
+      names = c.core.names;
+      readings = readings_in loaded.queries;
+      rest = record { clients = record { told = has.told; why = why_by full } ∷ []; failed = c.core.failed };
+      legal = stands.legal;
+      named = stands.names;
+      woven = woven_alone limits loaded lines (why_by full) c held are right short stands has;
+      ended = ended_by full has.told;
+      whole = sym (count known told (itself c.core held loaded));
+    })
 
 pub short_script : (script : Script) → length script.lines.items ≤ 18446744073709551615 → length (lines_of script) ≤ 18446744073709551615
 short_script script h = let e = map_length script.lines.items in omega (arith, e, h)

@@ -6,3 +6,5 @@ pub mod Going
 pub mod Hands
 pub mod Queries
 pub mod Replays
+pub mod Summaries
+pub mod Tallies

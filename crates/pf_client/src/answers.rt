@@ -2,7 +2,7 @@
 
 ghost use Rattle.std.specs.BTreeMap.{get};
 ghost use Rattle.std.specs.Ordering.{nat_cmp};
-ghost use Rattle.std.specs.Prelude.{◌≡◌, ◌++◌, ℕ, decimal, IfOk, List, None, OnOk, Some};
+ghost use Rattle.std.specs.Prelude.{◌≡◌, ◌++◌, ℕ, decimal, IfOk, List, None, OnOk, Some, is_some};
 ghost use Rattle.pf_front.specs.Works.{IsIdle};
 ghost use Rattle.pf_journal.specs.Replies.{unanswered};
 ghost use Rattle.pf_journal.specs.Rest.{Known};
@@ -14,6 +14,7 @@ ghost use Rattle.pf_client.specs.Asks.{IsAnswerStep, IsAskAt, IsQueryAnswer, IsR
 ghost use Rattle.pf_client.specs.Clients.{Grows, IsKnown, IsStep, naming};
 ghost use Rattle.pf_client.specs.Going.{own_of};
 ghost use Rattle.pf_client.specs.Hands.{HaveHands};
+ghost use Rattle.pf_client.specs.Tallies.{counted, with_answered};
 ghost use Rattle.pf_client.specs.declared.client.LineRun.TheVariants.{On};
 ghost use Rattle.pf_client.specs.declared.slots.Slot.TheVariants as became;
 
@@ -27,6 +28,14 @@ use pf_query::Asked;
 use pf_report::{Body, push_answered, push_waiting};
 use pf_types::{error_text, grid_text};
 use std::alloc::Global;
+
+/// The answer of a query: how many of its steps were cached and evaluated, and its body.
+#[derive(Drop)]
+pub struct Answered {
+    pub cached: u32,
+    pub evaluated: u32,
+    pub body: Body,
+}
 
 /// The body of an answer, by whether it is of an instant query and by its kind.
 fn body_of(outcome: Outcome, instant: bool, kind: Kind) -> Body
@@ -55,7 +64,7 @@ fn refused_body(alloc: Global, slot: Slot) -> Result<Body, OutOfMemory>
 }
 
 impl Client {
-    /// Answers an open query, or tells how many of its jobs are in workers' hands: whether it was answered.
+    /// Answers an open query, or tells how many of its jobs are in workers' hands.
     fn answer_query<H: Hop, G: Gate>(
         &mut self,
         number: u32,
@@ -63,15 +72,16 @@ impl Client {
         query: u64,
         hop: &mut H,
         gate: &G,
-    ) -> Result<bool, OutOfMemory>
+    ) -> Result<Option<Answered>, OutOfMemory>
         requires idle { IsIdle self.old.core 0 }
         ensures grows { OnOk result (Grows self.old.core self.new.core) }
-        ensures step { IfOk result (λ answered. (known : Known) (above : List Ran) (hands : List Hand) (line : ℕ) → IsKnown known self.new.core → Each (λ e. e.client ≡ 0) self.old.core.journal → IsAskAt known above (own_of self.old.core) line query → HaveHands self.old hands → IsQueryAnswer known (naming (own_of self.old.core) above hands (script.answer id.now line)) self.old (record { number = number; line = script.answer id.now line }) query answered self.new) }
+        ensures step { IfOk result (λ answered. (known : Known) (above : List Ran) (hands : List Hand) (line : ℕ) → IsKnown known self.new.core → Each (λ e. e.client ≡ 0) self.old.core.journal → IsAskAt known above (own_of self.old.core) line query → HaveHands self.old hands → IsQueryAnswer known (naming (own_of self.old.core) above hands (script.answer id.now line)) self.old (record { number = number; line = script.answer id.now line }) query (is_some answered) self.new) }
+        ensures counted { IfOk result (λ answered. counted self.new.core ≡ with_answered (counted self.old.core) answered) }
         ensures slots { OnOk result (self.new.slots ≡ self.old.slots) }
         ensures hands { OnOk result (self.new.hands ≡ self.old.hands) }
     {
         let Some(opened) = self.core.look(query) else {
-            return Ok(false);
+            return Ok(None);
         };
         let asked: &Asked = opened.asked;
         let instant = asked.instant;
@@ -79,7 +89,7 @@ impl Client {
         match answer(self.alloc, &mut self.core, by(number), query, 0, hop, gate) {
             Answering::Waits { jobs } => {
                 push_waiting(&mut self.out, number, id.as_str(), jobs)?;
-                Ok(false)
+                Ok(None)
             }
             Answering::Answered(reply) => {
                 let Reply {
@@ -100,7 +110,11 @@ impl Client {
                     evaluated,
                     &body,
                 )?;
-                Ok(true)
+                Ok(Some(Answered {
+                    cached,
+                    evaluated,
+                    body,
+                }))
             }
         }
     }
@@ -137,7 +151,7 @@ impl Client {
         }
     }
 
-    /// Runs the `answer` of the ask of a line.
+    /// Runs the `answer` of the ask of a line: the answer of its query, if that was given.
     pub fn answer<H: Hop, G: Gate>(
         &mut self,
         number: u32,
@@ -145,23 +159,25 @@ impl Client {
         asked: u32,
         hop: &mut H,
         gate: &G,
-    ) -> Result<(), OutOfMemory>
+    ) -> Result<Option<Answered>, OutOfMemory>
         requires idle { IsIdle self.old.core 0 }
         ensures grows { OnOk result (Grows self.old.core self.new.core) }
         ensures step { OnOk result ((known : Known) (above : List Ran) (hands : List Hand) → IsKnown known self.new.core → Each (λ e. e.client ≡ 0) self.old.core.journal → SlotRight known above (own_of self.old.core) asked (get nat_cmp self.old.slots asked) → (get nat_cmp self.old.slots asked ≡ None → ⊥) → HaveHands self.old hands → IsAnswerStep known (naming (own_of self.old.core) above hands (script.answer id.now asked)) self.old (record { number = number; line = script.answer id.now asked }) asked self.new) }
+        ensures counted { IfOk result (λ answered. counted self.new.core ≡ with_answered (counted self.old.core) answered) }
         ensures hands { OnOk result (self.new.hands ≡ self.old.hands) }
     {
         let Some(slot) = kept(&self.slots, asked) else {
-            return Ok(());
+            return Ok(None);
         };
         if let Slot::Asked { query } = slot {
-            if self.answer_query(number, id, query, hop, gate)? {
-                forget(&mut self.slots, asked);
-            }
-            return Ok(());
+            let Some(answered) = self.answer_query(number, id, query, hop, gate)? else {
+                return Ok(None);
+            };
+            forget(&mut self.slots, asked);
+            return Ok(Some(answered));
         }
         self.answer_refused(number, id, slot)?;
         forget(&mut self.slots, asked);
-        Ok(())
+        Ok(None)
     }
 }

@@ -27,6 +27,7 @@ ghost use Rattle.pf_client.specs.Files.{AreHeld, HoldsContent, IsKept, IsShort, 
 ghost use Rattle.pf_client.specs.Going.{GoesOnWith, IsReady, own_of};
 ghost use Rattle.pf_client.specs.Hands.{HoldsJobs};
 ghost use Rattle.pf_client.specs.Queries.{AreReadAs, IsTextKept, readings_in};
+ghost use Rattle.pf_client.specs.Tallies.{CountsNothing};
 ghost use Rattle.pf_types.specs.Asking.{IsWhen, grid_in, is_instant};
 ghost use Rattle.pf_client.specs.declared.client.LineRun.TheVariants.{On, Starved};
 
@@ -617,6 +618,8 @@ impl Client {
         requires holds { HoldsJobs self.old }
         ensures holds { OnOk result (HoldsJobs self.new) }
         ensures runs { IfOk result (λ r. GoesOnWith loaded.old self.old (numbered_of line.now) r self.new) }
+        ensures grows { OnOk result (Grows self.old.core self.new.core) }
+        ensures counted { OnOk result (CountsNothing loaded.old self.old (numbered_of line.now) self.new) }
         ensures files { OnOk result (LetsGoOf loaded.old.files (file_of (numbered_of line.now).line) line.now.number loaded.new.files) }
         ensures queries { loaded.new.queries ≡ loaded.old.queries }
         ensures actors { length hops.new ≡ 32 }

@@ -5,11 +5,13 @@ ghost use Rattle.pf_base.specs.declared.plain.Limits.{Limits as LimitsData};
 ghost use Rattle.pf_core.specs.Cores.{AreLimits, Stands};
 ghost use Rattle.pf_journal.specs.Report.{actors_from, journal_text};
 ghost use Rattle.pf_journal.specs.Scripts.{Numbered};
+ghost use Rattle.pf_journal.specs.Summaries.{nothing_counted};
 ghost use Rattle.pf_script.specs.Lines.{lines_of};
 ghost use Rattle.pf_client.specs.Drives.{CanRun, IsReport, is_full, why_of};
 ghost use Rattle.pf_client.specs.Files.{AreHeld};
 ghost use Rattle.pf_client.specs.Going.{HasStopped, IsGoing};
 ghost use Rattle.pf_client.specs.Hands.{HoldsJobs};
+ghost use Rattle.pf_client.specs.Tallies.{IsCounted};
 ghost use Rattle.pf_client.specs.declared.loaded.Loaded.{Loaded as LoadedData};
 
 use crate::client::{Client, LineRun};
@@ -36,10 +38,11 @@ fn no_hands(alloc: Global) -> Result<Vec<Option<Held>>, OutOfMemory>
 }
 
 /// A client that has run no line of a script that has step lines, or has none.
-fn client_of(alloc: Global, limits: Limits, stepped: bool) -> Result<Client, OutOfMemory>
+pub(crate) fn client_of(alloc: Global, limits: Limits, stepped: bool) -> Result<Client, OutOfMemory>
     requires limits { AreLimits limits }
     ensures going { IfOk result (λ c. (loaded : LoadedData) (lines : List Numbered) → IsGoing loaded limits lines 0 c) }
     ensures holds { IfOk result HoldsJobs }
+    ensures counted { IfOk result (λ c. (loaded : LoadedData) → IsCounted loaded nothing_counted c) }
 {
     let mut out = Vec::new(alloc);
     push_client(&mut out, 0)?;

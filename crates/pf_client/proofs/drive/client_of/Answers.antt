@@ -1,5 +1,6 @@
 use Rattle.std.proofs.Common.{rules}
 use Rattle.pf_client.proofs.Reports.{begins, begins_holds}
+use Rattle.pf_client.proofs.Tallying.{counted_first}
 use Rattle.pf_client.proofs.drive.client_of.Goals as goal
 
 pub returns-clause-going : goal.returns-clause-going
@@ -7,3 +8,6 @@ returns-clause-going c = begins c.args.limits _ (search rules) (search rules) (s
 
 pub returns-clause-holds : goal.returns-clause-holds
 returns-clause-holds c = begins_holds c.args.limits _ (search rules) (search rules)
+
+pub returns-clause-counted : goal.returns-clause-counted
+returns-clause-counted c = λ loaded known told kn. counted_first c.args.limits c.in_ok-core.core (search rules)

@@ -3,6 +3,7 @@ use Rattle.std.specs.Arc.{arc_value}
 use Rattle.pf_client.proofs.Answering.{grows_replied, grows_waits, step_answered, step_waiting}
 use Rattle.pf_client.proofs.Cancelling.{absent}
 use Rattle.pf_client.proofs.Steps.{grows_same}
+use Rattle.pf_client.proofs.Tallying.{counted_reply, counted_waits}
 use Rattle.pf_client.proofs.client.Client.answer_query.Goals as goal
 
 pub returns-in_default-clause-step : goal.returns-in_default-clause-step
@@ -27,3 +28,11 @@ returns-in_ok-push_answered-in-Answered-clause-step g c known above hands line k
 
 pub returns-in_ok-push_answered-in-Answered-clause-grows : goal.returns-in_ok-push_answered-in-Answered-clause-grows
 returns-in_ok-push_answered-in-Answered-clause-grows g c = grows_replied c.args.self.now.core _ c.by.result c.args.query c.in-Answered.reply (search rules)
+
+pub returns-in_ok-push_waiting-in-Waits-clause-counted : goal.returns-in_ok-push_waiting-in-Waits-clause-counted
+returns-in_ok-push_waiting-in-Waits-clause-counted g c = counted_waits c.args.self.now.core c.answer.new.core c.args.query c.in-Waits.jobs (search rules)
+
+pub returns-in_ok-push_answered-in-Answered-clause-counted : goal.returns-in_ok-push_answered-in-Answered-clause-counted
+returns-in_ok-push_answered-in-Answered-clause-counted g c =
+    counted_reply c.args.self.now.core c.answer.new.core c.by.result c.args.query c.in-Answered.reply (arc_value c.in-Some.opened.asked.now).instant (arc_value c.in-Some.opened.asked.now).kind
+    c.body_of-body.result (search rules) (search rules)

@@ -1,13 +1,15 @@
-use Rattle.std.proofs.Common.{rules, refl, subst, sym, ℕ, IfOk}
+use Rattle.std.proofs.Common.{rules, refl, subst, sym, ℕ, IfOk, OnOk}
 use Rattle.pf_journal.specs.Scripts.{Numbered}
 use Rattle.pf_script.specs.Lines.{line_of}
 use Rattle.pf_script.specs.declared.script.Line.{Line}
 use Rattle.pf_client.specs.Going.{GoesOnWith}
+use Rattle.pf_client.specs.Tallies.{CountsNothing}
 use Rattle.pf_client.specs.declared.client.LineRun.{LineRun}
 use Rattle.pf_client.specs.declared.client.LineRun.TheVariants as run
 use Rattle.pf_client.proofs.Driving.{answer_goes, ask_goes, asked_all, plain_goes_if, quiet_goes}
 use Rattle.pf_client.proofs.StepLines.{holds_if, holds_on}
 use Rattle.pf_client.proofs.Cases.{if_ok_map}
+use Rattle.pf_client.proofs.Tallying.{ask_counts_if, plain_counts_if, quiet_counts}
 use Rattle.pf_client.proofs.client.Client.run_line.Goals as goal
 
 abbrev numbered : ℕ → Line → Numbered
@@ -99,3 +101,67 @@ returns-in_ok-plan-in-Plan-clause-holds g c = holds_on c.args.self.now c.plan.ne
 
 pub returns-in_ok-keep-in-Keep-clause-holds : goal.returns-in_ok-keep-in-Keep-clause-holds
 returns-in_ok-keep-in-Keep-clause-holds g c = holds_on c.args.self.now c.keep.new.self (search rules) (search rules) c.requires.holds
+
+pub returns-in-Ingest-clause-counted : goal.returns-in-Ingest-clause-counted
+returns-in-Ingest-clause-counted g c =
+    subst (λ (l : Line). OnOk c.ingest.result (CountsNothing c.args.loaded.now c.args.self.now (numbered c.args.line.now.number l) c.ingest.new.self)) (sym c.in-Ingest.is)
+    (plain_counts_if c.args.loaded.now c.args.self.now c.ingest.new.self _ c.ingest.result
+    (if_ok_map _ _ c.ingest.result (λ r h known told. h known told.held) c.ingest.ensures.runs))
+
+pub returns-in-Delete-clause-counted : goal.returns-in-Delete-clause-counted
+returns-in-Delete-clause-counted g c =
+    subst (λ (l : Line). OnOk c.delete.result (CountsNothing c.args.loaded.now c.args.self.now (numbered c.args.line.now.number l) c.delete.new.self)) (sym c.in-Delete.is)
+    (plain_counts_if c.args.loaded.now c.args.self.now c.delete.new.self _ c.delete.result
+    (if_ok_map _ _ c.delete.result (λ r h known told. h known) c.delete.ensures.runs))
+
+pub returns-in-Ask-clause-counted : goal.returns-in-Ask-clause-counted
+returns-in-Ask-clause-counted g c =
+    subst (λ (l : Line). OnOk c.ask.result (CountsNothing c.args.loaded.now c.args.self.now (numbered c.args.line.now.number l) c.ask.new.self)) (sym c.in-Ask.is)
+    (ask_counts_if c.args.loaded.now c.args.self.now c.ask.new.self _ c.ask.result
+    (if_ok_map _ _ c.ask.result (λ r h known told. h known told.readings) c.ask.ensures.runs))
+
+pub returns-in-Instant-clause-counted : goal.returns-in-Instant-clause-counted
+returns-in-Instant-clause-counted g c =
+    subst (λ (l : Line). OnOk c.instant.result (CountsNothing c.args.loaded.now c.args.self.now (numbered c.args.line.now.number l) c.instant.new.self)) (sym c.in-Instant.is)
+    (ask_counts_if c.args.loaded.now c.args.self.now c.instant.new.self _ c.instant.result
+    (if_ok_map _ _ c.instant.result (λ r h known told. h known told.readings) c.instant.ensures.runs))
+
+pub returns-in_ok-cancel-in-Cancel-clause-counted : goal.returns-in_ok-cancel-in-Cancel-clause-counted
+returns-in_ok-cancel-in-Cancel-clause-counted g c =
+    subst (λ (l : Line). CountsNothing c.args.loaded.now c.args.self.now (numbered c.args.line.now.number l) c.cancel.new.self) (sym c.in-Cancel.is)
+    (quiet_counts c.args.loaded.now c.args.self.now c.cancel.new.self _ (search rules)
+    (λ known above hands done k alone have kept hs follows.
+    c.in_ok-cancel-in-Cancel.ensures.step known above hands k alone (have.right c.in-Cancel.asked _ follows.names)))
+
+pub returns-in_ok-answer-in-Answer-clause-counted : goal.returns-in_ok-answer-in-Answer-clause-counted
+returns-in_ok-answer-in-Answer-clause-counted g c =
+    subst (λ (l : Line). CountsNothing c.args.loaded.now c.args.self.now (numbered c.args.line.now.number l) c.answer.new.self) (sym c.in-Answer.is) (λ quiet. absurd quiet)
+
+pub returns-in_ok-plan-in-Plan-clause-counted : goal.returns-in_ok-plan-in-Plan-clause-counted
+returns-in_ok-plan-in-Plan-clause-counted g c =
+    subst (λ (l : Line). CountsNothing c.args.loaded.now c.args.self.now (numbered c.args.line.now.number l) c.plan.new.self) (sym c.in-Plan.is)
+    (quiet_counts c.args.loaded.now c.args.self.now c.plan.new.self _ (search rules)
+    (λ known above hands done k alone have kept hs follows.
+    c.in_ok-plan-in-Plan.ensures.step known above hands k alone (have.right c.in-Plan.asked _ follows.names)
+    (have.kept c.in-Plan.asked _ follows.names follows.is_open)))
+
+pub returns-in_ok-keep-in-Keep-clause-counted : goal.returns-in_ok-keep-in-Keep-clause-counted
+returns-in_ok-keep-in-Keep-clause-counted g c =
+    subst (λ (l : Line). CountsNothing c.args.loaded.now c.args.self.now (numbered c.args.line.now.number l) c.keep.new.self) (sym c.in-Keep.is)
+    (quiet_counts c.args.loaded.now c.args.self.now c.keep.new.self _ (search rules)
+    (λ known above hands done k alone have kept hs follows.
+    c.in_ok-keep-in-Keep.ensures.step known above hands k alone (have.right c.in-Keep.asked _ follows.names)
+    (have.kept c.in-Keep.asked _ follows.names follows.is_open.0)))
+
+pub returns-in_ok-take-in-Take-clause-counted : goal.returns-in_ok-take-in-Take-clause-counted
+returns-in_ok-take-in-Take-clause-counted g c =
+    subst (λ (l : Line). CountsNothing c.args.loaded.now c.args.self.now (numbered c.args.line.now.number l) c.take.new.self) (sym c.in-Take.is)
+    (quiet_counts c.args.loaded.now c.args.self.now c.take.new.self _ (search rules)
+    (λ known above hands done k alone have kept hs follows.
+    c.in_ok-take-in-Take.ensures.step known above hands k alone (asked_all known above c.args.self.now.core _ done c.args.self.now.slots have kept) hs))
+
+pub returns-in_ok-done-in-Done-clause-counted : goal.returns-in_ok-done-in-Done-clause-counted
+returns-in_ok-done-in-Done-clause-counted g c =
+    subst (λ (l : Line). CountsNothing c.args.loaded.now c.args.self.now (numbered c.args.line.now.number l) c.done.new.self) (sym c.in-Done.is)
+    (quiet_counts c.args.loaded.now c.args.self.now c.done.new.self _ (search rules)
+    (λ known above hands done k alone have kept hs follows. c.in_ok-done-in-Done.ensures.step known above hands k hs))
