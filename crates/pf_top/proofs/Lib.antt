@@ -2,6 +2,8 @@ pub mod Batches
 pub mod OutputLaws
 pub mod Printed
 pub mod RangeSteps
+pub mod Seeds
+pub mod SessionLaws
 pub mod WordLaws
 mod WorkedReads
 mod WorkedWords

@@ -122,7 +122,7 @@ module _ (held : Held) (words : List (List ℕ)) (replay : Replay) (is : replay_
     printed_by (inl (a, inr (eight, r))) =
         inr (inl (
           eight,
-          reported_by limits files lines true text read (all_read files (files_of lines) (needed_lines lines read) found a) r,
+          inl (reported_by limits files lines true text read (all_read files (files_of lines) (needed_lines lines read) found a) r),
         ))
     printed_by (inr (four, (file, (reached, (fault, whole))))) =
         inr (inr (inl (
@@ -142,14 +142,14 @@ module _ (held : Held) (words : List (List ℕ)) (replay : Replay) (is : replay_
   refused_by limits files line status text bad found steady p =
       inr (inr (inr (inr (
         p.0,
-        inr (record {
+        inr (inl (record {
           all = all_read files [] (needed_alone line bad) found (record { there = tt; steady = steady });
           replay = replay;
           by_words = is;
           line = line;
           refused = bad;
           whole = p.1;
-        }),
+        })),
       ))))
 
 -- what is seen since the script was read is seen since before
@@ -357,11 +357,13 @@ written_run limits o words status text w grows files_steady out_steady =
 may_print : (limits : Limits) (files : FilesSeen) (held : Held) (words : List (List ℕ)) (status : ℕ) (text : List ℕ)
     → IsPrinted limits files held words status text → IsOutput limits files held words text
 may_print limits files held words status text (inl (is, inl r)) = inl (false, r)
-may_print limits files held words status text (inl (is, inr e)) = inr (inl e)
-may_print limits files held words status text (inr (inl p)) = inl (true, p.1)
-may_print limits files held words status text (inr (inr (inl p))) = inr (inr (inr (inl p.1)))
-may_print limits files held words status text (inr (inr (inr (inl p)))) = inr (inr (inr (inr p.1)))
-may_print limits files held words status text (inr (inr (inr (inr p)))) = inr (inr (inl p.1))
+may_print limits files held words status text (inl (is, inr (inl e))) = inr (inr (inl e))
+may_print limits files held words status text (inl (is, inr (inr s))) = inr (inl (false, s))
+may_print limits files held words status text (inr (inl (is, inl r))) = inl (true, r)
+may_print limits files held words status text (inr (inl (is, inr s))) = inr (inl (true, s))
+may_print limits files held words status text (inr (inr (inl p))) = inr (inr (inr (inr (inl p.1))))
+may_print limits files held words status text (inr (inr (inr (inl p)))) = inr (inr (inr (inr (inr p.1))))
+may_print limits files held words status text (inr (inr (inr (inr p)))) = inr (inr (inr (inl p.1)))
 
 -- a front was written
 pub unwritten_run : (limits : Limits) (o : Outside) (words : List (List ℕ)) (status : ℕ) (text given : List ℕ)

@@ -1,5 +1,5 @@
--- What an evaluation prints.
-use Rattle.std.proofs.Common.{◌≡◌, ℕ, false, Option, Some, None, Result, Ok, Err, List, refl, sym, ap, ◌∙◌, inl, inr, codes, decimal, subst}
+-- What an evaluation and a session print.
+use Rattle.std.proofs.Common.{◌≡◌, ℕ, Bool, true, false, Option, Some, None, Result, Ok, Err, List, refl, sym, ap, ◌∙◌, inl, inr, codes, decimal, subst}
 use Rattle.std.specs.Arc.{arc_value}
 use Rattle.std.specs.Fmt.{digits}
 use Rattle.std.specs.Option.{option_map_or}
@@ -11,6 +11,7 @@ use Rattle.pf_base.specs.Grids.{grid_of}
 use Rattle.pf_base.specs.declared.grid.GridError.{GridError}
 use Rattle.pf_base.specs.declared.plain.Limits.{Limits}
 use Rattle.pf_base.specs.declared.plain.Row.{Row}
+use Rattle.pf_gen.specs.Sessions.{session}
 use Rattle.pf_model.specs.Direct.{direct}
 use Rattle.pf_model.specs.ErrorTexts.{QueryFault, grid_text, memory_text, query_text}
 use Rattle.pf_model.specs.Log.{batch_samples}
@@ -18,19 +19,23 @@ use Rattle.pf_journal.specs.Asking.{Asked, asked_over, asked_with}
 use Rattle.pf_journal.specs.Bodies.{body_text, refused_body}
 use Rattle.pf_journal.specs.Evaluations.{evaluated_text, evaluation_text}
 use Rattle.pf_journal.specs.Machine.{code_of}
+use Rattle.pf_journal.specs.Scripts.{Numbered, script_of}
+use Rattle.pf_journal.specs.Summaries.{asks, summary_text}
 use Rattle.pf_model.specs.Queries.{Reading, lawful, refused}
 use Rattle.pf_report.specs.Bodies.{code_in, text_of}
 use Rattle.pf_report.specs.declared.bodies.Body.{Body}
 use Rattle.pf_types.specs.Errors.{words_of_error}
 use Rattle.pf_types.specs.declared.query.QueryError.{QueryError}
 use Rattle.pf_client.specs.Replays.{Held, Reaches}
-use Rattle.pf_top.specs.Correct.{AllRead, FilesSeen, needed, needed_by}
+use Rattle.pf_top.specs.Correct.{AllRead, FilesSeen, Summarized, needed, needed_by}
 use Rattle.pf_top.specs.Evaluations.{IsFileOutput, IsNamedOutput, IsText}
 use Rattle.pf_client.specs.Files.{HoldsContent, TellsContent}
 use Rattle.pf_top.specs.Outputs.{IsPrinted, IsWordsOutput}
 use Rattle.pf_client.specs.Queries.{IsQueryRead}
+use Rattle.pf_top.specs.Pages.{page_in}
 use Rattle.pf_top.specs.Refusals.{refused_not_built}
-use Rattle.pf_top.specs.Words.{Evaluation, Replay, evaluation_words, replay_words}
+use Rattle.pf_top.specs.SessionOutputs.{IsSeedOutput, IsSum}
+use Rattle.pf_top.specs.Words.{Evaluation, Replay, evaluation_words, load_words, replay_words}
 use Rattle.pf_types.specs.declared.bound.BoundQuery.{BoundQuery}
 use Rattle.pf_client.specs.declared.loaded.Content.{Content}
 use Rattle.pf_client.specs.declared.queries.QueryRead.{QueryRead}
@@ -93,9 +98,9 @@ needed_words held words e none is =
 
 -- the words are of no form
 pub other_words : (limits : Limits) (files : FilesSeen) (words : List (List ℕ)) (status : ℕ) (text : List ℕ)
-    → replay_words words ≡ None → evaluation_words words ≡ None → files.after ≡ files.before → (status ≡ 9) × (text ≡ refused_not_built)
-    → IsWordsOutput limits files words status text
-other_words limits files words status text none neither steady p =
+    → replay_words words ≡ None → evaluation_words words ≡ None → load_words words ≡ None → files.after ≡ files.before
+    → (status ≡ 9) × (text ≡ refused_not_built) → IsWordsOutput limits files words status text
+other_words limits files words status text none neither nor steady p =
     let h = holding_none files.told in
     record {
       held = h.0;
@@ -106,10 +111,45 @@ other_words limits files words status text none neither steady p =
           all = subst (AllRead files) (sym (needed_words h.0 words None none neither)) (record { there = tt; steady = steady });
           no_replay = none;
           no_evaluation = neither;
+          no_load = nor;
           whole = p.1;
         },
       ))));
     }
+
+-- the session of a seed
+module _ (limits : Limits) (files : FilesSeen) (words : List (List ℕ)) (seed status : ℕ) (text : List ℕ)
+    (none : replay_words words ≡ None) (neither : evaluation_words words ≡ None) (by_words : load_words words ≡ Some seed) (steady : files.after ≡ files.before) where
+  no_files : (held : Held) → AllRead files (needed held words)
+  no_files held = subst (AllRead files) (sym (needed_words held words None none neither)) (record { there = tt; steady = steady })
+
+  summarized : (held : Held) (lines : List Numbered) (full : Bool) → script_of false (session seed).script ≡ Ok lines
+      → IsSum limits (page_in (session seed).files) seed lines full text → Summarized limits files held words full text
+  summarized held lines full read (t, (sum, whole)) = record {
+    all = no_files held;
+    seed = seed;
+    by_words = by_words;
+    lines = lines;
+    journal = sum.journal;
+    names = sum.names;
+    readings = sum.readings;
+    rest = sum.rest;
+    read = read;
+    legal = sum.legal;
+    named = sum.named;
+    woven = sum.woven;
+    ended = sum.ended;
+    whole = whole ∙ ap (summary_text seed (asks lines)) sum.whole;
+  }
+
+  seed_printed : (held : Held) → IsSeedOutput limits seed status text → IsPrinted limits files held words status text
+  seed_printed held (inl (lines, (read, inl (zero, sum)))) = inl (zero, inr (inr (summarized held lines false read sum)))
+  seed_printed held (inl (lines, (read, inr (eight, sum)))) = inr (inl (eight, inr (summarized held lines true read sum)))
+  seed_printed held (inr (three, (line, (bad, whole)))) =
+      inr (inr (inr (inr (three, inr (inr (record { all = no_files held; seed = seed; by_words = by_words; line = line; refused = bad; whole = whole }))))))
+
+  pub seed_words : IsSeedOutput limits seed status text → IsWordsOutput limits files words status text
+  seed_words output = let h = holding_none files.told in record { held = h.0; agree = h.1; printed = seed_printed h.0 output }
 
 -- one file was read, or not
 pub named_read : (files : FilesSeen) (named : Evaluation) (content : Content) (status : ℕ) (text : List ℕ)
@@ -124,7 +164,7 @@ file_printed : (limits : Limits) (files : FilesSeen) (held : Held) (words : List
     → evaluation_words words ≡ Some named → AllRead files (needed held words) → IsFileOutput (held named.file) named status text
     → IsPrinted limits files held words status text
 file_printed limits files held words named status text is a (inl (batch, (gives, (zero, (reading, (read, whole)))))) =
-    inl (zero, inr (record { all = a; named = named; by_words = is; batch = batch; gives = gives; reading = reading; read = read; whole = whole }))
+    inl (zero, inr (inl (record { all = a; named = named; by_words = is; batch = batch; gives = gives; reading = reading; read = read; whole = whole })))
 file_printed limits files held words named status text is a (inr (three, (refusal, (is_refused, whole)))) =
     inr (inr (inr (inr (three, inl (record { all = a; named = named; by_words = is; refusal = refusal; refused = is_refused; whole = whole })))))
 

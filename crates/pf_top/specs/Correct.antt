@@ -1,8 +1,9 @@
--- What the program promises of a replay and of an evaluation: this project's own.
+-- What the program promises of a replay, of an evaluation and of a generated session: this project's own.
 use Rattle.std.specs.Prelude.{◌≡◌, ℕ, ◌⊎◌, Bool, true, false, Option, Some, None, Result, Ok, Err, List, [], ◌∷◌, take}
 use Rattle.pf_base.specs.Batches.{BatchData}
 use Rattle.pf_base.specs.Grids.{grid_of}
 use Rattle.pf_base.specs.declared.plain.Limits.{Limits}
+use Rattle.pf_gen.specs.Sessions.{session}
 use Rattle.pf_io.specs.Outside.{Rose, Grows}
 use Rattle.pf_model.specs.Lists.{Each}
 use Rattle.pf_model.specs.Log.{batch_samples}
@@ -10,15 +11,18 @@ use Rattle.pf_model.specs.Queries.{IsReading, Reading, Readings}
 use Rattle.pf_journal.specs.Asking.{asked_with}
 use Rattle.pf_journal.specs.Evaluations.{evaluated_text}
 use Rattle.pf_journal.specs.Files.{Gives, IsRefusedAs, Refusal}
-use Rattle.pf_journal.specs.Legal.{Legal, AreNames}
+use Rattle.pf_journal.specs.Legal.{Legal, AreNames, moments}
 use Rattle.pf_journal.specs.Machine.{Entry}
 use Rattle.pf_journal.specs.Report.{report}
 use Rattle.pf_journal.specs.Rest.{Rest}
 use Rattle.pf_journal.specs.Scripts.{Numbered, script_of}
+use Rattle.pf_journal.specs.Summaries.{asks, summary_text, tally_of}
 use Rattle.pf_journal.specs.Weave.{Weave}
 use Rattle.pf_client.specs.Replays.{Agree, HasFailed, HaveMetFull, Held, Reaches, files_of}
+use Rattle.pf_client.specs.Summaries.{HaveEnded}
+use Rattle.pf_top.specs.Pages.{page_in}
 use Rattle.pf_top.specs.Refusals.{refused_file, refused_not_built, refused_read, refused_script}
-use Rattle.pf_top.specs.Words.{Evaluation, Replay, evaluation_words, limits_with, replay_words}
+use Rattle.pf_top.specs.Words.{Evaluation, Replay, evaluation_words, limits_with, load_words, replay_words}
 
 -- ---- what a run sees of its outside
 
@@ -99,6 +103,23 @@ pub record Evaluated (files : FilesSeen) (held : Held) (words : List (List ℕ))
   pub read : IsReading named.query reading
   pub whole : text ≡ evaluated_text (batch_samples batch.rows) (asked_with false (grid_of named.start named.end named.step) (Some reading))
 
+-- text sums up the generated session of a seed: a legal journal that is woven from the session's script over its pages
+pub record Summarized (limits : Limits) (files : FilesSeen) (held : Held) (words : List (List ℕ)) (full : Bool) (text : List ℕ) : Type 0 where
+  pub all : AllRead files (needed held words)
+  pub seed : ℕ
+  pub by_words : load_words words ≡ Some seed
+  pub lines : List Numbered
+  pub journal : List Entry
+  pub names : List (List ℕ)
+  pub readings : Readings
+  pub rest : Rest
+  pub read : script_of false (session seed).script ≡ Ok lines
+  pub legal : Legal limits names journal
+  pub named : AreNames names journal
+  pub woven : Weave (record { limits = limits; names = names; files = page_in (session seed).files; readings = readings }) journal (lines ∷ []) rest
+  pub ended : HaveEnded full rest.clients
+  pub whole : text ≡ summary_text seed (asks lines) (tally_of limits (moments journal))
+
 -- text says at which line an evaluation's file is refused
 pub record FileRefused (files : FilesSeen) (held : Held) (words : List (List ℕ)) (text : List ℕ) : Type 0 where
   pub all : AllRead files (needed held words)
@@ -117,12 +138,27 @@ pub record ScriptRefused (files : FilesSeen) (held : Held) (words : List (List �
   pub refused : script_of true (held replay.script) ≡ Err line
   pub whole : text ≡ refused_script 0 line
 
+-- text says at which line the script of a generated session is refused
+pub record SessionRefused (files : FilesSeen) (held : Held) (words : List (List ℕ)) (text : List ℕ) : Type 0 where
+  pub all : AllRead files (needed held words)
+  pub seed : ℕ
+  pub by_words : load_words words ≡ Some seed
+  pub line : ℕ
+  pub refused : script_of false (session seed).script ≡ Err line
+  pub whole : text ≡ refused_script 0 line
+
 abbrev pub Refused : FilesSeen → Held → List (List ℕ) → List ℕ → Type 0
-Refused files held words text = FileRefused files held words text ⊎ ScriptRefused files held words text
+Refused files held words text =
+    FileRefused files held words text ⊎ (ScriptRefused files held words text ⊎ SessionRefused files held words text)
 
 -- what a run to its end prints
 abbrev pub Ended : Limits → FilesSeen → Held → List (List ℕ) → List ℕ → Type 0
-Ended limits files held words text = Reported limits files held words false text ⊎ Evaluated files held words text
+Ended limits files held words text =
+    Reported limits files held words false text ⊎ (Evaluated files held words text ⊎ Summarized limits files held words false text)
+
+-- what a run prints whose client met the full journal
+abbrev pub Filled : Limits → FilesSeen → Held → List (List ℕ) → List ℕ → Type 0
+Filled limits files held words text = Reported limits files held words true text ⊎ Summarized limits files held words true text
 
 -- text says which file was not read: the first of those that are needed that is lost, or one before it
 pub record Unread (files : FilesSeen) (held : Held) (words : List (List ℕ)) (text : List ℕ) : Type 0 where
@@ -136,14 +172,16 @@ pub record Unbuilt (files : FilesSeen) (held : Held) (words : List (List ℕ)) (
   pub all : AllRead files (needed held words)
   pub no_replay : replay_words words ≡ None
   pub no_evaluation : evaluation_words words ≡ None
+  pub no_load : load_words words ≡ None
   pub whole : text ≡ refused_not_built
 
 -- what a run may print
 abbrev pub IsOutput : Limits → FilesSeen → Held → List (List ℕ) → List ℕ → Type 0
 IsOutput limits files held words text =
     ((full : Bool) × Reported limits files held words full text)
+    ⊎ (((full : Bool) × Summarized limits files held words full text)
     ⊎ (Evaluated files held words text
-    ⊎ (Refused files held words text ⊎ (Unread files held words text ⊎ Unbuilt files held words text)))
+    ⊎ (Refused files held words text ⊎ (Unread files held words text ⊎ Unbuilt files held words text))))
 
 -- a text of this kind was written whole, or a front of one
 abbrev pub Writes : (List ℕ → Type 0) → Option (List ℕ) → Option (List ℕ) → Type 0
@@ -163,9 +201,9 @@ pub record Correct (limits : Limits) (o : Outside) (words : List (List ℕ)) (st
   -- all that follows is over one reading of each file, which gave what is told
   pub held : Held
   pub agree : Agree o.files.told held
-  -- 0: the report was written, and no client met the full journal; or what an evaluation prints
+  -- 0: the report was written, and no client met the full journal; or what an evaluation prints, or the sums of a session
   pub ended : status ≡ 0 → Writes (Ended limits o.files held words) o.old o.new
-  -- 3: the script, or an evaluation's file, was refused
+  -- 3: the script, also a session's, or an evaluation's file was refused
   pub refused : status ≡ 3 → Writes (Refused o.files held words) o.old o.new
   -- 4: a file that was needed was not read
   pub unread : status ≡ 4 → Writes (Unread o.files held words) o.old o.new
@@ -173,8 +211,8 @@ pub record Correct (limits : Limits) (o : Outside) (words : List (List ℕ)) (st
   pub unwritten : status ≡ 5 → Rose o.out_before o.out_after × WritesPart (IsOutput limits o.files held words) o.old o.new
   -- 6: memory ran out, and nothing was written
   pub starved : status ≡ 6 → Grows o.old o.new []
-  -- 8: the report was written, and a client met the full journal
-  pub filled : status ≡ 8 → Writes (Reported limits o.files held words true) o.old o.new
+  -- 8: the report or the sums of a session were written, and a client met the full journal
+  pub filled : status ≡ 8 → Writes (Filled limits o.files held words) o.old o.new
   -- 9: a form that is not built
   pub unbuilt : status ≡ 9 → Writes (Unbuilt o.files held words) o.old o.new
   -- 0, 3, 8 and 9 come after no fault of the files, and all but 5 after none of the output

@@ -3,7 +3,7 @@ use Rattle.std.specs.Prelude.{◌≡◌, ℕ, ◌⊎◌, true, false, List}
 use Rattle.pf_base.specs.declared.plain.Limits.{Limits}
 use Rattle.pf_journal.specs.Scripts.{Numbered}
 use Rattle.pf_client.specs.Replays.{Agree, HasFailed, Held, Reaches, files_of}
-use Rattle.pf_top.specs.Correct.{AllRead, Ended, FilesSeen, Refused, Reported, Unread, Unbuilt}
+use Rattle.pf_top.specs.Correct.{AllRead, Ended, Filled, FilesSeen, Refused, Unread, Unbuilt}
 use Rattle.pf_client.specs.Drives.{IsReport}
 use Rattle.pf_top.specs.Refusals.{refused_read}
 
@@ -16,7 +16,7 @@ default_limits =
 abbrev pub IsPrinted : Limits → FilesSeen → Held → List (List ℕ) → ℕ → List ℕ → Type 0
 IsPrinted limits files held words status text =
     ((status ≡ 0) × Ended limits files held words text)
-    ⊎ (((status ≡ 8) × Reported limits files held words true text)
+    ⊎ (((status ≡ 8) × Filled limits files held words text)
     ⊎ (((status ≡ 4) × Unread files held words text)
     ⊎ (((status ≡ 9) × Unbuilt files held words text)
     ⊎ ((status ≡ 3) × Refused files held words text))))

@@ -1,12 +1,15 @@
 -- The words that the program is called with: this project's own.
-use Rattle.std.specs.Prelude.{ℕ, ◌+◌, Bool, true, false, ◌&&◌, not, Option, Some, None, cond, option_map, List, [], ◌∷◌, codes, drop, map, nat_eq, nat_le, position, take}
+use Rattle.std.specs.Char.{is_ascii_digit}
+use Rattle.std.specs.List.{list_all}
+use Rattle.std.specs.Prelude.{ℕ, ◌+◌, Bool, true, false, ◌&&◌, not, Option, Some, None, cond, option_map, List, [], ◌∷◌, codes, drop, map, nat_eq, nat_le, nat_lt, position, take}
 use Rattle.std.specs.Option.{unwrap_or}
 use Rattle.std.specs.Result.{result_ok}
 use Rattle.std.specs.Str.{bytes_eq}
 use Rattle.pf_base.specs.DurationScans.{duration_of}
+use Rattle.pf_base.specs.LabelSets.{is_empty}
 use Rattle.pf_base.specs.declared.plain.Limits.{Limits}
 use Rattle.pf_model.specs.Cuts.{◌>>=◌, Cut, kept}
-use Rattle.pf_journal.specs.Scripts.{number_of}
+use Rattle.pf_journal.specs.Scripts.{digits_onto, number_of}
 
 -- ---- words
 
@@ -188,3 +191,15 @@ evaluation_words (command ∷ (file ∷ (query ∷ (start ∷ (end ∷ (step ∷
     cond (bytes_eq command (codes "eval") && (not (is_dashed file) && not (is_dashed query)))
     (with_times file query (number_of start) (number_of end) (number_of step)) None
 evaluation_words _ = None
+
+-- ---- `load SEED`
+
+-- a number of one digit or more, below 2^64
+unfoldable pub seed_of : List ℕ → Option ℕ
+seed_of ds =
+    kept (not (is_empty ds) && list_all is_ascii_digit ds && nat_lt (digits_onto 0 ds) 18446744073709551616) (digits_onto 0 ds)
+
+-- the seed of a generated session
+abbrev pub load_words : List (List ℕ) → Option ℕ
+load_words (command ∷ (seed ∷ [])) = cond (bytes_eq command (codes "load")) (seed_of seed) None
+load_words _ = None

@@ -17,7 +17,8 @@ ghost use Rattle.pf_top.specs.Refusals.{refused_file, refused_line, refused_not_
 ghost use Rattle.pf_top.specs.Words.{evaluation_words, replay_words};
 
 use crate::evaluation::evaluation_of;
-use crate::words::{Evaluation, evaluation_words, limits_with, replay_words};
+use crate::session::run_seed;
+use crate::words::{Evaluation, evaluation_words, limits_with, load_words, replay_words};
 use pf_base::{Batch, Limits, OutOfMemory, Text};
 use pf_client::{
     Content, Contents, FileRead, LoadError, Loaded, let_go, load_all, only, read_content,
@@ -45,9 +46,9 @@ pub const DEFAULT_LIMITS: Limits = Limits {
 
 /// What a run prints, with its status.
 #[derive(Drop)]
-struct Output {
-    status: u8,
-    text: Vec<u8>,
+pub(crate) struct Output {
+    pub status: u8,
+    pub text: Vec<u8>,
 }
 
 /// `refused: read NAME`, with its status.
@@ -73,7 +74,7 @@ fn unbuilt(alloc: Global) -> Result<Output, OutOfMemory>
 }
 
 /// `refused: script 0 line N`, with its status.
-fn script_refused(alloc: Global, line: u32) -> Result<Output, OutOfMemory>
+pub(crate) fn script_refused(alloc: Global, line: u32) -> Result<Output, OutOfMemory>
     ensures { IfOk result (λ o. (o.status ≡ 3) × (o.text.items ≡ refused_script 0 line)) }
 {
     let mut text = Vec::new(alloc);
@@ -226,26 +227,51 @@ fn evaluate_file<F: Files>(
     }
 }
 
-/// Evaluates what the words name, where they name no script.
-fn evaluate_words<F: Files>(
+/// Runs the session that the words name, where they name neither a script nor an evaluation.
+fn sum_words<H: Hop, G: Gate>(
     alloc: Global,
+    limits: Limits,
+    words: &[Text],
+    hops: &mut [H],
+    gate: &G,
+) -> Result<Output, OutOfMemory>
+    requires limits { AreLimits limits }
+    requires actors { length hops.old ≡ 32 }
+    requires no_replay { replay_words words.now ≡ None }
+    requires no_evaluation { evaluation_words words.now ≡ None }
+    ensures { IfOk result (λ o. (seen : FilesSeen) → seen.after ≡ seen.before → IsWordsOutput limits seen words.now o.status o.text.items) }
+{
+    match load_words(words) {
+        Some(seed) => run_seed(alloc, limits, seed, hops, gate),
+        None => unbuilt(alloc),
+    }
+}
+
+/// Evaluates what the words name or runs the session that they name, where they name no script.
+fn evaluate_words<F: Files, H: Hop, G: Gate>(
+    alloc: Global,
+    limits: Limits,
     words: &[Text],
     files: &mut F,
+    hops: &mut [H],
+    gate: &G,
 ) -> Result<Output, OutOfMemory>
-    requires { replay_words words.now ≡ None }
+    requires limits { AreLimits limits }
+    requires actors { length hops.old ≡ 32 }
+    requires no_replay { replay_words words.now ≡ None }
     ensures output { let seen : FilesSeen = record { told = F.told files.old; sure = F.sure files.old; lost = F.lost files.old; before = F.faults files.old; after = F.faults files.new; failed = F.failed files.new } in
-        IfOk result (λ o. (limits : Limits) → IsWordsOutput limits seen words.now o.status o.text.items) }
+        IfOk result (λ o. IsWordsOutput limits seen words.now o.status o.text.items) }
     ensures steady { IfOk result (λ o. o.status ≢ 4 → F.faults files.new ≡ F.faults files.old) }
     ensures counted { F.faults files.old ≤ F.faults files.new }
     ensures untouched { evaluation_words words.now ≡ None → files.new ≡ files.old }
 {
     match evaluation_words(words) {
         Some(named) => evaluate_file(alloc, files, &named),
-        None => unbuilt(alloc),
+        None => sum_words(alloc, limits, words, hops, gate),
     }
 }
 
-/// Reads the script that the words name and replays it, or evaluates what they name.
+/// Reads the script that the words name and replays it, evaluates what they name, or runs their session.
 fn run_words<F: Files, H: Hop, G: Gate>(
     alloc: Global,
     limits: Limits,
@@ -263,7 +289,7 @@ fn run_words<F: Files, H: Hop, G: Gate>(
     ensures untouched { replay_words words.now ≡ None → evaluation_words words.now ≡ None → files.new ≡ files.old }
 {
     let Some(replay) = replay_words(words) else {
-        return evaluate_words(alloc, words, files);
+        return evaluate_words(alloc, limits, words, files, hops, gate);
     };
     let bytes = match read_file(alloc, files, replay.script) {
         Ok(Content::Bytes(bytes)) => bytes,
@@ -321,10 +347,10 @@ pub fn run_within<F: Files, O: Sink, H: Hop + Drop, G: Gate>(
 ///
 /// Built are the words `replay SCRIPT`, with the options `--limit N`, `--window DURATION`, `--interval DURATION`,
 /// `--shards N`, `--extents N` and `--journal N`; and the words `eval FILE QUERY START END STEP`, which print the code and the body
-/// of a query over one file. Any text is read as a query or a selector, and one that is refused is answered so. The doors are of no
-/// use to these. The statuses are 0 for a report or an evaluation, 3 for a script with a line that is none, or an evaluation's file
-/// that is refused, 4 for a file that was not read, 5 for output that was not taken, 6 for want of memory, 8 for a report of a
-/// client that met the full journal, and 9 for words that are not built.
+/// of a query over one file; and the words `load SEED`, which run the generated session of a seed and print the sums of its answers.
+/// Any text is read as a query or a selector, and one that is refused is answered so. The doors are of no use to these. The
+/// statuses are 0 for a report, an evaluation or sums, 3 for a script with a line that is none, or an evaluation's file that is refused, 4 for a file that was not read, 5 for output that was not taken, 6 for want of memory, 8 for a report or
+/// sums of a client that met the full journal, and 9 for words that are not built.
 pub fn run<R, F: Files, O: Sink, H: Hop + Send + Drop, G: Gate + Sync, D: Doors>(
     rt: &R,
     alloc: Global,

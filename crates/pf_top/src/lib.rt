@@ -10,6 +10,8 @@ mod driver;
 mod evaluate;
 mod evaluation;
 mod options;
+mod pages;
+mod session;
 mod words;
 
 pub use driver::{DEFAULT_LIMITS, run, run_within};

@@ -2,7 +2,7 @@
 
 ghost use Rattle.std.specs.Prelude.{◌≡◌, option_map};
 ghost use Rattle.pf_top.specs.Evaluations.{evaluation_in};
-ghost use Rattle.pf_top.specs.Words.{evaluation_words, limits_with, replay_words, with_times};
+ghost use Rattle.pf_top.specs.Words.{evaluation_words, limits_with, load_words, replay_words, seed_of, with_times};
 ghost use Rattle.pf_top.specs.WordSteps.{replay_in};
 
 use crate::options::{is_dashed, replay_behind};
@@ -96,6 +96,38 @@ pub fn evaluation_words(words: &[Text]) -> Option<Evaluation<'_>>
             number_of(end.as_str().as_bytes()),
             number_of(step.as_str().as_bytes()),
         )
+    } else {
+        None
+    }
+}
+
+/// The number of one decimal digit or more, below 2^64.
+#[tactic(auto, unfolding(crate::specs::Words::seed_of))]
+fn seed_of(digits: &[u8]) -> Option<u64>
+    ensures { result ≡ seed_of digits.now }
+{
+    if digits.is_empty() {
+        return None;
+    }
+    let mut number: u64 = 0;
+    for digit in digits {
+        if !digit.is_ascii_digit() {
+            return None;
+        }
+        number = number.checked_mul(10)?.checked_add((*digit - b'0') as u64)?;
+    }
+    Some(number)
+}
+
+/// The seed in the words `load SEED`.
+pub fn load_words(words: &[Text]) -> Option<u64>
+    ensures { result ≡ load_words words.now }
+{
+    let [command, seed] = words else {
+        return None;
+    };
+    if command.as_str() == "load" {
+        seed_of(seed.as_str().as_bytes())
     } else {
         None
     }

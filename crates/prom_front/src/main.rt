@@ -3,7 +3,7 @@
 //! Built are `prom_front replay SCRIPT`, which runs the script's lines and prints the replies and then the journal, with the options
 //! `--limit N`, `--window DURATION`, `--interval DURATION`, `--shards N`, `--extents N` and `--journal N`, and
 //! `prom_front eval FILE QUERY START END STEP`, which prints the code and the body of a query over one file. Every query is evaluated,
-//! or refused in its answer. For other words it prints `refused: not built` and ends with status 9. `pf_top::run` says which status
+//! or refused in its answer. `prom_front load SEED` runs a generated session and prints the sums of its answers. For other words it prints `refused: not built` and ends with status 9. `pf_top::run` says which status
 //! comes when.
 #![tactic(auto)]
 

@@ -52,4 +52,4 @@ returns-in-Err-Failed-clause-output g c =
     c.unread.ensures
 
 pub returns-in_default-clause-output : goal.returns-in_default-clause-output
-returns-in_default-clause-output g c = if_ok_map _ _ c.evaluate_words.result (λ o p. p c.args.limits) c.evaluate_words.ensures.output
+returns-in_default-clause-output g c = c.evaluate_words.ensures.output
