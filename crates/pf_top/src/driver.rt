@@ -349,8 +349,9 @@ pub fn run_within<F: Files, O: Sink, H: Hop + Drop, G: Gate>(
 /// `--shards N`, `--extents N` and `--journal N`; and the words `eval FILE QUERY START END STEP`, which print the code and the body
 /// of a query over one file; and the words `load SEED`, which run the generated session of a seed and print the sums of its answers.
 /// Any text is read as a query or a selector, and one that is refused is answered so. The doors are of no use to these. The
-/// statuses are 0 for a report, an evaluation or sums, 3 for a script with a line that is none, or an evaluation's file that is refused, 4 for a file that was not read, 5 for output that was not taken, 6 for want of memory, 8 for a report or
-/// sums of a client that met the full journal, and 9 for words that are not built.
+/// statuses are 0 for a report, an evaluation or sums, 3 for a script with a line that is none, or an evaluation's file that is
+/// refused, 4 for a file that was not read, 5 for output that was not taken, 6 for want of memory, 8 for a report or sums of a
+/// client that met the full journal, and 9 for words that are not built.
 pub fn run<R, F: Files, O: Sink, H: Hop + Send + Drop, G: Gate + Sync, D: Doors>(
     rt: &R,
     alloc: Global,
