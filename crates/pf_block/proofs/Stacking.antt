@@ -117,9 +117,9 @@ module _ (labels : List Pairs) (bs : List Entries) (sizes : List ℕ) (kept : Is
   kept_rises k = ap rises (kept_at k) ∙ inside_at k (series_from 0 (length labels) bs) kept.snap.lawful
 
 -- blocks with the series of a snapshot
-pub kept_of : (s : SnapData) (labels : List Pairs) (bs : List Entries) (sizes : List ℕ) → IsSnap s → labels ≡ s.labels → list_all ascends bs ≡ true → ((k : ℕ) → series_in k bs ≡ samples_of s k) → doubles sizes ≡ true → covers sizes bs ≡ true →
+pub kept_of : (s : SnapData) (labels : List Pairs) (bs : List Entries) (sizes : List ℕ) → IsSnap s → labels ≡ s.labels → list_all ascends bs ≡ true → ((k : ℕ) → series_in k bs ≡ samples_of s k) → list_all (nat_lt 0) sizes ≡ true → doubles sizes ≡ true → covers sizes bs ≡ true →
     (snap_of labels bs ≡ s) × IsKept labels bs sizes
-kept_of s labels bs sizes h e a f d v =
+kept_of s labels bs sizes h e a f g d v =
     let n : length s.samples ≡ length labels = h.alike ∙ ap length (sym e) in
     let is : series_from 0 (length labels) bs ≡ s.samples = from_is 0 (length labels) bs s.samples n (λ k l. let z : 0 + k ≡ k = omega arith in ap (λ j. series_in j bs) z ∙ f k) in
     let same : snap_of labels bs ≡ s = λ i. record { labels = e i; samples = is i } in (
@@ -128,6 +128,7 @@ kept_of s labels bs sizes h e a f d v =
         snap = subst (λ t. IsSnap t) (sym same) h;
         sorted = a;
         known = λ k l. f k ∙ over_end s.samples k (omega (arith, n, l));
+        filled = g;
         doubles = d;
         covers = v;
       },
@@ -238,6 +239,24 @@ stack_covers bs sizes clear es stack numbers s h =
     (λ i. covers (s.numbered i) (s.same i))
     ∙ covers_append (take s.count sizes) (map length (topped (merged_into (drop s.count bs) es))) (take s.count bs) (topped (merged_into (drop s.count bs) es)) (covers_take s.count sizes bs h) (covers_topped (merged_into (drop s.count bs) es))
 
+filled_take : (k : ℕ) (ns : List ℕ) → list_all (nat_lt 0) ns ≡ true → list_all (nat_lt 0) (take k ns) ≡ true
+filled_take zero ns h = refl
+filled_take (suc k) [] h = refl
+filled_take (suc k) (n ∷ ns) h = both (nat_lt 0 n) (list_all (nat_lt 0) (take k ns)) (first_so (nat_lt 0 n) (list_all (nat_lt 0) ns) h) (filled_take k ns (second_so (nat_lt 0 n) (list_all (nat_lt 0) ns) h))
+
+filled_append : (ns ms : List ℕ) → list_all (nat_lt 0) ns ≡ true → list_all (nat_lt 0) ms ≡ true → list_all (nat_lt 0) (ns ++ ms) ≡ true
+filled_append [] ms h g = g
+filled_append (n ∷ ns) ms h g = both (nat_lt 0 n) (list_all (nat_lt 0) (ns ++ ms)) (first_so (nat_lt 0 n) (list_all (nat_lt 0) ns) h) (filled_append ns ms (second_so (nat_lt 0 n) (list_all (nat_lt 0) ns) h) g)
+
+filled_topped : (es : Entries) → list_all (nat_lt 0) (map length (topped es)) ≡ true
+filled_topped [] = refl
+filled_topped (e ∷ es) = both (nat_lt 0 (length (e ∷ es))) true (grind (arith, nat_tests)) refl
+
+stack_filled : (bs : List Entries) (sizes : List ℕ) (clear : ℕ) (es : Entries) (stack : List Entries) (numbers : List ℕ) → IsStacked bs sizes clear es stack numbers → list_all (nat_lt 0) sizes ≡ true → list_all (nat_lt 0) numbers ≡ true
+stack_filled bs sizes clear es stack numbers s h =
+    ap (list_all (nat_lt 0)) s.numbered
+    ∙ filled_append (take s.count sizes) (map length (topped (merged_into (drop s.count bs) es))) (filled_take s.count sizes h) (filled_topped (merged_into (drop s.count bs) es))
+
 -- rows put in
 pub with_is : (labels news : List Pairs) (bs stack : List Entries) (sizes numbers : List ℕ) (clear : ℕ) (es : Entries) (rows : List Row) → IsKept labels bs sizes → ascends es ≡ true →
     are_new (snap_of labels bs) rows ≡ true → are_timed rows ≡ true → news ≡ labels_with labels rows → length news < 2 ^ 32 →
@@ -255,7 +274,7 @@ with_is labels news bs stack sizes numbers clear es rows kept own new timed e fe
     let c = counts k x in
     let d = ap (times_in x) (kept_at labels bs sizes kept k) in
     omega (arith, a, b, c, d)))
-    st.doubles (stack_covers bs sizes clear es stack numbers st kept.covers)
+    (stack_filled bs sizes clear es stack numbers st kept.filled) st.doubles (stack_covers bs sizes clear es stack numbers st kept.covers)
 
 -- ---- filters
 
@@ -338,7 +357,8 @@ module _ (labels : List Pairs) (bs : List Entries) (sizes : List ℕ) (series : 
 
     pub without_is : (snap_of labels stack ≡ new) × IsKept labels stack numbers
     without_is =
-        kept_of new labels stack numbers new_snap refl (stack_sorted cut_blocks sizes c.clear [] stack numbers c.stacked (all_sorted bs kept.sorted) refl) stack_same c.stacked.doubles
+        kept_of new labels stack numbers new_snap refl (stack_sorted cut_blocks sizes c.clear [] stack numbers c.stacked (all_sorted bs kept.sorted) refl) stack_same
+        (stack_filled cut_blocks sizes c.clear [] stack numbers c.stacked kept.filled) c.stacked.doubles
         (stack_covers cut_blocks sizes c.clear [] stack numbers c.stacked (covers_map (cut_by series f t) (cut_shorter f t series) sizes bs kept.covers))
 
 pub lawful_at : (s : SnapData) (id : ℕ) → IsSnap s → id < length s.labels → is_series (samples_of s id) ≡ true

@@ -1,11 +1,14 @@
--- How many samples blocks have, and a snapshot.
-use Rattle.std.proofs.Common.{◌≡◌, ℕ, zero, suc, ◌+◌, ◌<◌, ◌≤◌, Bool, true, false, cond, List, [], ◌∷◌, length, map, refl, ap, arith}
-use Rattle.std.specs.Prelude.{nat_eq}
+-- How many samples blocks have, and a snapshot, and how few blocks there are.
+use Rattle.std.proofs.Common.{◌≡◌, ℕ, zero, suc, ◌+◌, ◌*◌, ◌^◌, ◌<◌, ◌≤◌, Bool, true, false, cond, List, [], ◌∷◌, length, map, get_or, refl, ap, arith}
+use Rattle.std.specs.Prelude.{nat_eq, nat_le, nat_lt}
+use Rattle.std.specs.Cmp.{first_so, second_so}
+use Rattle.std.specs.List.{list_all}
+use Rattle.std.proofs.Math.Nat.{pow-suc}
 use Rattle.std.proofs.lemmas.Bool.Decides.{nat_tests}
 use Rattle.std.proofs.lemmas.List.{length-append}
 use Rattle.pf_base.specs.declared.plain.Sample.{Sample}
 use Rattle.pf_block.specs.Blocks.{Entries, samples_in}
-use Rattle.pf_block.specs.Stacks.{series_from, series_in, total}
+use Rattle.pf_block.specs.Stacks.{doubles, series_from, series_in, total}
 
 -- the samples that a block has of some series
 abbrev part : ℕ → ℕ → Entries → ℕ
@@ -51,3 +54,18 @@ more_total i (suc n) b bs = let r = more_total (i + 1) n b bs in let a = length-
 pub total_most : (i n : ℕ) (bs : List Entries) → total (map length (series_from i n bs)) ≤ total (map length bs)
 total_most i n [] = let r = none_total i n in omega (arith, r)
 total_most i n (b ∷ bs) = let r = total_most i n bs in let m = more_total i n b bs in let p = part_most i n b in omega (arith, r, m, p)
+
+-- numbers that double are few
+few_by : (k n : ℕ) (ns : List ℕ) → n < 2 ^ k → list_all (nat_lt 0) (n ∷ ns) ≡ true → doubles (n ∷ ns) ≡ true → length (n ∷ ns) ≤ k
+few_by zero n ns l f d = let p = first_so (nat_lt 0 n) (list_all (nat_lt 0) ns) f in grind (arith, nat_tests)
+few_by (suc k) n [] l f d = omega arith
+few_by (suc k) n (m ∷ ns) l f d =
+    let p = pow-suc 2 k in
+    let h = first_so (nat_le (2 * m) n) (doubles (m ∷ ns)) d in
+    let q : 2 * m ≤ n = grind (arith, nat_tests) in
+    let r = few_by k m ns (omega (arith, l, p, q)) (second_so (nat_lt 0 n) (list_all (nat_lt 0) (m ∷ ns)) f) (second_so (nat_le (2 * m) n) (doubles (m ∷ ns)) d) in
+    omega (arith, r)
+
+pub few : (ns : List ℕ) → get_or ns 0 0 < 2 ^ 64 → list_all (nat_lt 0) ns ≡ true → doubles ns ≡ true → length ns ≤ 64
+few [] l f d = omega arith
+few (n ∷ ns) l f d = few_by 64 n ns l f d

@@ -40,13 +40,28 @@ covers (n ∷ ns) [] = false
 covers (n ∷ ns) (b ∷ bs) = nat_le (length b) n && covers ns bs
 
 -- what the blocks of every snapshot are, with the numbers of the rows that they were built of: each is sorted, each series'
--- samples rise from block to block, no block has samples of another series, and each number is at least twice the next
+-- samples rise from block to block, no block has samples of another series, no number is 0, and each is at least twice the
+-- next
 pub record IsKept (labels : List Pairs) (blocks : List Entries) (sizes : List ℕ) : Type 0 where
   pub snap : IsSnap (snap_of labels blocks)
   pub sorted : list_all ascends blocks ≡ true
   pub known : (id : ℕ) → length labels ≤ id → series_in id blocks ≡ []
+  pub filled : list_all (nat_lt 0) sizes ≡ true
   pub doubles : doubles sizes ≡ true
   pub covers : covers sizes blocks ≡ true
+
+-- what the numbers of rows are that a snapshot's blocks were built of: none is 0, each is at least twice the next, and
+-- together they are at least the snapshot's samples
+pub record AreSizes (s : SnapData) (sizes : List ℕ) : Type 0 where
+  pub filled : list_all (nat_lt 0) sizes ≡ true
+  pub doubles : doubles sizes ≡ true
+  pub rows : total (map length s.samples) ≤ total sizes
+
+-- some such numbers meet a fact
+pub record HasSizes (s : SnapData) (Fact : List ℕ → Type 0) : Type 0 where
+  pub sizes : List ℕ
+  pub are : AreSizes s sizes
+  pub fact : Fact sizes
 
 -- a sample is not after a time
 abbrev pub is_not_after : ℤ → Sample → Bool

@@ -1,6 +1,8 @@
 //! How many samples the blocks of a snapshot have.
 
-ghost use Rattle.std.specs.Prelude.{◌≡◌, ◌<◌, length, slice_index_or};
+ghost use Rattle.std.specs.Prelude.{◌≡◌, ◌<◌, ◌≤◌, true, length, nat_lt, slice_index_or};
+ghost use Rattle.std.specs.List.{list_all};
+ghost use Rattle.pf_block.specs.Stacks.{doubles};
 
 use std::marker::Model;
 
@@ -26,10 +28,26 @@ fn rows_of(sizes: &[usize], place: usize) -> u64
     sizes[place] as u64
 }
 
+/// The number of samples of the oldest block, 0 where there is none.
+fn oldest(sizes: &[usize]) -> u64
+    ensures { result ≡ slice_index_or sizes.now 0 0 }
+{
+    if sizes.is_empty() {
+        0
+    } else {
+        rows_of(sizes, 0)
+    }
+}
+
 impl<'a> BlockSizes<'a> {
+    /// Over numbers none of which is 0, and each at least twice the next: the oldest fits 64 bits, so they are few.
     pub(crate) fn of(sizes: &'a [usize]) -> BlockSizes<'a>
-        ensures { result ≡ sizes.now }
+        requires filled { list_all (nat_lt 0) sizes.now ≡ true }
+        requires doubles { doubles sizes.now ≡ true }
+        ensures sizes { result ≡ sizes.now }
+        ensures few { length sizes.now ≤ 64 }
     {
+        let _most = oldest(sizes);
         BlockSizes { sizes }
     }
 

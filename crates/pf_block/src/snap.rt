@@ -1,14 +1,14 @@
 //! A tenant's series and samples at a point of its log.
 
-ghost use Rattle.std.specs.Prelude.{◌≡◌, ◌<◌, ◌≤◌, ◌++◌, true, IfOk, length, vec_len, slice_index_or, nat_le, map, drop};
-ghost use Rattle.std.specs.List.{All};
+ghost use Rattle.std.specs.Prelude.{◌≡◌, ◌<◌, ◌≤◌, ◌++◌, true, IfOk, length, vec_len, slice_index_or, nat_le, nat_lt, map, drop};
+ghost use Rattle.std.specs.List.{All, list_all};
 ghost use Rattle.std.specs.Arc.{arc_value};
 ghost use Rattle.pf_block.specs.Blocks.{entries_of, entry_of, labels_with, noted, number_of};
 ghost use Rattle.pf_block.specs.Samples.{window_of, last_of};
 ghost use Rattle.pf_base.specs.LabelSets.{IsLabels};
 ghost use Rattle.pf_block.specs.LabelOrders.{ids_by_label};
 ghost use Rattle.pf_block.specs.SeriesIds.{id_of, ids_with};
-ghost use Rattle.pf_block.specs.Stacks.{doubles, total};
+ghost use Rattle.pf_block.specs.Stacks.{HasSizes, doubles, total};
 ghost use Rattle.pf_block.specs.Snaps.{IsSnap, empty_snap, labels_of, samples_of, held_at, with_rows, are_new, are_timed, without_rows, sample_of};
 
 use crate::block::{Block, Entry};
@@ -254,8 +254,31 @@ impl Snap {
     pub fn block_sizes(&self) -> BlockSizes<'_>
         ensures doubles { doubles result ≡ true }
         ensures rows { total (map length self.now.samples) ≤ total result }
+        ensures filled { list_all (nat_lt 0) result ≡ true }
+        ensures few { length result ≤ 64 }
     {
         let _blocks = &self.blocks;
         BlockSizes::of(&self.sizes)
+    }
+
+    /// The number of blocks.
+    pub fn block_count(&self) -> u32
+        ensures sizes { HasSizes self.now (λ sizes. result ≡ length sizes) }
+        ensures few { result ≤ 64 }
+    {
+        self.block_sizes().count() as u32
+    }
+
+    /// The number of samples that a block was built of, counted from the oldest, and 0 where there is no further block.
+    pub fn block_rows(&self, i: u32) -> u64
+        ensures { HasSizes self.now (λ sizes. result ≡ slice_index_or sizes i 0) }
+    {
+        let sizes = self.block_sizes();
+        let place = i as usize;
+        if place < sizes.count() {
+            sizes.rows(place)
+        } else {
+            0
+        }
     }
 }
