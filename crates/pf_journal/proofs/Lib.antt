@@ -1,8 +1,10 @@
 mod CacheSessions
+pub mod Ending
 mod Examples
 pub mod FrozenSteps
 pub mod Going
 pub mod Growing
+mod Named
 pub mod Opened
 mod Pages
 mod Sessions

@@ -1,0 +1,539 @@
+-- A run of a script's first lines can be ended: the lines behind get replies that are allowed, with at most some cancels.
+use Rattle.std.proofs.Common.{◌≡◌, ℕ, zero, suc, ◌+◌, ◌<◌, ◌≤◌, ◌⊎◌, inl, inr, Bool, true, false, Option, Some, None, List, [], ◌∷◌, ◌++◌, drop, length, slice_get, take, nat_eq, refl, sym, ap, ◌∙◌, subst, append-nil, append_assoc, arith}
+use Rattle.std.proofs.lemmas.Bool.{le-ltb, ne_eqb}
+use Rattle.std.proofs.lemmas.Bool.Decides.{nat_tests}
+use Rattle.std.proofs.lemmas.List.{length-append}
+use Rattle.std.proofs.lemmas.List.Elements.{filter-append}
+use Rattle.std.proofs.lemmas.Slice.Eq.{bytes_eq-Decides}
+use Rattle.std.specs.Str.{bytes_eq}
+use Rattle.pf_base.specs.declared.plain.Limits.{Limits}
+use Rattle.pf_model.specs.Lists.{Each, first_with}
+use Rattle.pf_journal.proofs.Going.{NeverStops, going, ran-snoc, runs_to_end, runs_to_stop, text_grows, text_stays, turn_behind, woven_enters, woven_stays}
+use Rattle.pf_journal.proofs.Growing.{hands_behind, moments-snoc}
+use Rattle.pf_journal.proofs.Named.{all_named}
+use Rattle.pf_journal.proofs.Opened.{IsAmong, all_above, all_own, asked_at, found_among, opened}
+use Rattle.pf_journal.specs.Entered.{IsOfAsk, what_of}
+use Rattle.pf_journal.specs.Legal.{IsLawful, Legal, Moment, machine_after, moments, moments_from}
+use Rattle.pf_journal.specs.Machine.{CancelsOpen, Entry, HasRoom, Machine, Open, What, append, delete, ask, full, no_tenant, cancel, answer, cancelled_at, next, open_at, reserved, started}
+use Rattle.pf_journal.specs.Replies.{reply_of}
+use Rattle.pf_journal.specs.Report.{client_text}
+use Rattle.pf_journal.specs.Rest.{Known, Told, nothing, no_memory, of_plan, of_take, of_done, of_keep, Why, at_end, at_full, at_memory}
+use Rattle.pf_journal.specs.Scripts as script
+use Rattle.pf_journal.specs.Scripts.{Line, Numbered}
+use Rattle.pf_journal.specs.Steps.{plan_refused, planned_before, busy, none_waits, empty, lacked, keep_refused, unplanned}
+use Rattle.pf_journal.specs.Turns.{Turn, answer_of, asker_of, cancel_of, entered_above, holds, moment_of, own_moments, place_of, ran_lines}
+use Rattle.pf_journal.specs.Unentered.{HasNoQuery, HasQuery, IsOpen, IsUncancelled, Unentered}
+use Rattle.pf_journal.specs.Weave.{FoundRoom, IsLineOf, IsMatched, RunsTo, Woven, failed_answers, failed_in, failed_told, is_500, stops_at}
+
+-- ---- lists
+
+bool_cases : (b : Bool) → (b ≡ true) ⊎ (b ≡ false)
+bool_cases true = inl refl
+bool_cases false = inr refl
+
+none_cases : {X : Type 0} (o : Option X) → (o ≡ None) ⊎ (o ≡ None → ⊥)
+none_cases None = inl refl
+none_cases (Some x) = inr (λ e. cc)
+
+each_so : {X : Type 0} (P Q : X → Type 0) → ((x : X) → P x → Q x) → (xs : List X) → Each P xs → Each Q xs
+each_so P Q f [] h = tt
+each_so P Q f (x ∷ xs) h = (f x h.0, each_so P Q f xs h.1)
+
+each_append : {X : Type 0} (P : X → Type 0) (xs ys : List X) → Each P xs → Each P ys → Each P (xs ++ ys)
+each_append P [] ys h k = k
+each_append P (x ∷ xs) ys h k = (h.0, each_append P xs ys h.1 k)
+
+none_with : {X : Type 0} (p : X → Bool) (xs : List X) → Each (λ x. p x ≡ false) xs → first_with p xs ≡ None
+none_with p [] h = refl
+none_with p (x ∷ xs) h = rw h.0 (none_with p xs h.1)
+
+last_with : {X : Type 0} (p : X → Bool) (xs : List X) (x : X) → Each (λ y. p y ≡ false) xs → p x ≡ true → first_with p (xs ++ x ∷ []) ≡ Some x
+last_with p [] x h t = rw t refl
+last_with p (y ∷ xs) x h t = rw h.0 (last_with p xs x h.1 t)
+
+drop_there : {X : Type 0} (xs : List X) (n : ℕ) (x : X) (left : List X) → drop n xs ≡ x ∷ left → slice_get xs n ≡ Some x
+drop_there [] zero x left h = cc
+drop_there [] (suc n) x left h = cc
+drop_there (y ∷ xs) zero x left h = let same : y ≡ x = cc in ap Some same
+drop_there (y ∷ xs) (suc n) x left h = drop_there xs n x left h
+
+drop_next : {X : Type 0} (xs : List X) (n : ℕ) (x : X) (left : List X) → drop n xs ≡ x ∷ left → drop (suc n) xs ≡ left
+drop_next [] zero x left h = cc
+drop_next [] (suc n) x left h = cc
+drop_next (y ∷ xs) zero x left h = cc
+drop_next (y ∷ xs) (suc n) x left h = drop_next xs n x left h
+
+-- ---- lines below
+
+line_below : (ls : List Numbered) (k n : ℕ) → Each (λ l. l.number < n) ls → IsLineOf ls k → k < n
+line_below [] k n h there = absurd there
+line_below (l ∷ ls) k n h (inl same) = let low = h.0 in omega (arith, low, same)
+line_below (l ∷ ls) k n h (inr there) = line_below ls k n h.1 there
+
+own_below : (own : List Moment) (ls : List Numbered) (n : ℕ) → Each (λ l. l.number < n) ls
+    → Each (λ x. IsLineOf ls x.entry.line) own → Each (λ x. x.entry.line < n) own
+own_below own ls n low lined = each_so _ _ (λ x h. line_below ls x.entry.line n low h) own lined
+
+ran_below : (ls : List Numbered) (told : List Told) (n : ℕ) → Each (λ l. l.number < n) (take (length told) ls)
+    → Each (λ r. r.line.number < n) (ran_lines ls told)
+ran_below [] told n h = tt
+ran_below (l ∷ ls) [] n h = tt
+ran_below (l ∷ ls) (t ∷ told) n h = (h.0, ran_below ls told n h.1)
+
+apart : (own : List Moment) (n : ℕ) → Each (λ x. x.entry.line < n) own → Each (λ x. nat_eq x.entry.line n ≡ false) own
+apart own n low = each_so _ _ (λ x below. ne_eqb x.entry.line n (λ e. omega (arith, e, below))) own low
+
+-- ---- a journal with a cancel behind it
+
+-- a cancel leaves the room that its ask kept for it
+reserved_cancelled : (at place : ℕ) (qs : List Open) (o : Open) → open_at place qs ≡ Some o → o.cancelled ≡ None
+    → reserved (cancelled_at at place qs) + 1 ≡ reserved qs
+reserved_cancelled at place [] o g n = cc
+reserved_cancelled at place (q ∷ qs) o g n = elim (bool_cases (nat_eq q.place place)) [
+  | inl t ↦
+      let there : Some q ≡ Some o = rw t at g in
+      let same : q ≡ o = cc in
+      let free : q.cancelled ≡ None = subst (λ (x : Open). x.cancelled ≡ None) (sym same) n in
+      rw t (rw free (omega arith))
+  | inr t ↦
+      let there : open_at place qs ≡ Some o = rw t at g in
+      let more = reserved_cancelled at place qs o there n in
+      rw t (omega (arith, more))
+]
+
+room_after : (l : Limits) (names : List (List ℕ)) (m : Machine) (es : List Entry) → HasRoom l m → Each (IsLawful l names) (moments_from m es) → HasRoom l (machine_after m es)
+room_after l names m [] r h = r
+room_after l names m (e ∷ es) r h = room_after l names (next m e.what) es h.0.room h.1
+
+legal_room : (l : Limits) (names : List (List ℕ)) (journal : List Entry) → Legal l names journal → HasRoom l (machine_after started journal)
+legal_room l names journal h = room_after l names started journal (omega arith) h
+
+machine-snoc : (m : Machine) (journal : List Entry) (e : Entry) → machine_after m (journal ++ e ∷ []) ≡ next (machine_after m journal) e.what
+machine-snoc m [] e = refl
+machine-snoc m (x ∷ journal) e = machine-snoc (next m x.what) journal e
+
+own-snoc : (client : ℕ) (journal : List Entry) (n : ℕ) (what : What)
+    → own_moments client (moments (journal ++ record { client = client; line = n; what = what } ∷ []))
+    ≡ own_moments client (moments journal) ++ record { before = machine_after started journal; entry = record { client = client; line = n; what = what } } ∷ []
+own-snoc client journal n what =
+    let e : Entry = record { client = client; line = n; what = what } in
+    let mine : nat_eq client client ≡ true = grind (arith, nat_tests) in
+    ap (own_moments client) (moments-snoc started journal e)
+    ∙ filter-append _ (moments journal) (record { before = machine_after started journal; entry = e } ∷ []) ∙ rw mine refl
+
+answers-snoc : (journal : List Entry) (e : Entry) → is_500 e.what ≡ 0 → failed_answers (journal ++ e ∷ []) ≡ failed_answers journal
+answers-snoc [] e h = rw h refl
+answers-snoc (x ∷ journal) e h = ap (λ n. is_500 x.what + n) (answers-snoc journal e h)
+
+one_more : (told : List Told) (t : Told) → length (told ++ t ∷ []) ≡ suc (length told)
+one_more told t = length-append told (t ∷ []) ∙ omega arith
+
+told-snoc : (told : List Told) (t : Told) → failed_in t ≡ 0 → failed_told (told ++ t ∷ []) ≡ failed_told told
+told-snoc [] t h = rw h refl
+told-snoc (x ∷ told) t h = ap (λ n. failed_in x + n) (told-snoc told t h)
+
+-- a query that was neither answered nor cancelled is open
+free_query : (l : Limits) (names : List (List ℕ)) (journal : List Entry) (a : Moment) → Legal l names journal → IsAmong a (moments journal)
+    → HasQuery (what_of (Some a)) → cancel_of (Some a) (moments journal) ≡ None → answer_of (Some a) (moments journal) ≡ None
+    → (o : Open) × (open_at (place_of a) (machine_after started journal).queries ≡ Some o) × (o.cancelled ≡ None)
+free_query l names journal a legal among query uncancelled unanswered = by a.entry.what refl query where
+  by : (w : What) → a.entry.what ≡ w → HasQuery (Some w) → (o : Open) × (open_at (place_of a) (machine_after started journal).queries ≡ Some o) × (o.cancelled ≡ None)
+  by (append u batch vs entry) is q = absurd q
+  by (delete u ms from to generation entry) is q = absurd q
+  by (ask u asked pin generation floor) is q =
+      (asked_at a u asked, opened l names journal a legal among u asked pin generation floor is ∙ rw uncancelled (rw unanswered refl), refl)
+  by (full u outstanding) is q = absurd q
+  by (no_tenant name) is q = absurd q
+  by (cancel query) is q = absurd q
+  by (answer query code cached evaluated) is q = absurd q
+
+cancels_open : (o : Open) (s : Option Open) → s ≡ Some o → o.cancelled ≡ None → CancelsOpen s
+cancels_open o s e n = subst CancelsOpen (sym e) n
+
+legal_cancel : (l : Limits) (names : List (List ℕ)) (journal : List Entry) (client n query : ℕ) (o : Open) → Legal l names journal
+    → length (machine_after started journal).logs ≤ length names
+    → open_at query (machine_after started journal).queries ≡ Some o → o.cancelled ≡ None
+    → Legal l names (journal ++ record { client = client; line = n; what = cancel query } ∷ [])
+legal_cancel l names journal client n query o legal named there free =
+    let m = machine_after started journal in
+    let room = legal_room l names journal legal in
+    let fewer = reserved_cancelled m.count query m.queries o there free in
+    subst (Each (IsLawful l names)) (sym (moments-snoc started journal (record { client = client; line = n; what = cancel query })))
+    (each_append (IsLawful l names) (moments journal) _ legal (
+      record {
+        allowed = cancels_open o (open_at query m.queries) there free;
+        room = omega (arith, room, fewer);
+        named = named;
+      },
+      tt,
+    ))
+
+-- ---- whether a query may be cancelled
+
+query_cases : (w : Option What) → HasQuery w ⊎ HasNoQuery w
+query_cases None = inr tt
+query_cases (Some (append u batch vs entry)) = inr tt
+query_cases (Some (delete u ms from to generation entry)) = inr tt
+query_cases (Some (ask u asked pin generation floor)) = inl tt
+query_cases (Some (full u outstanding)) = inr tt
+query_cases (Some (no_tenant name)) = inr tt
+query_cases (Some (cancel query)) = inr tt
+query_cases (Some (answer query code cached evaluated)) = inr tt
+
+not_both : (w : Option What) → HasNoQuery w → HasQuery w → ⊥
+not_both None refused found = found
+not_both (Some (append u batch vs entry)) refused found = found
+not_both (Some (delete u ms from to generation entry)) refused found = found
+not_both (Some (ask u asked pin generation floor)) refused found = refused
+not_both (Some (full u outstanding)) refused found = found
+not_both (Some (no_tenant name)) refused found = found
+not_both (Some (cancel query)) refused found = found
+not_both (Some (answer query code cached evaluated)) refused found = found
+
+names_cases : (a b : List ℕ) → (a ≡ b) ⊎ (a ≡ b → ⊥)
+names_cases a b = by (bytes_eq a b) refl where
+  by : (t : Bool) → bytes_eq a b ≡ t → (a ≡ b) ⊎ (a ≡ b → ⊥)
+  by true e = inl ((bytes_eq-Decides a b).0 e)
+  by false e = inr (λ same. let equal = (bytes_eq-Decides a b).1 same in cc)
+
+cancel_cases : (t : Turn) (tenant : List ℕ) → (IsOpen t × (tenant ≡ asker_of t.asking)) ⊎ IsUncancelled t tenant
+cancel_cases t tenant = elim (query_cases (what_of t.asked)) [
+  | inr refused ↦ inr (λ h. not_both (what_of t.asked) refused h.0.query)
+  | inl query ↦ elim (none_cases t.answered) [
+    | inr differs ↦ inr (λ h. differs h.0.unanswered)
+    | inl unanswered ↦ elim (none_cases t.cancelled) [
+      | inr differs ↦ inr (λ h. differs h.0.uncancelled)
+      | inl uncancelled ↦ elim (names_cases tenant (asker_of t.asking)) [
+        | inr differs ↦ inr (λ h. differs h.1)
+        | inl same ↦ inl (record { query = query; unanswered = unanswered; uncancelled = uncancelled }, same)
+      ]
+    ]
+  ]
+]
+
+-- ---- one line
+
+-- the numbers of lines rise, from above 0
+abbrev pub NumbersRise : List Numbered → Type 0
+NumbersRise lines = (i : ℕ) (l : Numbered) → slice_get lines i ≡ Some l → (0 < l.number) × Each (λ k. k.number < l.number) (take i lines)
+
+-- a client that ran some lines, and goes on
+record HasBegun (known : Known) (client : ℕ) (journal : List Entry) (lines : List Numbered) (told : List Told) : Type 0 where
+  legal : Legal known.limits known.names journal
+  named : length (machine_after started journal).logs ≤ length known.names
+  alone : Each (λ e. e.client ≡ client) journal
+  woven : Woven known (own_moments client (moments journal)) lines (record { told = told; why = at_end })
+  goes : NeverStops (ran_lines lines told)
+
+-- its next line, with a reply that is allowed
+record HasStepped (known : Known) (client : ℕ) (journal : List Entry) (lines : List Numbered) (told : List Told) (l : Numbered) : Type 0 where
+  last : List Entry
+  entries : List Entry
+  reply : Told
+  grown : last ≡ journal ++ entries
+  legal : Legal known.limits known.names last
+  logs : length (machine_after started last).logs ≡ length (machine_after started journal).logs
+  mine : Each (λ e. e.client ≡ client) entries
+  woven : Woven known (own_moments client (moments last)) lines (going told reply at_end)
+  answers : failed_answers last ≡ failed_answers journal
+  tries : failed_in reply ≡ 0
+  text : List ℕ
+  said : client_text known (own_moments client (moments last)) client lines (going told reply at_end)
+      ≡ client_text known (own_moments client (moments journal)) client lines (record { told = told; why = at_end }) ++ text
+  ends : (stops_at l.line reply ≡ None) ⊎ (stops_at l.line reply ≡ Some at_memory)
+
+module _ (known : Known) (client : ℕ) (journal : List Entry) (lines : List Numbered) (told : List Told)
+    (begun : HasBegun known client journal lines told) (rise : NumbersRise lines) where
+  abbrev own : List Moment
+  own = own_moments client (moments journal)
+
+  abbrev turn : Numbered → Told → Turn
+  turn l reply = turn_behind own (ran_lines lines told) (record { line = l; told = reply })
+
+  own_low : (l : Numbered) → slice_get lines (length told) ≡ Some l → Each (λ x. x.entry.line < l.number) own
+  own_low l there = own_below own (take (length told) lines) l.number (rise (length told) l there).1 begun.woven.lined
+
+  -- a line without an entry
+  stays : (l : Numbered) (reply : Told) → slice_get lines (length told) ≡ Some l → Unentered known (turn l reply) l.line reply → failed_in reply ≡ 0
+      → (stops_at l.line reply ≡ None) ⊎ (stops_at l.line reply ≡ Some at_memory) → HasStepped known client journal lines told l
+  stays l reply there unentered tries ends =
+      let none : moment_of l.number own ≡ None = none_with _ own (apart own l.number (own_low l there)) in
+      record {
+        last = journal;
+        entries = [];
+        reply = reply;
+        grown = sym (append-nil journal);
+        legal = begun.legal;
+        logs = refl;
+        mine = tt;
+        woven = woven_stays known own lines told at_end l reply begun.woven there (record {
+          matched = subst (IsMatched known (turn l reply)) (sym none) unentered;
+          roomy = subst (FoundRoom known.limits l.line) (sym none) tt;
+        });
+        answers = refl;
+        tries = tries;
+        text = reply_of known (turn l reply);
+        said = text_grows known own client lines told at_end l reply there;
+        ends = ends;
+      }
+
+  -- a line that cancels a query
+  cancels : (n : ℕ) (id : List ℕ) (line : ℕ) (tenant : List ℕ)
+      → slice_get lines (length told) ≡ Some (record { number = n; line = script.cancel id line tenant })
+      → IsOpen (turn (record { number = n; line = script.cancel id line tenant }) nothing)
+      → tenant ≡ asker_of (turn (record { number = n; line = script.cancel id line tenant }) nothing).asking
+      → HasStepped known client journal lines told (record { number = n; line = script.cancel id line tenant })
+  cancels n id line tenant there is_open same = by (moment_of line (entered_above n own)) refl is_open.query where
+    l : Numbered
+    l = record { number = n; line = script.cancel id line tenant }
+
+    all : entered_above n own ≡ moments journal
+    all = all_above n own (own_low l there) ∙ all_own client started journal begun.alone
+
+    enters : (a : Moment) → moment_of line (entered_above n own) ≡ Some a → HasQuery (what_of (Some a)) → HasStepped known client journal lines told l
+    enters a asked query =
+        let m = machine_after started journal in
+        let e : Entry = record { client = client; line = n; what = cancel (place_of a) } in
+        let x : Moment = record { before = m; entry = e } in
+        let low = own_low l there in
+        let below = ran_below lines told n (rise (length told) l there).1 in
+        let among : IsAmong a (moments journal) = found_among _ (moments journal) a (sym (ap (moment_of line) all) ∙ asked) in
+        let uncancelled : cancel_of (Some a) (moments journal) ≡ None =
+        subst (λ (xs : List Moment). cancel_of (Some a) xs ≡ None) all
+        (subst (λ (s : Option Moment). cancel_of s (entered_above n own) ≡ None) asked is_open.uncancelled) in
+        let unanswered : answer_of (Some a) (moments journal) ≡ None =
+        subst (λ (xs : List Moment). answer_of (Some a) xs ≡ None) all
+        (subst (λ (s : Option Moment). answer_of s (entered_above n own) ≡ None) asked is_open.unanswered) in
+        let free = free_query known.limits known.names journal a begun.legal among query uncancelled unanswered in
+        let room = legal_room known.limits known.names journal begun.legal in
+        let above_it : entered_above n (own ++ x ∷ []) ≡ entered_above n own =
+        filter-append _ own (x ∷ []) ∙ rw (le-ltb n n (omega arith)) (append-nil _) in
+        let made : moment_of n (own ++ x ∷ []) ≡ Some x = last_with _ own x (apart own n low) (grind (arith, nat_tests)) in
+        let turned : Turn = turn_behind (own ++ x ∷ []) (ran_lines lines told) (record { line = l; told = nothing }) in
+        let named : moment_of line (entered_above n (own ++ x ∷ [])) ≡ Some a = ap (moment_of line) above_it ∙ asked in
+        let same_own = own-snoc client journal n (cancel (place_of a)) in
+        record {
+          last = journal ++ e ∷ [];
+          entries = e ∷ [];
+          reply = nothing;
+          grown = refl;
+          legal = legal_cancel known.limits known.names journal client n (place_of a) free.0 begun.legal begun.named free.1 free.2;
+          logs = ap (λ (z : Machine). length z.logs) (machine-snoc started journal e);
+          mine = (refl, tt);
+          woven = subst (λ (xs : List Moment). Woven known xs lines (going told nothing at_end)) (sym same_own)
+              (woven_enters known own x lines told at_end l nothing begun.woven there (rise (length told) l there).0 refl low below (record {
+                matched = subst (IsMatched known turned) (sym made) ((subst (λ (s : Option Moment). IsOfAsk s (place_of a)) (sym named) refl, same), refl);
+                roomy = subst (FoundRoom known.limits l.line) (sym made) (omega (arith, room));
+              }));
+          answers = answers-snoc journal e refl;
+          tries = refl;
+          text = reply_of known turned;
+          said = ap (λ (xs : List Moment). client_text known xs client lines (going told nothing at_end)) same_own
+              ∙ text_grows known (own ++ x ∷ []) client lines told at_end l nothing there
+              ∙ ap (λ (bytes : List ℕ). bytes ++ reply_of known turned) (text_stays known own x client lines (record { told = told; why = at_end }) below);
+          ends = inl refl;
+        }
+
+    by : (s : Option Moment) → moment_of line (entered_above n own) ≡ s → HasQuery (what_of s) → HasStepped known client journal lines told l
+    by None e query = absurd query
+    by (Some a) e query = enters a e query
+
+  -- any line
+  steps : (n : ℕ) (line : Line) → slice_get lines (length told) ≡ Some (record { number = n; line = line })
+      → HasStepped known client journal lines told (record { number = n; line = line })
+  steps n (script.ingest tenant file time) there = stays _ no_memory there tt refl (inr refl)
+  steps n (script.delete tenant from to selector) there = stays _ no_memory there tt refl (inr refl)
+  steps n (script.ask id tenant start end step query) there = stays _ no_memory there tt refl (inl refl)
+  steps n (script.instant id tenant time query) there = stays _ no_memory there tt refl (inl refl)
+  steps n (script.cancel id line tenant) there = elim (cancel_cases (turn (record { number = n; line = script.cancel id line tenant }) nothing) tenant) [
+    | inl h ↦ cancels n id line tenant there h.0 h.1
+    | inr shut ↦ stays _ nothing there shut refl (inl refl)
+  ]
+  steps n (script.answer id line) there = stays _ no_memory there tt refl (inl refl)
+  steps n (script.plan id line) there = elim (query_cases (what_of (moment_of line (entered_above n own)))) [
+    | inl asked ↦ stays _ (of_plan planned_before) there asked refl (inl refl)
+    | inr refused ↦ stays _ (of_plan plan_refused) there refused refl (inl refl)
+  ]
+  steps n (script.keep id line) there = elim (query_cases (what_of (moment_of line (entered_above n own)))) [
+    | inl asked ↦ stays _ (of_keep unplanned) there asked refl (inl refl)
+    | inr refused ↦ stays _ (of_keep keep_refused) there refused refl (inl refl)
+  ]
+  steps n (script.take worker) there = elim (bool_cases (holds worker (hands_behind [] (ran_lines lines told)))) [
+    | inl t ↦ stays _ (of_take busy) there t refl (inl refl)
+    | inr t ↦ stays _ (of_take none_waits) there t refl (inl refl)
+  ]
+  steps n (script.done worker) there = elim (bool_cases (holds worker (hands_behind [] (ran_lines lines told)))) [
+    | inl t ↦ stays _ (of_done lacked) there t refl (inl refl)
+    | inr t ↦ stays _ (of_done empty) there t refl (inl refl)
+  ]
+
+  next_line : (l : Numbered) → slice_get lines (length told) ≡ Some l → HasStepped known client journal lines told l
+  next_line l there = steps l.number l.line there
+
+-- ---- a run that ends
+
+-- a run of some first lines, with the lines behind them
+record HasEnded (known : Known) (client : ℕ) (journal : List Entry) (lines : List Numbered) (told : List Told) : Type 0 where
+  last : List Entry
+  entries : List Entry
+  all : List Told
+  more : List Told
+  why : Why
+  not_full : why ≡ at_full → ⊥
+  grown : last ≡ journal ++ entries
+  replied : all ≡ told ++ more
+  legal : Legal known.limits known.names last
+  logs : length (machine_after started last).logs ≡ length (machine_after started journal).logs
+  mine : Each (λ e. e.client ≡ client) entries
+  woven : Woven known (own_moments client (moments last)) lines (record { told = all; why = why })
+  runs : RunsTo known.limits last client why (drop (length all) lines) (ran_lines lines all)
+  answers : failed_answers last ≡ failed_answers journal
+  tries : failed_told all ≡ failed_told told
+  text : List ℕ
+  said : client_text known (own_moments client (moments last)) client lines (record { told = all; why = why })
+      ≡ client_text known (own_moments client (moments journal)) client lines (record { told = told; why = at_end }) ++ text
+
+module _ (known : Known) (client : ℕ) (journal : List Entry) (lines : List Numbered) (told : List Told)
+    (begun : HasBegun known client journal lines told) where
+  -- no line is left
+  ends_here : drop (length told) lines ≡ [] → HasEnded known client journal lines told
+  ends_here left = record {
+    last = journal;
+    entries = [];
+    all = told;
+    more = [];
+    why = at_end;
+    not_full = λ e. cc;
+    grown = sym (append-nil journal);
+    replied = sym (append-nil told);
+    legal = begun.legal;
+    logs = refl;
+    mine = tt;
+    woven = begun.woven;
+    runs = subst (λ (ls : List Numbered). RunsTo known.limits journal client at_end ls (ran_lines lines told)) (sym left)
+        (runs_to_end known.limits journal client (ran_lines lines told) begun.goes);
+    answers = refl;
+    tries = refl;
+    text = [];
+    said = sym (append-nil (client_text known (own_moments client (moments journal)) client lines (record { told = told; why = at_end })));
+  }
+
+  module _ (l : Numbered) (there : slice_get lines (length told) ≡ Some l) (s : HasStepped known client journal lines told l) where
+    -- the next line stops the client
+    stops_here : stops_at l.line s.reply ≡ Some at_memory → HasEnded known client journal lines told
+    stops_here stop =
+        let w = s.woven in
+        record {
+          last = s.last;
+          entries = s.entries;
+          all = told ++ s.reply ∷ [];
+          more = s.reply ∷ [];
+          why = at_memory;
+          not_full = λ e. cc;
+          grown = s.grown;
+          replied = refl;
+          legal = s.legal;
+          logs = s.logs;
+          mine = s.mine;
+          woven = record { few = w.few; rising = w.rising; lined = w.lined; each = w.each };
+          runs = subst (RunsTo known.limits s.last client at_memory (drop (length (told ++ s.reply ∷ [])) lines)) (sym (ran-snoc lines told s.reply l there))
+              (runs_to_stop known.limits s.last client at_memory (drop (length (told ++ s.reply ∷ [])) lines) (ran_lines lines told)
+              (record { line = l; told = s.reply }) begun.goes stop tt);
+          answers = s.answers;
+          tries = told-snoc told s.reply s.tries;
+          text = s.text;
+          said = s.said;
+        }
+
+    -- or the client goes on behind it
+    begun_on : stops_at l.line s.reply ≡ None → HasBegun known client s.last lines (told ++ s.reply ∷ [])
+    begun_on goes = record {
+      legal = s.legal;
+      named = subst (λ n. n ≤ length known.names) (sym s.logs) begun.named;
+      alone = subst (Each (λ e. e.client ≡ client)) (sym s.grown) (each_append (λ e. e.client ≡ client) journal s.entries begun.alone s.mine);
+      woven = s.woven;
+      goes = subst NeverStops (sym (ran-snoc lines told s.reply l there))
+          (each_append (λ r. stops_at r.line.line r.told ≡ None) (ran_lines lines told) _ begun.goes (goes, tt));
+    }
+
+    ends_later : HasEnded known client s.last lines (told ++ s.reply ∷ []) → HasEnded known client journal lines told
+    ends_later e = record {
+      last = e.last;
+      entries = s.entries ++ e.entries;
+      all = e.all;
+      more = s.reply ∷ e.more;
+      why = e.why;
+      not_full = e.not_full;
+      grown = e.grown ∙ ap (λ (es : List Entry). es ++ e.entries) s.grown ∙ append_assoc journal s.entries e.entries;
+      replied = e.replied ∙ append_assoc told (s.reply ∷ []) e.more;
+      legal = e.legal;
+      logs = e.logs ∙ s.logs;
+      mine = each_append (λ x. x.client ≡ client) s.entries e.entries s.mine e.mine;
+      woven = e.woven;
+      runs = e.runs;
+      answers = e.answers ∙ s.answers;
+      tries = e.tries ∙ told-snoc told s.reply s.tries;
+      text = s.text ++ e.text;
+      said = e.said ∙ ap (λ (bytes : List ℕ). bytes ++ e.text) s.said
+          ∙ append_assoc (client_text known (own_moments client (moments journal)) client lines (record { told = told; why = at_end })) s.text e.text;
+    }
+
+ended : (known : Known) (client : ℕ) (lines : List Numbered) → NumbersRise lines → (left : List Numbered) (journal : List Entry) (told : List Told)
+    → drop (length told) lines ≡ left → HasBegun known client journal lines told → HasEnded known client journal lines told
+ended known client lines rise [] journal told at begun = ends_here known client journal lines told begun at
+ended known client lines rise (l ∷ left) journal told at begun =
+    let there = drop_there lines (length told) l left at in
+    let s = next_line known client journal lines told begun rise l there in
+    let at_next : drop (length (told ++ s.reply ∷ [])) lines ≡ left =
+    subst (λ n. drop n lines ≡ left) (sym (one_more told s.reply)) (drop_next lines (length told) l left at) in
+    elim s.ends [
+      | inl goes ↦ ends_later known client journal lines told begun l there s
+          (ended known client lines rise left s.last (told ++ s.reply ∷ []) at_next (begun_on known client journal lines told begun l there s goes))
+      | inr stop ↦ stops_here known client journal lines told begun l there s stop
+    ]
+
+-- the lines behind some first ones get replies that are allowed, and at most some of them cancel
+pub record CanEnd (known : Known) (client : ℕ) (journal : List Entry) (lines : List Numbered) (told : List Told) : Type 0 where
+  pub entries : List Entry
+  pub more : List Told
+  pub why : Why
+  pub not_full : why ≡ at_full → ⊥
+  pub legal : Legal known.limits known.names (journal ++ entries)
+  pub logs : length (machine_after started (journal ++ entries)).logs ≡ length (machine_after started journal).logs
+  pub mine : Each (λ e. e.client ≡ client) entries
+  pub woven : Woven known (own_moments client (moments (journal ++ entries))) lines (record { told = told ++ more; why = why })
+  pub runs : RunsTo known.limits (journal ++ entries) client why (drop (length (told ++ more)) lines) (ran_lines lines (told ++ more))
+  pub answers : failed_answers (journal ++ entries) ≡ failed_answers journal
+  pub tries : failed_told (told ++ more) ≡ failed_told told
+  pub text : List ℕ
+  pub said : client_text known (own_moments client (moments (journal ++ entries))) client lines (record { told = told ++ more; why = why })
+      ≡ client_text known (own_moments client (moments journal)) client lines (record { told = told; why = at_end }) ++ text
+
+pub can_end : (known : Known) (client : ℕ) (journal : List Entry) (lines : List Numbered) (told : List Told)
+    → Legal known.limits known.names journal → Each (λ e. e.client ≡ client) journal
+    → Woven known (own_moments client (moments journal)) lines (record { told = told; why = at_end }) → NeverStops (ran_lines lines told) → NumbersRise lines
+    → CanEnd known client journal lines told
+can_end known client journal lines told legal alone woven goes rise =
+    let named = all_named known client journal lines (record { told = told; why = at_end }) alone woven in
+    let begun : HasBegun known client journal lines told = record { legal = legal; named = named; alone = alone; woven = woven; goes = goes } in
+    let e = ended known client lines rise (drop (length told) lines) journal told refl begun in
+    record {
+      entries = e.entries;
+      more = e.more;
+      why = e.why;
+      not_full = e.not_full;
+      legal = subst (Legal known.limits known.names) e.grown e.legal;
+      logs = subst (λ (es : List Entry). length (machine_after started es).logs ≡ length (machine_after started journal).logs) e.grown e.logs;
+      mine = e.mine;
+      woven = subst (λ (es : List Entry). Woven known (own_moments client (moments es)) lines (record { told = told ++ e.more; why = e.why })) e.grown
+          (subst (λ (ts : List Told). Woven known (own_moments client (moments e.last)) lines (record { told = ts; why = e.why })) e.replied e.woven);
+      runs = subst (λ (es : List Entry). RunsTo known.limits es client e.why (drop (length (told ++ e.more)) lines) (ran_lines lines (told ++ e.more))) e.grown
+          (subst (λ (ts : List Told). RunsTo known.limits e.last client e.why (drop (length ts) lines) (ran_lines lines ts)) e.replied e.runs);
+      answers = subst (λ (es : List Entry). failed_answers es ≡ failed_answers journal) e.grown e.answers;
+      tries = subst (λ (ts : List Told). failed_told ts ≡ failed_told told) e.replied e.tries;
+      text = e.text;
+      said = subst (λ (es : List Entry). client_text known (own_moments client (moments es)) client lines (record { told = told ++ e.more; why = e.why })
+          ≡ client_text known (own_moments client (moments journal)) client lines (record { told = told; why = at_end }) ++ e.text) e.grown
+          (subst (λ (ts : List Told). client_text known (own_moments client (moments e.last)) client lines (record { told = ts; why = e.why })
+          ≡ client_text known (own_moments client (moments journal)) client lines (record { told = told; why = at_end }) ++ e.text) e.replied e.said);
+    }
