@@ -1,5 +1,5 @@
 -- A run of a script's first lines can be ended: the lines behind get replies that are allowed, with at most some cancels.
-use Rattle.std.proofs.Common.{◌≡◌, ℕ, zero, suc, ◌+◌, ◌<◌, ◌≤◌, ◌⊎◌, inl, inr, Bool, true, false, Option, Some, None, List, [], ◌∷◌, ◌++◌, drop, length, slice_get, take, nat_eq, refl, sym, ap, ◌∙◌, subst, append-nil, append_assoc, arith}
+use Rattle.std.proofs.Common.{◌≡◌, ℕ, zero, suc, ◌+◌, ◌*◌, ◌<◌, ◌≤◌, ◌⊎◌, inl, inr, Bool, true, false, Option, Some, None, List, [], ◌∷◌, ◌++◌, drop, length, slice_get, take, nat_eq, refl, sym, ap, ◌∙◌, subst, append-nil, append_assoc, arith, sum}
 use Rattle.std.proofs.lemmas.Bool.{le-ltb, ne_eqb}
 use Rattle.std.proofs.lemmas.Bool.Decides.{nat_tests}
 use Rattle.std.proofs.lemmas.List.{length-append}
@@ -8,22 +8,23 @@ use Rattle.std.proofs.lemmas.Slice.Eq.{bytes_eq-Decides}
 use Rattle.std.specs.Str.{bytes_eq}
 use Rattle.pf_base.specs.declared.plain.Limits.{Limits}
 use Rattle.pf_model.specs.Lists.{Each, first_with}
+use Rattle.pf_model.specs.Queries.{IsReading, Reading}
 use Rattle.pf_journal.proofs.Going.{NeverStops, going, ran-snoc, runs_to_end, runs_to_stop, text_grows, text_stays, turn_behind, woven_enters, woven_stays}
 use Rattle.pf_journal.proofs.Growing.{hands_behind, moments-snoc}
 use Rattle.pf_journal.proofs.Named.{all_named}
 use Rattle.pf_journal.proofs.Opened.{IsAmong, all_above, all_own, asked_at, found_among, opened}
 use Rattle.pf_journal.specs.Entered.{IsOfAsk, what_of}
-use Rattle.pf_journal.specs.Legal.{IsLawful, Legal, Moment, machine_after, moments, moments_from}
+use Rattle.pf_journal.specs.Legal.{AreNames, IsLawful, Legal, Moment, machine_after, moments, moments_from}
 use Rattle.pf_journal.specs.Machine.{CancelsOpen, Entry, HasRoom, Machine, Open, What, append, delete, ask, full, no_tenant, cancel, answer, cancelled_at, next, open_at, reserved, started}
 use Rattle.pf_journal.specs.Replies.{reply_of}
-use Rattle.pf_journal.specs.Report.{client_text}
-use Rattle.pf_journal.specs.Rest.{Known, Told, nothing, no_memory, of_plan, of_take, of_done, of_keep, Why, at_end, at_full, at_memory}
+use Rattle.pf_journal.specs.Report.{actors_from, client_text, journal_text, report}
+use Rattle.pf_journal.specs.Rest.{Client, Known, Told, nothing, no_memory, of_plan, of_take, of_done, of_keep, Why, at_end, at_full, at_memory}
 use Rattle.pf_journal.specs.Scripts as script
 use Rattle.pf_journal.specs.Scripts.{Line, Numbered}
 use Rattle.pf_journal.specs.Steps.{plan_refused, planned_before, busy, none_waits, empty, lacked, keep_refused, unplanned}
 use Rattle.pf_journal.specs.Turns.{Turn, answer_of, asker_of, cancel_of, entered_above, holds, moment_of, own_moments, place_of, ran_lines}
 use Rattle.pf_journal.specs.Unentered.{HasNoQuery, HasQuery, IsOpen, IsUncancelled, Unentered}
-use Rattle.pf_journal.specs.Weave.{FoundRoom, IsLineOf, IsMatched, RunsTo, Woven, failed_answers, failed_in, failed_told, is_500, stops_at}
+use Rattle.pf_journal.specs.Weave.{AreTried, FoundRoom, IsLineOf, IsMatched, RunsTo, Weave, Woven, failed_answers, failed_in, failed_told, is_500, stops_at}
 
 -- ---- lists
 
@@ -537,3 +538,65 @@ can_end known client journal lines told legal alone woven goes rise =
           (subst (λ (ts : List Told). client_text known (own_moments client (moments e.last)) client lines (record { told = ts; why = e.why })
           ≡ client_text known (own_moments client (moments journal)) client lines (record { told = told; why = at_end }) ++ e.text) e.replied e.said);
     }
+
+-- ---- the report
+
+-- what was printed of some first lines of the only script begins the report of the whole script
+pub record BeginsReport (known : Known) (journal : List Entry) (lines : List Numbered) (told : List Told) (failed : List ℕ) : Type 0 where
+  pub whole : List Entry
+  pub client : Client
+  pub legal : Legal known.limits known.names whole
+  pub named : AreNames known.names whole
+  pub woven : Weave known whole (lines ∷ []) (record { clients = client ∷ []; failed = failed })
+  pub not_full : client.why ≡ at_full → ⊥
+  pub text : List ℕ
+  pub said : report known whole (lines ∷ []) (record { clients = client ∷ []; failed = failed })
+      ≡ client_text known (own_moments 0 (moments journal)) 0 lines (record { told = told; why = at_end }) ++ text
+
+only_one : {X : Type 0} (x y : X) (n : ℕ) → slice_get (x ∷ []) n ≡ Some y → (n ≡ 0) × (x ≡ y)
+only_one x y zero h = (refl, cc)
+only_one x y (suc n) h = cc
+
+pub begins_report : (known : Known) (journal : List Entry) (lines : List Numbered) (told : List Told) (failed : List ℕ)
+    → Legal known.limits known.names journal → AreNames known.names journal → Each (λ e. e.client ≡ 0) journal
+    → Woven known (own_moments 0 (moments journal)) lines (record { told = told; why = at_end }) → NeverStops (ran_lines lines told) → NumbersRise lines
+    → ((text : List ℕ) (r : Reading) → known.readings text ≡ Some r → IsReading text r)
+    → AreTried journal (record { clients = record { told = told; why = at_end } ∷ []; failed = failed })
+    → BeginsReport known journal lines told failed
+begins_report known journal lines told failed legal names alone woven goes rise read tried =
+    let e = can_end known 0 journal lines told legal alone woven goes rise in
+    let c : Client = record { told = told ++ e.more; why = e.why } in
+    let all_mine : Each (λ x. x.client ≡ 0) (journal ++ e.entries) = each_append (λ x. x.client ≡ 0) journal e.entries alone e.mine in
+    let begun = client_text known (own_moments 0 (moments journal)) 0 lines (record { told = told; why = at_end }) in
+    let behind = journal_text known.names (journal ++ e.entries) ++ actors_from 0 failed in
+    record {
+      whole = journal ++ e.entries;
+      client = c;
+      legal = e.legal;
+      named = record { many = names.many ∙ sym e.logs; different = names.different };
+      woven = record {
+        many = refl;
+        each = λ client ls d at_ls at_d. each_one c (journal ++ e.entries) e.woven e.runs client ls d at_ls at_d;
+        nobody_else = each_so _ _ (λ (x : Entry) h. omega (arith, h)) (journal ++ e.entries) all_mine;
+        read = read;
+        tried = record {
+          actors = tried.actors;
+          five = subst (λ n. (sum failed ≡ 18446744073709551615) ⊎ (5 * n ≤ sum failed)) (sym e.answers) tried.five;
+          shown = subst (λ n. n + 0 ≤ sum failed) (sym e.tries) tried.shown;
+        };
+      };
+      not_full = e.not_full;
+      text = (e.text ++ []) ++ behind;
+      said = ap (λ (bytes : List ℕ). (bytes ++ []) ++ behind) e.said ∙ ap (λ (bytes : List ℕ). bytes ++ behind) (append_assoc begun e.text [])
+          ∙ append_assoc begun (e.text ++ []) behind;
+    } where
+      each_one : (c : Client) (es : List Entry) → Woven known (own_moments 0 (moments es)) lines c
+          → RunsTo known.limits es 0 c.why (drop (length c.told) lines) (ran_lines lines c.told)
+          → (client : ℕ) (ls : List Numbered) (d : Client) → slice_get (lines ∷ []) client ≡ Some ls → slice_get (c ∷ []) client ≡ Some d
+          → Woven known (own_moments client (moments es)) ls d × RunsTo known.limits es client d.why (drop (length d.told) ls) (ran_lines ls d.told)
+      each_one c es w runs client ls d at_ls at_d =
+          let one = only_one lines ls client at_ls in
+          let other = only_one c d client at_d in
+          subst (λ n. Woven known (own_moments n (moments es)) ls d × RunsTo known.limits es n d.why (drop (length d.told) ls) (ran_lines ls d.told)) (sym one.0)
+          (subst (λ (x : List Numbered). Woven known (own_moments 0 (moments es)) x d × RunsTo known.limits es 0 d.why (drop (length d.told) x) (ran_lines x d.told)) one.1
+          (subst (λ (y : Client). Woven known (own_moments 0 (moments es)) lines y × RunsTo known.limits es 0 y.why (drop (length y.told) lines) (ran_lines lines y.told)) other.1 (w, runs)))
