@@ -1,5 +1,5 @@
 -- Zeros at the end of digits.
-use Rattle.std.proofs.Common.{◌≡◌, ℕ, ◌+◌, ◌-◌, ◌<◌, ◌≤◌, Bool, true, false, cond, nat_eq, List, [], ◌∷◌, ◌++◌, length, get_or, take, refl, ap, sym, ◌∙◌, arith}
+use Rattle.std.proofs.Common.{◌≡◌, ℕ, ◌+◌, ◌<◌, ◌≤◌, Bool, true, false, cond, nat_eq, List, [], ◌∷◌, ◌++◌, length, get_or, take, refl, ap, sym, ◌∙◌, arith}
 use Rattle.std.proofs.lemmas.List.{length-take, take_more}
 use Rattle.std.proofs.lemmas.Grind.{common_steps}
 use Rattle.std.proofs.lemmas.Bool.Decides.{nat_tests}
@@ -19,29 +19,17 @@ unfolding without_end_zeros
 digit_at_end [] b h = grind (arith, nat_tests)
 digit_at_end (x ∷ xs) b h = ap (with_digit x) (digit_at_end xs b h) ∙ with_full x (xs ++ b ∷ []) (grind (arith, common_steps))
 
--- a step of the search for the end
-pub end_falls : (xs : List ℕ) (n : ℕ) → 0 < n → n ≤ length xs → get_or xs (n - 1) 0 ≡ 48 → without_end_zeros (take (n - 1) xs) ≡ without_end_zeros (take n xs)
-end_falls xs n h k e =
-    let m : n - 1 + 1 ≡ n = omega arith in
-    let t = take_more xs (n - 1) 0 (omega arith) in
-    sym (ap (λ j. without_end_zeros (take j xs)) (sym m) ∙ ap without_end_zeros (t ∙ ap (λ d. take (n - 1) xs ++ d ∷ []) e) ∙ zero_at_end (take (n - 1) xs))
+pub zero_passed : (xs : List ℕ) (i : ℕ) → i < length xs → get_or xs i 0 ≡ 48 → without_end_zeros (take (i + 1) xs) ≡ without_end_zeros (take i xs)
+zero_passed xs i h e = ap without_end_zeros (take_more xs i 0 h ∙ ap (λ d. take i xs ++ d ∷ []) e) ∙ zero_at_end (take i xs)
 
-pub end_found : (xs : List ℕ) (n : ℕ) → 0 < n → n ≤ length xs → (get_or xs (n - 1) 0 ≡ 48 → ⊥) → without_end_zeros (take n xs) ≡ take n xs
-end_found xs n h k e =
-    let m : n - 1 + 1 ≡ n = omega arith in
-    let t = take_more xs (n - 1) 0 (omega arith) in
-    let whole : take n xs ≡ take (n - 1) xs ++ get_or xs (n - 1) 0 ∷ [] = ap (λ j. take j xs) (sym m) ∙ t in
-    ap without_end_zeros whole ∙ digit_at_end (take (n - 1) xs) (get_or xs (n - 1) 0) e ∙ sym whole
+pub digit_passed : (xs : List ℕ) (i : ℕ) → i < length xs → (get_or xs i 0 ≡ 48 → ⊥) → without_end_zeros (take (i + 1) xs) ≡ take (i + 1) xs
+digit_passed xs i h e =
+    let t = take_more xs i 0 h in
+    ap without_end_zeros t ∙ digit_at_end (take i xs) (get_or xs i 0) e ∙ sym t
 
-nothing : (xs : List ℕ) → without_end_zeros (take 0 xs) ≡ take 0 xs
+pub none_left : [] ≡ without_end_zeros []
 unfolding without_end_zeros
-nothing [] = refl
-nothing (x ∷ xs) = refl
-
-pub end_none : (xs : List ℕ) (n : ℕ) → n ≤ 0 → without_end_zeros (take n xs) ≡ take n xs
-end_none xs n h =
-    let e : n ≡ 0 = omega arith in
-    ap (λ j. without_end_zeros (take j xs)) e ∙ nothing xs ∙ ap (λ j. take j xs) (sym e)
+none_left = refl
 
 take_none : (xs : List ℕ) → take 0 xs ≡ []
 take_none [] = refl

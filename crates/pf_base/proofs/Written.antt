@@ -1,7 +1,8 @@
 -- Texts written into a buffer.
-use Rattle.std.proofs.Common.{◌≡◌, ℕ, suc, ◌+◌, ◌-◌, ◌<◌, ◌≤◌, List, ◌∷◌, ◌++◌, length, take, drop, slice_set, ap, sym, ◌∙◌, arith}
+use Rattle.std.proofs.Common.{◌≡◌, ℕ, suc, ◌+◌, ◌-◌, ◌/◌, ◌%◌, ◌<◌, ◌≤◌, List, [], ◌∷◌, ◌++◌, length, take, drop, slice_set, ap, sym, ◌∙◌, arith}
 use Rattle.std.specs.Fmt.{decimal}
-use Rattle.std.proofs.lemmas.List.{drop-take, length-take, take-append-drop, take-take}
+use Rattle.std.proofs.lemmas.List.{append_assoc, drop-take, length-set, length-take, take-append-drop, take-set, take-take, take_more_set}
+use Rattle.std.proofs.lemmas.Fmt.{decimal_digit, decimal_step}
 use Rattle.std.proofs.Math.Seq.{drop-append-add, set-append_seam, take-append-add}
 use Rattle.std.proofs.lemmas.Bool.Decides.{nat_tests}
 use Rattle.pf_base.specs.NumberTexts.{fraction_text, six_digits, without_end_zeros}
@@ -10,6 +11,28 @@ use Rattle.pf_base.proofs.EndZeros.{at_most_all, front_left}
 
 length_front : (xs : List ℕ) (n m : ℕ) → n + m ≤ length xs → length (take n xs) ≡ n
 length_front xs n m h = omega (arith, length-take n xs)
+
+set_in : (old : List ℕ) (start b : ℕ) → start + 2 ≤ length old → take (start + 1) (slice_set old start b) ≡ take start old ++ b ∷ []
+set_in old start b room = take_more_set old start b (omega arith)
+
+-- one digit, over what stood at its place
+pub one_in : (old : List ℕ) (start b n : ℕ) → n < 10 → start + 2 ≤ length old
+    → take (start + 1) (slice_set (slice_set old start b) start (48 + n % 10)) ≡ take start old ++ decimal n
+one_in old start b n small room =
+    let new = slice_set old start b in
+    let digit : n % 10 ≡ n = omega arith in
+    set_in new start (48 + n % 10) (omega (arith, length-set old start b)) ∙ ap (λ l. l ++ (48 + n % 10) ∷ []) (take-set old start b)
+    ∙ ap (λ d. take start old ++ (48 + d) ∷ []) digit ∙ ap (λ l. take start old ++ l) (sym (decimal_digit n small))
+
+pub two_in : (old : List ℕ) (start n : ℕ) → 10 ≤ n → n < 100 → start + 2 ≤ length old
+    → take (start + 1 + 1) (slice_set (slice_set old start (48 + n / 10)) (start + 1) (48 + n % 10)) ≡ take start old ++ decimal n
+two_in old start n low high room =
+    let new = slice_set old start (48 + n / 10) in
+    let text : decimal n ≡ (48 + n / 10) ∷ (48 + n % 10) ∷ [] =
+    decimal_step n low (omega arith) ∙ ap (λ l. l ++ (48 + n % 10) ∷ []) (decimal_digit (n / 10) (omega arith)) in
+    take_more_set new (start + 1) (48 + n % 10) (omega (arith, length-set old start (48 + n / 10)))
+    ∙ ap (λ l. l ++ (48 + n % 10) ∷ []) (set_in old start (48 + n / 10) room)
+    ∙ append_assoc (take start old) ((48 + n / 10) ∷ []) ((48 + n % 10) ∷ []) ∙ ap (λ l. take start old ++ l) (sym text)
 
 pub point_in : (new old : List ℕ) (start r n : ℕ) → n < 1000000 → start + 7 ≤ length old → r + length (decimal (1000000 + n)) ≡ start + 7
     → drop r new ≡ decimal (1000000 + n) ++ drop (start + 7) old → take r new ≡ take r old

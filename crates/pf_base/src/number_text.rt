@@ -20,24 +20,42 @@ fn digits_in(number: u64) -> usize
     number.ilog10() as usize + 1
 }
 
+/// Writes a number below a hundred. Where it has one digit, that is written over the zero before it, so that nothing branches.
+fn write_short(number: u64, buffer: &mut [u8], at: usize) -> usize
+    requires number { number < 100 }
+    requires room { at + 2 ≤ length buffer.old }
+    ensures written { take result buffer.new ≡ take at buffer.old ++ decimal number }
+    ensures within { (at ≤ result) × (result ≤ at + 2) }
+{
+    let last = if number < 10 { at } else { at + 1 };
+    buffer[at] = b'0' + (number / 10) as u8;
+    buffer[last] = b'0' + (number % 10) as u8;
+    last + 1
+}
+
 /// Writes a number's decimal digits.
 pub fn write_number(number: u64, buffer: &mut [u8], at: usize) -> usize
     requires { at + 20 ≤ length buffer.old }
     ensures written { take result buffer.new ≡ take at buffer.old ++ decimal number }
     ensures within { (at ≤ result) × (result ≤ at + 20) }
 {
+    if number < 100 {
+        return write_short(number, buffer, at);
+    }
     let end = at + digits_in(number);
     write_digits(number, buffer, end);
     end
 }
 
-/// The digits before the zeros at the end.
+/// The digits before the zeros at the end. It goes over all digits, so that it takes as long for any.
 fn without_zeros(digits: &[u8]) -> &[u8]
     ensures { result.now ≡ without_end_zeros digits.now }
 {
-    let mut end = digits.len();
-    while end > 0 && digits[end - 1] == b'0' {
-        end -= 1;
+    let mut end = 0;
+    for i in 0..digits.len() {
+        if digits[i] != b'0' {
+            end = i + 1;
+        }
     }
     &digits[..end]
 }

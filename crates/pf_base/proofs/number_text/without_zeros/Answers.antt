@@ -1,16 +1,21 @@
-use Rattle.std.proofs.Common.{◌∙◌, sym, arith}
-use Rattle.pf_base.proofs.EndZeros.{end_falls, end_found, end_none}
+use Rattle.std.proofs.Common.{take, ap, ◌∙◌, sym, arith}
+use Rattle.pf_base.proofs.EndZeros.{digit_passed, none_left, zero_passed}
 use Rattle.pf_base.proofs.number_text.without_zeros.Goals as goal
-use Rattle.pf_base.proofs.number_text.without_zeros.Goals.{then-loop-end-test+else-digits-end-eq48, else-loop-end-test}
+use Rattle.pf_base.proofs.number_text.without_zeros.Goals.{then-digits-i-ne48, else-digits-i-ne48}
 
-pub loop-end-preserved : goal.loop-end-preserved
-loop-end-preserved c = record {
-  within = omega arith;
-  same = end_falls c.args.digits.now c.loop-end.end c.loop-end-test.true c.loop-end.invariant.within c.if-digits-end-eq48.true ∙ c.loop-end.invariant.same;
-}
+pub loop-i-init : goal.loop-i-init
+loop-i-init c = record { within = omega arith; same = none_left }
 
-pub returns : goal.returns
-returns c = elim c.loop-end-test.branch [
-  | then-loop-end-test+else-digits-end-eq48 w ↦ sym (end_found c.args.digits.now c.loop-end.end w.loop-end-test.true c.loop-end.invariant.within w.if-digits-end-eq48.false) ∙ c.loop-end.invariant.same
-  | else-loop-end-test w ↦ sym (end_none c.args.digits.now c.loop-end.end w.loop-end-test.false) ∙ c.loop-end.invariant.same
-]
+pub loop-i-preserved : goal.loop-i-preserved
+loop-i-preserved c =
+    let digits = c.args.digits.now in
+    elim c.if-digits-i-ne48.branch [
+      | then-digits-i-ne48 w ↦ record {
+        within = omega (arith, w.end-is);
+        same = ap (λ n. take n digits) w.end-is ∙ sym (digit_passed digits c.loop-i.i c.loop-i-test.true w.if-digits-i-ne48.true);
+      }
+      | else-digits-i-ne48 w ↦ record {
+        within = omega (arith, w.end-is, c.loop-i.invariant.within);
+        same = ap (λ n. take n digits) w.end-is ∙ c.loop-i.invariant.same ∙ sym (zero_passed digits c.loop-i.i c.loop-i-test.true w.if-digits-i-ne48.false);
+      }
+    ]
