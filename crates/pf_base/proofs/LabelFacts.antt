@@ -79,7 +79,7 @@ module _ (keep : List ℕ × List ℕ → Bool) where
   all_kept [] = refl
   all_kept (p ∷ ps) = all_kept_by p ps (keep p) refl (all_kept ps)
 
-  shorter : (ps : Pairs) → length (filter keep ps) ≤ length ps
+  pub shorter : (ps : Pairs) → length (filter keep ps) ≤ length ps
   shorter [] = omega arith
   shorter (p ∷ ps) =
       let t = shorter ps in

@@ -3,10 +3,11 @@ mod Numbers
 mod Written
 mod Worked
 mod EndZeros
-pub mod Hashes
 pub mod GridTimes
 mod WorkedGrids
 pub mod LabelFacts
+pub mod LabelPacking
+pub mod LabelSteps
 pub mod LeastRepeated
 pub mod Put
 pub mod Repeats

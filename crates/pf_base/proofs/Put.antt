@@ -1,11 +1,13 @@
 -- A pair put among pairs of other names.
-use Rattle.std.proofs.Common.{◌≡◌, ℕ, suc, ◌+◌, ◌<◌, ◌^◌, Bool, true, false, cond, not, ◌&&◌, List, [], ◌∷◌, length, refl, sym, ap, ◌∙◌, subst, arith, eqb, Ordering}
-use Rattle.std.specs.List.{insert, list_all}
+use Rattle.std.proofs.Common.{◌≡◌, ℕ, suc, ◌+◌, ◌-◌, ◌<◌, ◌^◌, Bool, true, false, cond, not, ◌&&◌, List, [], ◌∷◌, ◌++◌, take, drop, append_assoc, length, refl, sym, ap, ◌∙◌, subst, arith, eqb, Ordering}
+use Rattle.std.specs.Prelude.{slice_range}
+use Rattle.std.specs.List.{list_all}
 use Rattle.std.specs.Cmp.{first_so, second_so}
 use Rattle.std.specs.Cmp.Lexicographic.{slice_cmp, nat_list_cmp_total, nat_list_eq_equiv}
 use Rattle.std.specs.Ordering.{nat_cmp, is_lt, is_gt, is_eq, ordering_then, ordering_reverse}
 use Rattle.std.specs.Str.{bytes_eq}
 use Rattle.std.specs.declared.cmp.Ordering.TheVariants.{Less, Equal, Greater}
+use Rattle.std.proofs.lemmas.List.{take_rest}
 use Rattle.std.proofs.lemmas.Map.Text.{is_eq-slice_cmp}
 use Rattle.pf_base.specs.LabelSets.{Pairs, IsLabels, rises, rises_after, is_named, has_value, is_label_name, is_empty}
 use Rattle.pf_base.specs.LabelOrder.{pair_cmp}
@@ -42,18 +44,44 @@ module _ (name value : List ℕ) where
   gt_is : (p : List ℕ × List ℕ) → is_other name p ≡ true → is_gt (pair_cmp new p) ≡ not (below name p.0)
   gt_is p h = gt_by_name (slice_cmp nat_cmp name p.0) (slice_cmp nat_cmp value p.1) (apart name p h)
 
-  insert_by : (p : List ℕ × List ℕ) (ps : Pairs) (b : Bool) → insert ps (place name ps) new ≡ ins pair_cmp new ps →
-      insert (p ∷ ps) (cond b 0 (1 + place name ps)) new ≡ cond (not b) (p ∷ ins pair_cmp new ps) (new ∷ p ∷ ps)
-  insert_by p ps true e = refl
-  insert_by p ps false e =
-      let s : 1 + place name ps ≡ suc (place name ps) = omega arith in
-      ap (λ n. insert (p ∷ ps) n new) s ∙ ap (λ l. p ∷ l) e
+  -- a pair below the name's place is another's
+  other_above : (p : List ℕ × List ℕ) → below name p.0 ≡ true → is_other name p ≡ true
+  other_above p h = turned (bytes_eq p.0 name) (sym (is_eq-slice_cmp name p.0 ∙ nat_list_eq_equiv.symm name p.0)) (less_apart (slice_cmp nat_cmp name p.0) h) where
+    less_apart : (o : Ordering) → is_lt o ≡ true → is_eq o ≡ false
+    less_apart Less e = refl
+    less_apart Equal e = cc
+    less_apart Greater e = refl
 
-  insert_place : (ps : Pairs) → AreOthers ps → insert ps (place name ps) new ≡ ins pair_cmp new ps
-  insert_place [] h = refl
-  insert_place (p ∷ ps) h =
-      insert_by p ps (below name p.0) (insert_place ps (tail_others p ps h))
-      ∙ ap (λ b. cond b (p ∷ ins pair_cmp new ps) (new ∷ p ∷ ps)) (sym (gt_is p (head_other p ps h)))
+    turned : (b : Bool) → b ≡ is_eq (slice_cmp nat_cmp name p.0) → is_eq (slice_cmp nat_cmp name p.0) ≡ false → not b ≡ true
+    turned b e f = ap not (e ∙ f)
+
+  abbrev Splits : Pairs → ℕ → Type 0
+  Splits ps k = ins pair_cmp new (others name ps) ≡ others name (take k ps) ++ new ∷ others name (drop k ps)
+
+  split_here : (p : List ℕ × List ℕ) (ps : Pairs) → below name p.0 ≡ true → Splits (p ∷ ps) 0
+  split_here p ps h =
+      let o : is_other name p ≡ true = other_above p h in
+      let all : others name (p ∷ ps) ≡ p ∷ others name ps = ap (λ b. cond b (p ∷ others name ps) (others name ps)) o in
+      ap (ins pair_cmp new) all
+      ∙ ap (λ b. cond b (p ∷ ins pair_cmp new (others name ps)) (new ∷ p ∷ others name ps)) (gt_is p o ∙ ap not h)
+      ∙ ap (λ l. new ∷ l) (sym all)
+
+  later_by : (p : List ℕ × List ℕ) (xs ys zs : Pairs) (o : Bool) → is_other name p ≡ o → below name p.0 ≡ false → ins pair_cmp new xs ≡ ys ++ new ∷ zs
+      → ins pair_cmp new (cond o (p ∷ xs) xs) ≡ cond o (p ∷ ys) ys ++ new ∷ zs
+  later_by p xs ys zs true o h t =
+      ap (λ b. cond b (p ∷ ins pair_cmp new xs) (new ∷ p ∷ xs)) (gt_is p o ∙ ap not h) ∙ ap (λ l. p ∷ l) t
+  later_by p xs ys zs false o h t = t
+
+  split_later : (p : List ℕ × List ℕ) (ps : Pairs) (k : ℕ) → below name p.0 ≡ false → Splits ps k → Splits (p ∷ ps) (suc k)
+  split_later p ps k h t = later_by p (others name ps) (others name (take k ps)) (others name (drop k ps)) (is_other name p) refl h t
+
+  split_by : (p : List ℕ × List ℕ) (ps : Pairs) (b : Bool) → below name p.0 ≡ b → Splits ps (place name ps) → Splits (p ∷ ps) (cond b 0 (1 + place name ps))
+  split_by p ps true h t = split_here p ps h
+  split_by p ps false h t = let s : suc (place name ps) ≡ 1 + place name ps = omega arith in subst (Splits (p ∷ ps)) s (split_later p ps (place name ps) h t)
+
+  split_at_place : (ps : Pairs) → Splits ps (place name ps)
+  split_at_place [] = refl
+  split_at_place (p ∷ ps) = split_by p ps (below name p.0) refl (split_at_place ps)
 
   -- ---- names still rise
 
@@ -88,9 +116,15 @@ module _ (name value : List ℕ) where
       subst (λ b. rises (cond b (p ∷ ins pair_cmp new ps) (new ∷ p ∷ ps)) ≡ true) (sym (gt_is p (head_other p ps o)))
       (first_by p ps (below name p.0) refl (head_other p ps o) h (λ k. rises_after_ins p.0 ps k h (tail_others p ps o)))
 
--- the code's insertion, at the place that it found
-pub insert_is : (name value : List ℕ) (ps : Pairs) (k : ℕ) → list_all (is_other name) ps ≡ true → k ≡ place name ps → insert ps k (name, value) ≡ ins pair_cmp (name, value) ps
-insert_is name value ps k h e = ap (λ n. insert ps n (name, value)) e ∙ insert_place name value ps h
+-- the other pairs below the place that the code found, this pair, and the other pairs from there on
+pub put_is : (name value : List ℕ) (ps : Pairs) (k n : ℕ) → k ≡ place name ps → n ≡ length ps
+    → (others name (slice_range ps 0 k) ++ (name, value) ∷ []) ++ others name (slice_range ps k n) ≡ ins pair_cmp (name, value) (others name ps)
+put_is name value ps k n e l =
+    let front : slice_range ps 0 k ≡ take k ps = ap (λ m. take m ps) (omega arith) in
+    let back : slice_range ps k n ≡ drop k ps = ap (λ m. take (m - k) (drop k ps)) l ∙ take_rest ps k in
+    (λ i. (others name (front i) ++ (name, value) ∷ []) ++ others name (back i))
+    ∙ append_assoc (others name (take k ps)) ((name, value) ∷ []) (others name (drop k ps))
+    ∙ sym (subst (Splits name value ps) (sym e) (split_at_place name value ps))
 
 pub filled : (bs : List ℕ) → false ≡ eqb (length bs) 0 → is_empty bs ≡ false
 filled [] e = sym e

@@ -6,8 +6,8 @@ pub mod GridLists
 pub mod Grids
 pub mod LabelBuild
 pub mod LabelChanges
-pub mod LabelHash
 pub mod LabelOrder
+pub mod LabelPacking
 pub mod LabelSets
 pub mod NumberScans
 pub mod NumberTexts

@@ -10,12 +10,14 @@ ghost use Rattle.pf_base.specs.LabelOrder.{labels_cmp, labels_eq, labels_total, 
 
 mod build;
 mod changes;
+mod packed;
 mod shard;
 
+use crate::labels::packed::PackedPairs;
 use crate::memory::OutOfMemory;
 use crate::text::Text;
 pub use build::is_label_name;
-use std::alloc::{AllocError, Global};
+use std::alloc::AllocError;
 use std::cmp::Ordering;
 use std::hash::{Hash, Hasher};
 use std::marker::Model;
@@ -36,31 +38,23 @@ pub enum LabelsError {
     OutOfMemory,
 }
 
-/// Pairs, and the FNV-1a hash of all of them.
-#[derive(Debug, Drop)]
-struct LabelBody {
-    hash: u64,
-    pairs: Vec<(Text, Text)>,
-}
-
 /// A label set: pairs of a name and a value in the order of their names, with distinct names and no empty value. The
-/// pairs are shared, so that a copy costs a reference count, and stand beside their hash, which comparisons for equality
-/// read first.
+/// pairs are shared, so that a copy costs a reference count.
 #[derive(Debug, Drop)]
 pub struct Labels {
-    body: Arc<LabelBody>,
+    pairs: Arc<PackedPairs>,
 }
 
 impl Model for Labels {
     ghost use Rattle.std.specs.Prelude.{List, ℕ};
     ghost use Rattle.std.specs.Arc.{arc_value};
-    ghost use Rattle.pf_base.specs.LabelHash.{IsHashed};
+    ghost use Rattle.pf_base.specs.LabelSets.{IsLabels};
 
     ghost Value = { List (List ℕ × List ℕ) };
 
-    ghost view = { λ l. (arc_value l.body).pairs.items };
+    ghost view = { λ l. arc_value l.pairs };
 
-    ghost invariant = { λ l. IsHashed (arc_value l.body).pairs.items (arc_value l.body).hash };
+    ghost invariant = { λ l. IsLabels (arc_value l.pairs) };
 }
 
 impl Clone for Labels {
@@ -70,7 +64,7 @@ impl Clone for Labels {
         ensures { IfOk result (λ l. l ≡ self.now) }
     {
         Ok(Labels {
-            body: Arc::try_clone(&self.body)?,
+            pairs: Arc::try_clone(&self.pairs)?,
         })
     }
 }
@@ -80,9 +74,8 @@ impl PartialEq for Labels {
 
     ghost laws = { partial_equiv_from_equiv labels_equiv };
 
-    #[tactic(auto, using(crate::proofs::Hashes::apart))]
     fn eq(&self, other: &Labels) -> bool {
-        self.body.hash == other.body.hash && self.body.pairs == other.body.pairs
+        self.pairs.equals(&other.pairs)
     }
 }
 
@@ -110,7 +103,7 @@ impl Ord for Labels {
     ghost matches_eq = { labels_ties };
 
     fn cmp(&self, other: &Labels) -> Ordering {
-        self.body.pairs.as_slice().cmp(other.body.pairs.as_slice())
+        self.pairs.order(&other.pairs)
     }
 }
 
@@ -120,7 +113,7 @@ impl Hash for Labels {
     ghost respects_eq = { Prim.search (hashing, rules, labels_decides) };
 
     fn hash<H: Hasher>(&self, state: &mut H) {
-        self.body.pairs.as_slice().hash(state);
+        self.pairs.feed(state);
     }
 }
 
@@ -130,17 +123,16 @@ impl Labels {
         ensures value { result ≡ length self.now }
         ensures labels { IsLabels self.now }
     {
-        self.body.pairs.len() as u32
+        self.pairs.count() as u32
     }
 
     /// The label set of these pairs.
-    fn of(alloc: Global, pairs: Vec<(Text, Text)>) -> Result<Labels, OutOfMemory>
-        requires { IsLabels pairs.items }
-        ensures { IfOk result (λ l. l ≡ pairs.items) }
+    fn of(pairs: PackedPairs) -> Result<Labels, OutOfMemory>
+        requires { IsLabels pairs }
+        ensures { IfOk result (λ l. l ≡ pairs) }
     {
-        let hash = shard::hash_all(&pairs);
         Ok(Labels {
-            body: Arc::new(alloc, LabelBody { hash, pairs })?,
+            pairs: Arc::new(pairs.allocator(), pairs)?,
         })
     }
 
@@ -148,9 +140,9 @@ impl Labels {
     pub fn get(&self, name: &str) -> &str
         ensures { result.now ≡ value_of self.now name.now }
     {
-        for pair in self.body.pairs.iter() {
-            if pair.0.as_str() == name {
-                return pair.1.as_str();
+        for i in 0..self.pairs.count() {
+            if self.pairs.name(i) == name {
+                return self.pairs.value(i);
             }
         }
         ""
@@ -161,8 +153,7 @@ impl Labels {
         requires { i < length self.now }
         ensures { result.now ≡ name_at self.now i }
     {
-        let pair = &self.body.pairs[i as usize];
-        pair.0.as_str()
+        self.pairs.name(i as usize)
     }
 
     /// The value of a pair, in label order.
@@ -170,7 +161,6 @@ impl Labels {
         requires { i < length self.now }
         ensures { result.now ≡ value_at self.now i }
     {
-        let pair = &self.body.pairs[i as usize];
-        pair.1.as_str()
+        self.pairs.value(i as usize)
     }
 }

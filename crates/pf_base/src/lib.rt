@@ -4,8 +4,8 @@
 //! list of pairs of bytes, a grid's three numbers), and each call's contract gives its result by a definition over that
 //! data. So equality, order and hash are those of the data, and sorts and maps above can rest on them.
 //!
-//! A label set lies as one shared vector of pairs of texts in the order of their names, beside the hash of them all:
-//! building one takes two allocations a pair and two for the vector, copying one raises a count of references, and
+//! A label set lies as one text of all its names and values in the order of the names, beside the places where each ends
+//! and the hash of them all: building one takes three allocations, copying one raises a count of references, and
 //! comparing two for equality reads their hashes, and their bytes where those are equal. For example,
 //! `Labels::build(alloc, pairs)?` sorts the pairs, drops those with an empty value, and refuses a bad name, a name that
 //! stands twice, and more than 64 pairs, in this order.

@@ -8,6 +8,7 @@ ghost use Rattle.pf_base.specs.LabelBuild.{bad_name, build_of, Answers};
 ghost use Rattle.pf_base.specs.LabelWalk.{repeated_name};
 ghost use Rattle.pf_base.specs.Sorting.{isort};
 
+use crate::labels::packed::PackedPairs;
 use crate::labels::{Labels, LabelsError};
 use crate::memory::OutOfMemory;
 use crate::text::Text;
@@ -107,6 +108,27 @@ fn with_values(mut pairs: Vec<(Text, Text)>) -> Vec<(Text, Text)>
     pairs
 }
 
+/// The bytes of all names and values: `usize::MAX` where they are more.
+fn byte_count(pairs: &[(Text, Text)]) -> usize {
+    let mut bytes: usize = 0;
+    for pair in pairs {
+        bytes = bytes
+            .saturating_add(pair.0.as_str().len())
+            .saturating_add(pair.1.as_str().len());
+    }
+    bytes
+}
+
+fn pack(alloc: Global, pairs: &[(Text, Text)]) -> Result<PackedPairs, OutOfMemory>
+    ensures { IfOk result (λ p. p ≡ pairs.now) }
+{
+    let mut found = PackedPairs::with_capacity(alloc, pairs.len(), byte_count(pairs))?;
+    for pair in pairs {
+        found = found.with_pair(pair.0.as_str(), pair.1.as_str())?;
+    }
+    Ok(found)
+}
+
 impl Labels {
     /// The label set of these pairs, where those with an empty value count as absent. Refusals come in the order of
     /// `LabelsError`'s variants; the first two look at the pairs with an empty value too.
@@ -127,6 +149,6 @@ impl Labels {
         if kept.len() > MOST_PAIRS {
             return Err(LabelsError::TooMany);
         }
-        Ok(Labels::of(alloc, kept)?)
+        Ok(Labels::of(pack(alloc, &kept)?)?)
     }
 }

@@ -1,113 +1,165 @@
 //! Label sets made of others.
 
-ghost use Rattle.std.specs.Prelude.{◌≡◌, ◌<◌, ◌≤◌, ◌^◌, true, length, IfOk};
-ghost use Rattle.std.specs.List.{list_all};
+ghost use Rattle.std.specs.Prelude.{◌≡◌, ◌<◌, ◌≤◌, ◌^◌, ◌++◌, true, not, length, filter, slice_range, IfOk};
+ghost use Rattle.std.specs.Str.{bytes_eq};
 ghost use Rattle.pf_base.specs.LabelSets.{is_label_name};
 ghost use Rattle.pf_base.specs.LabelOrder.{pair_cmp};
-ghost use Rattle.pf_base.specs.LabelChanges.{metric_name, is_other, others, stands_in, kept, left_out, with_value};
+ghost use Rattle.pf_base.specs.LabelChanges.{metric_name, others, stands_in, kept, left_out, with_value};
 ghost use Rattle.pf_base.specs.LabelWalk.{place};
 ghost use Rattle.pf_base.specs.Sorting.{ins};
 
+use crate::labels::packed::PackedPairs;
 use crate::labels::{Labels, METRIC_NAME};
 use crate::memory::OutOfMemory;
 use crate::text::Text;
-use std::alloc::Global;
 
-fn copy_of(pair: &(Text, Text)) -> Result<(Text, Text), OutOfMemory>
-    ensures { IfOk result (λ p. p ≡ pair.now) }
-{
-    Ok((pair.0.clone()?, pair.1.clone()?))
+/// Which labels are chosen, by their names.
+trait Choice {
+    ghost use Rattle.std.specs.Prelude.{List, ℕ, Bool};
+
+    ghost is_chosen: { Self → List ℕ → Bool };
+
+    fn chooses(&self, name: &str) -> bool
+        ensures { result ≡ is_chosen self.now name.now };
 }
 
-fn is_one_of(name: &Text, names: &[Text]) -> bool
+/// All but one.
+#[derive(Clone, Copy)]
+struct Others<'a> {
+    name: &'a str,
+}
+
+/// These alone.
+#[derive(Clone, Copy)]
+struct Among<'a> {
+    names: &'a [Text],
+}
+
+/// All but these.
+#[derive(Clone, Copy)]
+struct NotAmong<'a> {
+    names: &'a [Text],
+}
+
+impl Choice for Others<'_> {
+    ghost is_chosen = { λ c name. not (bytes_eq name c.name.now) };
+
+    fn chooses(&self, name: &str) -> bool {
+        name != self.name
+    }
+}
+
+impl Choice for Among<'_> {
+    ghost is_chosen = { λ c name. stands_in c.names.now name };
+
+    fn chooses(&self, name: &str) -> bool {
+        is_one_of(name, self.names)
+    }
+}
+
+impl Choice for NotAmong<'_> {
+    ghost is_chosen = { λ c name. not (stands_in c.names.now name) };
+
+    fn chooses(&self, name: &str) -> bool {
+        !is_one_of(name, self.names)
+    }
+}
+
+fn is_one_of(name: &str, names: &[Text]) -> bool
     ensures { result ≡ stands_in names.now name.now }
 {
-    names.contains(name)
+    names.iter().any(|n| n.as_str() == name)
 }
 
-/// Copies of the pairs of the other names.
-fn others_of(
-    alloc: Global,
-    pairs: &[(Text, Text)],
-    name: &str,
-) -> Result<Vec<(Text, Text)>, OutOfMemory>
-    ensures { IfOk result (λ v. v.items ≡ others name.now pairs.now) }
+/// How many pairs are chosen, and the bytes of their names and values: `usize::MAX` where they are more.
+#[derive(Clone, Copy)]
+struct Size {
+    pairs: usize,
+    bytes: usize,
+}
+
+fn size_of_chosen<C: Choice>(pairs: &PackedPairs, choice: &C) -> Size
+    ensures { result.pairs ≡ length (filter (λ p. C.is_chosen choice.now p.0) pairs.now) }
 {
-    let mut found = Vec::new(alloc);
-    for pair in pairs {
-        if pair.0.as_str() != name {
-            found.push(copy_of(pair)?)?;
+    let mut size = Size { pairs: 0, bytes: 0 };
+    for i in 0..pairs.count() {
+        if choice.chooses(pairs.name(i)) {
+            size.pairs += 1;
+            size.bytes = size
+                .bytes
+                .saturating_add(pairs.name(i).len())
+                .saturating_add(pairs.value(i).len());
+        }
+    }
+    size
+}
+
+/// The pairs found, and those chosen of the others from one place up to another.
+fn with_chosen<C: Choice>(
+    mut found: PackedPairs,
+    pairs: &PackedPairs,
+    start: usize,
+    end: usize,
+    choice: &C,
+) -> Result<PackedPairs, OutOfMemory>
+    requires rising { start ≤ end }
+    requires bound { end ≤ length pairs.now }
+    requires few { length found < 2 ^ 32 }
+    ensures pairs { IfOk result (λ p. p ≡ found ++ filter (λ p. C.is_chosen choice.now p.0) (slice_range pairs.now start end)) }
+    ensures few { IfOk result (λ p. length p < 2 ^ 32) }
+{
+    for i in start..end {
+        if choice.chooses(pairs.name(i)) {
+            found = found.with_pair(pairs.name(i), pairs.value(i))?;
         }
     }
     Ok(found)
 }
 
-/// Copies of the pairs of these names.
-fn kept_of(
-    alloc: Global,
-    pairs: &[(Text, Text)],
-    names: &[Text],
-) -> Result<Vec<(Text, Text)>, OutOfMemory>
-    ensures { IfOk result (λ v. v.items ≡ kept names.now pairs.now) }
+/// The chosen labels. Where all are chosen, they are shared.
+fn chosen<C: Choice>(labels: &Labels, choice: &C) -> Result<Labels, OutOfMemory>
+    ensures { IfOk result (λ l. l ≡ filter (λ p. C.is_chosen choice.now p.0) labels.now) }
 {
-    let mut found = Vec::new(alloc);
-    for pair in pairs {
-        if is_one_of(&pair.0, names) {
-            found.push(copy_of(pair)?)?;
-        }
+    let size = size_of_chosen(&labels.pairs, choice);
+    let count = labels.pairs.count();
+    if size.pairs == count {
+        return Ok(labels.clone()?);
     }
-    Ok(found)
-}
-
-/// Copies of the pairs of all names but these.
-fn left_of(
-    alloc: Global,
-    pairs: &[(Text, Text)],
-    names: &[Text],
-) -> Result<Vec<(Text, Text)>, OutOfMemory>
-    ensures { IfOk result (λ v. v.items ≡ left_out names.now pairs.now) }
-{
-    let mut found = Vec::new(alloc);
-    for pair in pairs {
-        if !is_one_of(&pair.0, names) {
-            found.push(copy_of(pair)?)?;
-        }
-    }
-    Ok(found)
+    let empty = PackedPairs::with_capacity(labels.pairs.allocator(), size.pairs, size.bytes)?;
+    Labels::of(with_chosen(empty, &labels.pairs, 0, count, choice)?)
 }
 
 /// The place at which a name belongs among the pairs of other names.
-fn place_of(pairs: &[(Text, Text)], name: &str) -> usize
+fn place_of(pairs: &PackedPairs, name: &str) -> usize
     ensures place { result ≡ place name.now pairs.now }
     ensures bound { result ≤ length pairs.now }
 {
-    for (i, pair) in pairs.iter().enumerate() {
-        if name < pair.0.as_str() {
+    for i in 0..pairs.count() {
+        if name < pairs.name(i) {
             return i;
         }
     }
-    pairs.len()
+    pairs.count()
 }
 
-/// The pairs of other names with this pair in its place. A set whose size would pass 32 bits is past any memory.
-#[tactic(auto, using(crate::proofs::Put::insert_is))]
-fn put(
-    alloc: Global,
-    mut pairs: Vec<(Text, Text)>,
-    name: &str,
-    value: &str,
-) -> Result<Vec<(Text, Text)>, OutOfMemory>
-    requires { list_all (is_other name.now) pairs.items ≡ true }
-    ensures items { IfOk result (λ v. v.items ≡ ins pair_cmp (name.now, value.now) pairs.items) }
-    ensures few { IfOk result (λ v. length v.items < 2 ^ 32) }
+/// The pairs of other names with this pair in its place.
+fn put(pairs: &PackedPairs, name: &str, value: &str) -> Result<PackedPairs, OutOfMemory>
+    ensures pairs { IfOk result (λ p. p ≡ ins pair_cmp (name.now, value.now) (others name.now pairs.now)) }
+    ensures few { IfOk result (λ p. length p < 2 ^ 32) }
 {
-    if pairs.len() >= u32::MAX as usize {
-        return Err(OutOfMemory);
-    }
-    let place = place_of(&pairs, name);
-    let pair = (Text::of(alloc, name)?, Text::of(alloc, value)?);
-    pairs.insert(place, pair)?;
-    Ok(pairs)
+    let choice = Others { name };
+    let size = size_of_chosen(pairs, &choice);
+    let place = place_of(pairs, name);
+    let empty = PackedPairs::with_capacity(
+        pairs.allocator(),
+        size.pairs.saturating_add(1),
+        size.bytes
+            .saturating_add(name.len())
+            .saturating_add(value.len()),
+    )?;
+    let below = with_chosen(empty, pairs, 0, place, &choice)?;
+    let joined = below.with_pair(name, value)?;
+    with_chosen(joined, pairs, place, pairs.count(), &choice)
 }
 
 impl Labels {
@@ -115,27 +167,21 @@ impl Labels {
     pub fn without_name(&self) -> Result<Labels, OutOfMemory>
         ensures { IfOk result (λ l. l ≡ others metric_name self.now) }
     {
-        let alloc = *self.body.pairs.allocator();
-        let found = others_of(alloc, &self.body.pairs, METRIC_NAME)?;
-        Labels::of(alloc, found)
+        chosen(self, &Others { name: METRIC_NAME })
     }
 
     /// The labels of these names.
     pub fn keep(&self, names: &[Text]) -> Result<Labels, OutOfMemory>
         ensures { IfOk result (λ l. l ≡ kept names.now self.now) }
     {
-        let alloc = *self.body.pairs.allocator();
-        let found = kept_of(alloc, &self.body.pairs, names)?;
-        Labels::of(alloc, found)
+        chosen(self, &Among { names })
     }
 
     /// The labels of all names but these.
     pub fn leave_out(&self, names: &[Text]) -> Result<Labels, OutOfMemory>
         ensures { IfOk result (λ l. l ≡ left_out names.now self.now) }
     {
-        let alloc = *self.body.pairs.allocator();
-        let found = left_of(alloc, &self.body.pairs, names)?;
-        Labels::of(alloc, found)
+        chosen(self, &NotAmong { names })
     }
 
     /// These labels with the name's value set to this one, or without the name where the value is empty.
@@ -143,11 +189,9 @@ impl Labels {
         requires { is_label_name name.now ≡ true }
         ensures { IfOk result (λ l. l ≡ with_value name.now value.now self.now) }
     {
-        let alloc = *self.body.pairs.allocator();
-        let mut found = others_of(alloc, &self.body.pairs, name)?;
-        if !value.is_empty() {
-            found = put(alloc, found, name, value)?;
+        if value.is_empty() {
+            return chosen(self, &Others { name });
         }
-        Labels::of(alloc, found)
+        Labels::of(put(&self.pairs, name, value)?)
     }
 }

@@ -4,11 +4,11 @@ ghost use Rattle.std.specs.Prelude.{◌≡◌, ◌≤◌};
 ghost use Rattle.pf_base.specs.LabelChanges.{metric_name, others};
 ghost use Rattle.pf_base.specs.ShardHash.{hash_step, hash_onto, label_bytes, labels_hash, shard_of};
 
+use crate::labels::packed::PackedPairs;
 use crate::labels::{Labels, METRIC_NAME};
-use crate::text::Text;
 
-/// The offset basis of FNV with 64 bits.
-const OFFSET_BASIS: u64 = 14_695_981_039_346_656_037;
+/// The offset basis of FNV with 64 bits: the hash of no pairs.
+pub const OFFSET_BASIS: u64 = 14_695_981_039_346_656_037;
 
 /// Its prime.
 const PRIME: u64 = 1_099_511_628_211;
@@ -31,35 +31,25 @@ fn hash_bytes(mut hash: u64, bytes: &[u8]) -> u64
     hash
 }
 
+/// The hash after one more pair.
 #[tactic(auto, using(crate::proofs::ShardSteps::label_steps))]
-fn hash_label(hash: u64, pair: &(Text, Text)) -> u64
-    ensures { result ≡ hash_onto hash (label_bytes pair.now) }
+pub fn hash_label(hash: u64, name: &str, value: &str) -> u64
+    ensures { result ≡ hash_onto hash (label_bytes (name.now, value.now)) }
 {
-    let named = hash_bytes(hash, pair.0.as_str().as_bytes());
+    let named = hash_bytes(hash, name.as_bytes());
     let parted = hash_byte(named, END);
-    let valued = hash_bytes(parted, pair.1.as_str().as_bytes());
+    let valued = hash_bytes(parted, value.as_bytes());
     hash_byte(valued, END)
 }
 
-/// The hash of all pairs.
-pub fn hash_all(pairs: &[(Text, Text)]) -> u64
-    ensures { result ≡ labels_hash pairs.now }
-{
-    let mut hash = OFFSET_BASIS;
-    for pair in pairs {
-        hash = hash_label(hash, pair);
-    }
-    hash
-}
-
 /// The hash of all pairs but the metric name's.
-fn hash_labels(pairs: &[(Text, Text)]) -> u64
+fn hash_labels(pairs: &PackedPairs) -> u64
     ensures { result ≡ labels_hash (others metric_name pairs.now) }
 {
     let mut hash = OFFSET_BASIS;
-    for pair in pairs {
-        if pair.0.as_str() != METRIC_NAME {
-            hash = hash_label(hash, pair);
+    for i in 0..pairs.count() {
+        if pairs.name(i) != METRIC_NAME {
+            hash = hash_label(hash, pairs.name(i), pairs.value(i));
         }
     }
     hash
@@ -72,6 +62,6 @@ impl Labels {
         requires { 1 ≤ n }
         ensures { result ≡ shard_of self.now n }
     {
-        (hash_labels(&self.body.pairs) % n as u64) as u32
+        (hash_labels(&self.pairs) % n as u64) as u32
     }
 }
