@@ -2,7 +2,7 @@
 
 ghost use Rattle.std.specs.Prelude.{◌≡◌, ◌+◌, ◌++◌, ◌≤◌, filter, is_some, length, vec_capacity, IfOk, OnOk};
 ghost use Rattle.pf_base.specs.Grids.{points};
-ghost use Rattle.pf_columns.specs.Columns.{points_in, rows_in};
+ghost use Rattle.pf_columns.specs.Columns.{points_in, row_with, rows_in};
 
 use crate::column::{Column, value_of, window};
 use pf_base::{Grid, OutOfMemory, Sample, Value};
@@ -77,6 +77,28 @@ fn points_of(
     Ok(points)
 }
 
+/// Pushes the row of a column, if it has a point.
+fn push_row(
+    alloc: Global,
+    rows: &mut Vec<MatrixRow>,
+    column: &Column,
+    from: u32,
+    grid: &Grid,
+) -> Result<(), OutOfMemory>
+    requires { from + grid.now.len ≤ 4294967295 }
+    ensures { OnOk result (rows.new.items ≡ rows.old.items ++ row_with column.now.labels (points_in (points grid.now) from column.now.values)) }
+{
+    let points = points_of(alloc, &column.values, from, grid)?;
+    if points.is_empty() {
+        return Ok(());
+    }
+    rows.push(MatrixRow {
+        labels: column.labels.clone()?,
+        points,
+    })?;
+    Ok(())
+}
+
 /// A row for each column that has a point.
 pub(crate) fn rows_of(
     alloc: Global,
@@ -89,13 +111,7 @@ pub(crate) fn rows_of(
 {
     let mut rows = Vec::with_capacity(alloc, columns.len())?;
     for column in columns {
-        let points = points_of(alloc, &column.values, from, grid)?;
-        if !points.is_empty() {
-            rows.push(MatrixRow {
-                labels: column.labels.clone()?,
-                points,
-            })?;
-        }
+        push_row(alloc, &mut rows, column, from, grid)?;
     }
     Ok(rows)
 }

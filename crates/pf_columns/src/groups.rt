@@ -77,6 +77,17 @@ fn group_key(grouping: &Grouping, labels: &Labels) -> Result<Labels, OutOfMemory
     }
 }
 
+/// A key, which is shared with the last one where that is equal, so that few lie in memory where many columns have one key.
+#[tactic(auto, using(pf_base::specs::LabelOrder::labels_decides))]
+fn shared_with(last: Option<&Labels>, key: Labels) -> Result<Labels, OutOfMemory>
+    ensures { IfOk result (λ l. l ≡ key) }
+{
+    match last {
+        Some(last) if *last == key => Ok(last.clone()?),
+        _ => Ok(key),
+    }
+}
+
 /// The key of each column.
 fn keys_of(
     alloc: Global,
@@ -87,7 +98,9 @@ fn keys_of(
 {
     let mut found = Vec::with_capacity(alloc, columns.len())?;
     for column in columns {
-        found.push(group_key(grouping, &column.labels)?)?;
+        let key = group_key(grouping, &column.labels)?;
+        let key = shared_with(found.last(), key)?;
+        found.push(key)?;
     }
     Ok(found)
 }
