@@ -118,8 +118,12 @@ pub fn heads_of(alloc: Global, points: &[Sample]) -> Result<Vec<Head>, OutOfMemo
 /// The most heads that are passed for one point, so that a row with few points is not walked past all heads.
 const PASSED: usize = 8;
 
-/// The place of the first head from here on that isn't before the time, or how far the search went.
+/// The place of the first head from here on that isn't before the time, or how far the search went. Mostly it is the next one.
 pub fn seek(heads: &[Head], from: usize, time: u64) -> usize {
+    let next = from.saturating_add(1);
+    if next < heads.len() && heads[next].time() == time {
+        return next;
+    }
     let end = heads.len().min(from.saturating_add(PASSED));
     let mut place = from;
     while place < end && heads[place].time() < time {
