@@ -286,12 +286,12 @@ fn call_for(out: &mut Output, table: &mut Table, verb: &str, words: &str)
             out.text("closed");
         }
         "starve" => {
-            table.stop(query, Stop::Starved);
+            table.lack_query(query);
             out.text("stopped");
         }
         "cancel" => {
             let place = out.number(rest);
-            table.stop(query, Stop::Cancelled { place });
+            table.cancel(query, place);
             out.text("stopped");
         }
         _ => out.refuse(),

@@ -5,7 +5,7 @@ use Rattle.pf_base.specs.declared.plain.Limits.{Limits}
 use Rattle.pf_journal.specs.Legal.{AreNames, Legal, machine_after}
 use Rattle.pf_journal.specs.Machine.{Entry, started}
 use Rattle.pf_model.specs.Lists.{Each}
-use Rattle.pf_query.specs.Tables.{EntryData, IsNew, IsTable, entry_in, waiting_of}
+use Rattle.pf_query.specs.Tables.{EntryData, IsNew, IsTable, entry_in, tried_of, waiting_of}
 use Rattle.pf_query.specs.declared.job.Job.{Job}
 use Rattle.lru.specs.LruCache.{lru_cache}
 use Rattle.pf_core.specs.Cores.{AreCovered, AreLimits, KeepsTruth, started_core}
@@ -16,7 +16,6 @@ use Rattle.pf_core.specs.States.{AreCounts, AreJobs, HasHistory, IsKept, IsOutst
 use Rattle.pf_core.specs.declared.entry.Entry as code
 use Rattle.pf_core.specs.declared.query.Query.{Query}
 use Rattle.pf_core.specs.declared.state.State.{State}
-use Rattle.pf_core.proofs.Covered.{none_tried}
 use Rattle.pf_core.proofs.Standing.{stands}
 use Rattle.pf_core.proofs.Tenanted.{head_of}
 
@@ -29,7 +28,7 @@ begun_core s limits l t j n f c = λ i. record {
   limits = l i;
   names = (t i).names;
   journal = map entry_of (j i);
-  progress = progress_of (machine_after started (map entry_of (j i))).queries (entry_in s.table);
+  progress = progress_of (machine_after started (map entry_of (j i))).queries (entry_in s.table) (tried_of s.table);
   queues = by_tenant (λ u. record { waiting = map head_of (n.queues.waiting u i); hands = n.queues.hands u i });
   ring = n.queues.ring i;
   failed = f i;
@@ -67,7 +66,7 @@ begun_history s limits t kept room j =
 
 -- nothing was tried
 begun_covered : (l : Limits) → AreCovered (started_core l)
-begun_covered l = inr (let none = none_tried in omega (arith, none))
+begun_covered l = inr (omega arith)
 
 -- nothing is kept
 begun_truth : (l : Limits) → KeepsTruth (started_core l)

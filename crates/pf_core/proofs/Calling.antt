@@ -2,6 +2,8 @@
 use Rattle.std.proofs.Common.{◌≡◌, ◌⊎◌, ℕ, ◌+◌, ◌*◌, ◌/◌, ◌%◌, ◌<◌, ◌≤◌, inl, inr, Bool, true, false, cond, map, nat_eq, Option, Some, None, List, [], ◌∷◌, ◌++◌, length, refl, sym, ap, ◌∙◌, arith, subst, slice_get}
 use Rattle.std.specs.Arc.{arc_value}
 use Rattle.std.specs.Prelude.{MatchOption, sum}
+use Rattle.std.proofs.Math.Nat.{min-le_left}
+use Rattle.std.proofs.lemmas.Bool.Decides.{nat_tests}
 use Rattle.std.proofs.lemmas.Option.{slice_get_within}
 use Rattle.pf_base.specs.GridLists.{GridData}
 use Rattle.pf_base.specs.Grids.{points}
@@ -21,8 +23,8 @@ use Rattle.pf_query.specs.Queueing as queues
 use Rattle.pf_query.specs.Queueing.{put_last}
 use Rattle.pf_shard.specs.declared.parts.Part.{Part}
 use Rattle.pf_query.specs.Tables as table
-use Rattle.pf_query.specs.Tables.{EntryData, IsHeldOf, IsSameTable, IsTable, Stops, entry_in, hands_of, ring_of, stopped, waiting_of}
-use Rattle.pf_query.specs.Entries.{is_planned, stop_after}
+use Rattle.pf_query.specs.Tables.{CountsTry, CountsTryIf, EntryData, IsHeldOf, IsSameTable, IsTable, KeepsTried, Stops, entry_in, hands_of, ring_of, stopped, tried_of, waiting_of}
+use Rattle.pf_query.specs.Entries.{is_planned, most_tries, one_more, stop_after}
 use Rattle.pf_query.specs.Works.{WorkData, filled, last_of, legs_in, planned_work}
 use Rattle.pf_query.specs.declared.answers.FailedTry.TheVariants as failed
 use Rattle.pf_query.specs.declared.answers.PlanError.{PlanError}
@@ -39,19 +41,20 @@ use Rattle.pf_shard.specs.Lawful.{ResolvedLegs, leg_count, legs_data}
 use Rattle.pf_shard.specs.LegParts.{FitsNodes}
 use Rattle.pf_core.specs.Asks.{as_opened, opened_at}
 use Rattle.pf_core.specs.Cached.{cached_steps, is_offered_at_once, wanted_runs}
-use Rattle.pf_core.specs.Calls.{ChangesQueue, IsNotHeld, IsOpenWith, IsPartOf, IsPlannedBefore, IsReleased, IsStoppedBy, IsTaken, IsTried, IsUnplanned, IsWhole, StandsForAsk, StopsQuery, counted, is_in_hand, leg_count_of, planned_by, planned_for, ring_with}
-use Rattle.pf_core.specs.Cores.{AreCovered, CoreData, HasQueue, IsSameHistory, open_tries, queue_at}
+use Rattle.pf_core.specs.Calls.{ChangesQueue, IsNotHeld, IsOpenWith, IsPartOf, IsPlannedBefore, IsReleased, IsStoppedBy, IsTaken, IsTried, IsUnplanned, IsWhole, Releases, StandsForAsk, StopsQuery, counted, is_in_hand, leg_count_of, planned_by, planned_for, ring_with, tried_after}
+use Rattle.pf_core.specs.Cores.{AreCovered, CoreData, HasQueue, IsSameHistory, queue_at}
 use Rattle.pf_core.specs.Entries.{entry_of}
 use Rattle.pf_core.specs.Divisions.{IsPlannedFirst}
-use Rattle.pf_core.specs.Jobs.{AreDivided, IsForAsk, IsLegsOf, IsRunOf, IsValueOver, QueueHeads, by_tenant, failures_after, legs_asked, planned_heads, tried_in}
+use Rattle.pf_core.specs.Jobs.{AreDivided, IsForAsk, IsLegsOf, IsRunOf, IsValueOver, QueueHeads, by_tenant, failures_after, legs_asked, planned_heads}
 use Rattle.pf_core.specs.Progress as progress
-use Rattle.pf_core.specs.Progress.{QueryProgress, begun, cancel_in, exhausted_in, planned, progress_at, with_progress}
+use Rattle.pf_core.specs.Progress.{QueryProgress, begun, cancel_in, exhausted, planned, progress_at, tried_in, tried_once, with_progress}
 use Rattle.pf_core.specs.States.{AreCounts, IsAhead, IsEntryOf, IsOutstanding, IsState, IsWorkOf, JobStands, KeepsFailures, KeepsHistory, core_of, far_of, heads_in, machine_in, progress_of}
 use Rattle.pf_core.specs.declared.state.State.{State}
 use Rattle.pf_core.proofs.Asked.{asked_open}
-use Rattle.pf_core.proofs.Covered.{covered_ahead, covered_less, tried_added, tried_back, tried_dropped, tried_hands, tried_left, tried_released, tried_table, tried_taken, untried}
+use Rattle.pf_core.proofs.Covered.{covered_ahead, covered_less}
+use Rattle.pf_core.proofs.Machines.{bool_cases}
 use Rattle.pf_core.proofs.Outstanding.{closed_there, each_filter, each_front, entry_there, jobs_with, none_there, open_there, outstanding_same, outstanding_set}
-use Rattle.pf_core.proofs.Progressing.{exhausted_no_more, exhausted_one, far_at, far_kept, far_set, not_by_want}
+use Rattle.pf_core.proofs.Progressing.{far_at, far_kept, far_set, over_once, tried_over, tries_over}
 use Rattle.pf_core.proofs.Runs.{empty_unfilled, filled_at, heads_planned, jobs_planned, run_at, same_run}
 use Rattle.pf_core.proofs.Standing.{counts_as, left_by, state_beside}
 use Rattle.pf_core.proofs.Tenanted.{empty_heads, has_queue, head_of, map_front, queue_is, tries_table}
@@ -71,7 +74,7 @@ core_same old new k f e = λ i. record {
   limits = k.limits i;
   names = (k.tenants i).names;
   journal = map entry_of (k.journal i).items;
-  progress = progress_of (machine_after started (map entry_of (k.journal i).items)).queries (λ q. e.entries q i);
+  progress = progress_of (machine_after started (map entry_of (k.journal i).items)).queries (λ q. e.entries q i) (λ q. e.tried q i);
   queues = by_tenant (λ u. record { waiting = map head_of ((e.queues.queues u).waiting i); hands = (e.queues.queues u).hands i });
   ring = e.queues.ring i;
   failed = (f.failed i).items;
@@ -79,34 +82,76 @@ core_same old new k f e = λ i. record {
 }
 
 -- how far the work on open queries is, by what the table keeps
-queries_same : (old new : State) → KeepsHistory old new → (core_of new).progress ≡ progress_of (machine_in old).queries (entry_in new.table)
-queries_same old new k = λ i. progress_of (machine_after started (map entry_of (k.journal i).items)).queries (entry_in new.table)
+queries_same : (old new : State) → KeepsHistory old new
+    → (core_of new).progress ≡ progress_of (machine_in old).queries (entry_in new.table) (tried_of new.table)
+queries_same old new k = λ i. progress_of (machine_after started (map entry_of (k.journal i).items)).queries (entry_in new.table) (tried_of new.table)
 
-progress_same : (old new : State) → KeepsHistory old new → ((q : ℕ) → entry_in new.table q ≡ entry_in old.table q) → (core_of new).progress ≡ (core_of old).progress
-progress_same old new k e = queries_same old new k ∙ (λ i. progress_of (machine_in old).queries (λ q. e q i))
+progress_same : (old new : State) → KeepsHistory old new → ((q : ℕ) → entry_in new.table q ≡ entry_in old.table q) → KeepsTried old.table new.table
+    → (core_of new).progress ≡ (core_of old).progress
+progress_same old new k e n = queries_same old new k ∙ (λ i. progress_of (machine_in old).queries (λ q. e q i) (λ q. n q i))
 
 progress_kept : (old new : State) (query : ℕ) (was now : Option EntryData) → KeepsHistory old new → entry_in old.table query ≡ was
-    → ((q : ℕ) → entry_in new.table q ≡ cond (nat_eq query q) now (entry_in old.table q)) → far_of query now ≡ far_of query was
-    → (core_of new).progress ≡ (core_of old).progress
-progress_kept old new query was now k there sets e =
-    queries_same old new k ∙ far_kept query (machine_in old).queries (entry_in old.table) (entry_in new.table) was now there sets e
+    → ((q : ℕ) → entry_in new.table q ≡ cond (nat_eq query q) now (entry_in old.table q)) → KeepsTried old.table new.table
+    → ((n : ℕ) → far_of query now n ≡ far_of query was n) → (core_of new).progress ≡ (core_of old).progress
+progress_kept old new query was now k there sets n e =
+    queries_same old new k
+    ∙ far_kept query (machine_in old).queries (entry_in old.table) (entry_in new.table) (tried_of old.table) (tried_of new.table) was now there sets n e
 
 pub progress_set : (old new : State) (query : ℕ) (change : QueryProgress → QueryProgress) (was now : Option EntryData) → KeepsHistory old new
-    → entry_in old.table query ≡ was → ((q : ℕ) → entry_in new.table q ≡ cond (nat_eq query q) now (entry_in old.table q))
-    → far_of query now ≡ change (far_of query was) → (core_of new).progress ≡ with_progress query change (core_of old).progress
-progress_set old new query change was now k there sets e =
-    queries_same old new k ∙ far_set query change (machine_in old).queries (entry_in old.table) (entry_in new.table) was now there sets e
+    → entry_in old.table query ≡ was → ((q : ℕ) → entry_in new.table q ≡ cond (nat_eq query q) now (entry_in old.table q)) → KeepsTried old.table new.table
+    → ((n : ℕ) → far_of query now n ≡ change (far_of query was n)) → (core_of new).progress ≡ with_progress query change (core_of old).progress
+progress_set old new query change was now k there sets n e =
+    queries_same old new k
+    ∙ far_set query change (machine_in old).queries (entry_in old.table) (entry_in new.table) (tried_of old.table) (tried_of new.table) was now there sets
+    (λ q d. n q) (ap (far_of query now) (n query) ∙ e (tried_of old.table query))
+
+-- a try is counted of one
+once_at : (q : ℕ) (old new : Table) → CountsTry old q new → tried_of new q ≡ one_more (tried_of old q)
+once_at q old new c = let own : nat_eq q q ≡ true = grind (arith, nat_tests) in rw own at (c q)
+
+once_past : (q : ℕ) (old new : Table) → CountsTry old q new → (p : ℕ) → (p ≡ q → ⊥) → tried_of new p ≡ tried_of old p
+once_past q old new c p d =
+    let other : nat_eq q p ≡ false = elim (bool_cases (nat_eq q p)) [
+      | inl t ↦ absurd (d (grind (arith, nat_tests, t)))
+      | inr t ↦ t
+    ] in rw other at (c p)
+
+progress_once : (old new : State) (query : ℕ) (change : QueryProgress → QueryProgress) (was now : Option EntryData) → KeepsHistory old new
+    → entry_in old.table query ≡ was → ((q : ℕ) → entry_in new.table q ≡ cond (nat_eq query q) now (entry_in old.table q)) → CountsTry old.table query new.table
+    → ((n : ℕ) → far_of query now (one_more n) ≡ change (far_of query was n)) → (core_of new).progress ≡ with_progress query change (core_of old).progress
+progress_once old new query change was now k there sets c e =
+    queries_same old new k
+    ∙ far_set query change (machine_in old).queries (entry_in old.table) (entry_in new.table) (tried_of old.table) (tried_of new.table) was now there sets
+    (once_past query old.table new.table c) (ap (far_of query now) (once_at query old.table new.table c) ∙ e (tried_of old.table query))
+
+-- as often as by the table
+tried_told : (old new : State) → KeepsHistory old new → tried_in (core_of new).progress ≡ tries_over (tried_of new.table) (machine_in old).queries
+tried_told old new k = ap tried_in (queries_same old new k) ∙ tried_over (machine_in old).queries (entry_in new.table) (tried_of new.table)
 
 -- tries are covered where no more are told of
-pub covered_beside : (old new : State) → IsState old → KeepsHistory old new → KeepsFailures old new → tried_table new.table ≤ tried_table old.table
-    → exhausted_in (core_of new).progress ≤ exhausted_in (core_of old).progress → AreCovered (core_of new)
-covered_beside old new h k f tries far =
-    covered_less (core_of old) (core_of new) (ap (λ (v : _). v.items) f.failed) (ap (λ (v : _). map entry_of v.items) k.journal) (omega (arith, tries, far))
+pub covered_beside : (old new : State) → IsState old → KeepsHistory old new → KeepsFailures old new → KeepsTried old.table new.table → AreCovered (core_of new)
+covered_beside old new h k f n =
+    covered_less (core_of old) (core_of new) (ap (λ (v : _). v.items) f.failed) (ap (λ (v : _). map entry_of v.items) k.journal)
+    (let now = tried_told old new k in
+    let same : tries_over (tried_of new.table) (machine_in old).queries ≡ tries_over (tried_of old.table) (machine_in old).queries =
+    λ i. tries_over (λ q. n q i) (machine_in old).queries in
+    let was = tried_over (machine_in old).queries (entry_in old.table) (tried_of old.table) in
+    omega (arith, now, same, was))
     h.stands.covered
 
-covered_same : (old new : State) → IsState old → KeepsHistory old new → KeepsFailures old new → tried_table new.table ≤ tried_table old.table
-    → (core_of new).progress ≡ (core_of old).progress → AreCovered (core_of new)
-covered_same old new h k f tries same = covered_beside old new h k f tries (let far = ap exhausted_in same in omega (arith, far))
+-- and where one more is that was counted
+covered_once : (old new : State) (query : ℕ) → IsState old → KeepsHistory old new → KeepsFailures old new → IsAhead (core_of old)
+    → CountsTry old.table query new.table → AreCovered (core_of new)
+covered_once old new query h k f ahead c =
+    covered_ahead (core_of old) (core_of new) (ap (λ (v : _). v.items) f.failed) (ap (λ (v : _). map entry_of v.items) k.journal)
+    (let now = tried_told old new k in
+    let more = min-le_left (tried_of old.table query + 1) most_tries in
+    let at = once_at query old.table new.table c in
+    let once = over_once query (tried_of old.table) (tried_of new.table) (once_past query old.table new.table c) (omega (arith, more, at)) 0
+    (machine_in old).queries h.history.keeps.are_open.apart in
+    let was = tried_over (machine_in old).queries (entry_in old.table) (tried_of old.table) in
+    omega (arith, now, once, was))
+    ahead
 
 -- and its state
 pub state_same : (old new : State) → IsState old → KeepsHistory old new → KeepsFailures old new → IsTable new.table → IsSameTable old.table new.table → IsState new
@@ -141,8 +186,9 @@ open_with s query d stop a e why = record {
   opened = a.opened;
   is_open = a.there;
   cancelled_at = sym a.is.stop ∙ ap cancel_in why;
-  far = far_of query (Some d);
-  is_far = far_at query (machine_in s).queries (entry_in s.table) a.opened a.there ∙ ap (λ (x : Option EntryData). Some (far_of query x)) e;
+  far = far_of query (Some d) (tried_of s.table query);
+  is_far = far_at query (machine_in s).queries (entry_in s.table) (tried_of s.table) a.opened a.there
+      ∙ ap (λ (x : Option EntryData). Some (far_of query x (tried_of s.table query))) e;
   stop_is = why;
 }
 
@@ -171,7 +217,7 @@ taken_state old new actor held h k f t taken =
     (outstanding_same l (machine_in old).queries (entry_in old.table) (entry_in new.table) h.jobs.outstanding taken.entries)
     (jobs_with (map entry_of old.journal.items) l q.tenant (waiting_of old.table) (waiting_of new.table) q.jobs h.jobs.waiting_for q.left.waiting all.1
     (λ v d. (q.left.others v d).waiting))
-    (covered_same old new h k f (tried_taken old.table new.table actor held q) (progress_same old new k taken.entries))
+    (covered_beside old new h k f taken.tried)
 
 pub taken_core : (old new : State) (actor : ℕ) (held : Held) → IsState old → KeepsHistory old new → KeepsFailures old new → IsTable new.table
     → table.IsTakenFrom old.table actor held new.table → IsTaken (core_of old) actor held (core_of new)
@@ -191,14 +237,14 @@ taken_core old new actor held h k f t taken = record {
     };
     history = history_same old new k;
     failed = ap (λ (v : _). v.items) f.failed;
-    progress_is = progress_same old new k taken.entries;
+    progress_is = progress_same old new k taken.entries taken.tried;
     kept_is = f.results;
   };
   stands = subst (λ (x : Held). StandsForAsk (core_of new) x) (sym q.held_is)
       (subst (λ (js : List Entry). IsForAsk js new.limits q.job.head (arc_value q.job.legs) q.job.run (arc_value q.job.snap))
       (sym (ap (λ (v : _). map entry_of v.items) k.journal))
       (subst (λ (l : Limits). IsForAsk (map entry_of old.journal.items) l q.job.head (arc_value q.job.legs) q.job.run (arc_value q.job.snap)) (sym k.limits) all.0));
-  whole = open_still (core_of old) (core_of new) held.head.query None (ap (λ (v : _). map entry_of v.items) k.journal) (progress_same old new k taken.entries)
+  whole = open_still (core_of old) (core_of new) held.head.query None (ap (λ (v : _). map entry_of v.items) k.journal) (progress_same old new k taken.entries taken.tried)
       (open_with old held.head.query d None a there refl);
   own = ap (λ (x : Held). x.head.tenant) q.held_is ∙ taken.waited.tenant_is;
   owner = sym a.is.tenant;
@@ -224,11 +270,15 @@ taken_core old new actor held h k f t taken = record {
   a : HasAsk old held.head.query d
   a = ask_of old held.head.query d h there
 
+-- whether a job is in hand
+pub in_hand_as : (s : State) (held : Held) (b : Bool) → IsState s → has_hand (hand_of held) (hands_of s.table held.head.tenant) ≡ b → is_in_hand (core_of s) held ≡ b
+in_hand_as s held b h e = ap (λ (q : QueueHeads). has_hand (hand_of held) q.hands) (queue_is s h.table held.head.tenant) ∙ e
+
 -- ---- a job is in hand no more
 
-pub released : (old new : State) (held : Held) → IsState old → KeepsHistory old new → KeepsFailures old new → IsTable new.table
-    → queues.IsReleased old.table.queues held new.table.queues → (core_of new).progress ≡ (core_of old).progress → IsReleased (core_of old) held (core_of new)
-released old new held h k f t r same =
+pub released : (old new : State) (held : Held) (far : List QueryProgress) → IsState old → KeepsHistory old new → KeepsFailures old new → IsTable new.table
+    → queues.IsReleased old.table.queues held new.table.queues → (core_of new).progress ≡ far → Releases (core_of old) held far (core_of new)
+released old new held far h k f t r same =
     let u = held.head.tenant in
     let changed = has_queue old new u (waiting_of old.table u) (without_hand (hand_of held) (hands_of old.table u)) (ring_of old.table) h.table t r in
     let was = queue_is old h.table u in
@@ -246,28 +296,58 @@ released old new held h k f t r same =
 
 -- of a stopped query
 pub gone_released : (old new : State) (held : Held) (why : Stop) → IsState old → KeepsHistory old new → KeepsFailures old new → IsTable new.table
-    → table.Goes old.table held why new.table → IsReleased (core_of old) held (core_of new)
-gone_released old new held why h k f t goes = released old new held h k f t goes.queues (progress_same old new k goes.entries)
+    → table.Goes old.table held why false new.table → IsReleased (core_of old) held (core_of new)
+gone_released old new held why h k f t goes =
+    released old new held (core_of old).progress h k f t goes.queues (progress_same old new k goes.entries goes.tried)
+
+-- by a failed try, which is counted if it is in hand
+far_tried : (old new : State) (query : ℕ) (b : Bool) → KeepsHistory old new
+    → ((q : ℕ) → entry_in new.table q ≡ entry_in old.table q) → CountsTryIf b old.table query new.table
+    → (core_of new).progress ≡ cond b (with_progress query tried_once (core_of old).progress) (core_of old).progress
+far_tried old new query false k entries c = progress_same old new k entries c
+far_tried old new query true k entries c =
+    progress_once old new query tried_once (entry_in old.table query) (entry_in old.table query) k refl (λ q. entries q ∙ sets q) c
+    (once (entry_in old.table query)) where
+      sets : (q : ℕ) → entry_in old.table q ≡ cond (nat_eq query q) (entry_in old.table query) (entry_in old.table q)
+      sets q = elim (bool_cases (nat_eq query q)) [
+        | inl t ↦ let same : query ≡ q = grind (arith, nat_tests, t) in rw t (ap (entry_in old.table) (sym same))
+        | inr t ↦ rw t refl
+      ]
+
+      once : (e : Option EntryData) (n : ℕ) → far_of query e (one_more n) ≡ tried_once (far_of query e n)
+      once None n = refl
+      once (Some d) n = refl
+
+pub tried_released : (old new : State) (held : Held) (why : Stop) → IsState old → KeepsHistory old new → KeepsFailures old new → IsTable new.table
+    → table.Goes old.table held why (has_hand (hand_of held) (hands_of old.table held.head.tenant)) new.table
+    → Releases (core_of old) held (cond (is_in_hand (core_of old) held) (tried_after (core_of old) held) (core_of old).progress) (core_of new)
+tried_released old new held why h k f t goes =
+    released old new held _ h k f t goes.queues
+    (far_tried old new held.head.query (has_hand (hand_of held) (hands_of old.table held.head.tenant)) k goes.entries goes.tried
+    ∙ ap (λ (b : Bool). cond b (tried_after (core_of old) held) (core_of old).progress)
+    (sym (in_hand_as old held (has_hand (hand_of held) (hands_of old.table held.head.tenant)) h refl)))
 
 -- whose part is stored
 pub stored_released : (old new : State) (held : Held) (part : Part) → IsState old → KeepsHistory old new → KeepsFailures old new → IsTable new.table
     → table.IsStored old.table held part new.table → IsReleased (core_of old) held (core_of new)
 stored_released old new held part h k f t stored =
-    released old new held h k f t stored.queues (progress_kept old new held.head.query _ _ k stored.held_of.entry stored.entries refl)
+    released old new held (core_of old).progress h k f t stored.queues
+    (progress_kept old new held.head.query _ _ k stored.held_of.entry stored.entries stored.tried (λ n. refl))
 
 -- its state, where only that changed
 pub released_state : (old new : State) (held : Held) → IsState old → KeepsHistory old new → KeepsFailures old new → IsTable new.table
-    → ((q : ℕ) → entry_in new.table q ≡ entry_in old.table q) → queues.IsReleased old.table.queues held new.table.queues → IsState new
-released_state old new held h k f t entries r =
+    → ((q : ℕ) → entry_in new.table q ≡ entry_in old.table q) → queues.IsReleased old.table.queues held new.table.queues → AreCovered (core_of new) → IsState new
+released_state old new held h k f t entries r covered =
     state_beside old new h k f.results t (counts_as old new f h.counts)
     (outstanding_same old.limits (machine_in old).queries (entry_in old.table) (entry_in new.table) h.jobs.outstanding entries)
     (jobs_with (map entry_of old.journal.items) old.limits held.head.tenant (waiting_of old.table) (waiting_of new.table) (waiting_of old.table held.head.tenant)
-    h.jobs.waiting_for r.waiting (h.jobs.waiting_for held.head.tenant) (λ v d. (r.others v d).waiting))
-    (covered_same old new h k f (tried_released old.table new.table held r) (progress_same old new k entries))
+    h.jobs.waiting_for r.waiting (h.jobs.waiting_for held.head.tenant) (λ v d. (r.others v d).waiting)) covered
 
--- whether a job is in hand
-pub in_hand_as : (s : State) (held : Held) (b : Bool) → IsState s → has_hand (hand_of held) (hands_of s.table held.head.tenant) ≡ b → is_in_hand (core_of s) held ≡ b
-in_hand_as s held b h e = ap (λ (q : QueueHeads). has_hand (hand_of held) q.hands) (queue_is s h.table held.head.tenant) ∙ e
+-- tries are covered whether one is counted or not
+pub covered_if : (old new : State) (query : ℕ) (b : Bool) → IsState old → KeepsHistory old new → KeepsFailures old new → IsAhead (core_of old)
+    → CountsTryIf b old.table query new.table → AreCovered (core_of new)
+covered_if old new query true h k f ahead c = covered_once old new query h k f ahead c
+covered_if old new query false h k f ahead c = covered_beside old new h k f c
 
 -- why a job isn't held
 pub not_held : (s : State) (held : Held) → IsState s → table.IsNotHeld s.table held (entry_in s.table held.head.query) → IsNotHeld (core_of s) held
@@ -363,8 +443,7 @@ stored_state old new held part h k f t stands is stored =
     (record { tenant = a.is.tenant; stop = a.is.stop; work = work }) stored.entries)
     (jobs_with (map entry_of old.journal.items) l held.head.tenant (waiting_of old.table) (waiting_of new.table) (waiting_of old.table held.head.tenant)
     h.jobs.waiting_for stored.queues.waiting (h.jobs.waiting_for held.head.tenant) (λ v d. (stored.queues.others v d).waiting))
-    (covered_same old new h k f (tried_released old.table new.table held stored.queues)
-    (progress_kept old new held.head.query _ _ k stored.held_of.entry stored.entries refl))
+    (covered_beside old new h k f stored.tried)
 
 -- ---- a query is stopped for another cause than a cancel
 
@@ -378,29 +457,31 @@ stop_other (Some first) Starved e = refl
 
 pub stopped_state : (old new : State) (query : ℕ) (why : Stop) (d : EntryData) (hands : List Hand) → IsState old → KeepsHistory old new → new.results ≡ old.results → IsTable new.table
     → AreCounts new.failed.items new.total
-    → entry_in old.table query ≡ Some d → cancel_in (Some why) ≡ None → Stops old.table query why d hands new.table → AreCovered (core_of new) → IsState new
-stopped_state old new query why d hands h k same t counts there other stops covered =
+    → entry_in old.table query ≡ Some d → cancel_in (Some why) ≡ None
+    → ((q : ℕ) → entry_in new.table q ≡ cond (nat_eq query q) (Some (stopped why d)) (entry_in old.table q))
+    → table.AreLeft old.table d.tenant query hands new.table → AreCovered (core_of new) → IsState new
+stopped_state old new query why d hands h k same t counts there other entries left covered =
     let l = old.limits in
     let a = ask_of old query d h there in
     state_beside old new h k same t counts
     (outstanding_set l query (machine_in old).queries a.opened (stopped why d) (entry_in old.table) (entry_in new.table) h.jobs.outstanding a.there
-    (record { tenant = a.is.tenant; stop = stop_other d.stop why other ∙ a.is.stop; work = a.is.work }) stops.entries)
-    (jobs_with (map entry_of old.journal.items) l d.tenant (waiting_of old.table) (waiting_of new.table) _ h.jobs.waiting_for stops.queues.waiting
-    (each_filter _ (is_other_job query) (waiting_of old.table d.tenant) (h.jobs.waiting_for d.tenant)) (λ v x. (stops.queues.others v x).waiting)) covered
+    (record { tenant = a.is.tenant; stop = stop_other d.stop why other ∙ a.is.stop; work = a.is.work }) entries)
+    (jobs_with (map entry_of old.journal.items) l d.tenant (waiting_of old.table) (waiting_of new.table) _ h.jobs.waiting_for left.waiting
+    (each_filter _ (is_other_job query) (waiting_of old.table d.tenant) (h.jobs.waiting_for d.tenant)) (λ v x. (left.others v x).waiting)) covered
 
 stopped_progress : (old new : State) (query : ℕ) (why : Stop) (d : EntryData) → KeepsHistory old new → entry_in old.table query ≡ Some d
-    → ((q : ℕ) → entry_in new.table q ≡ cond (nat_eq query q) (Some (stopped why d)) (entry_in old.table q))
+    → ((q : ℕ) → entry_in new.table q ≡ cond (nat_eq query q) (Some (stopped why d)) (entry_in old.table q)) → KeepsTried old.table new.table
     → (core_of new).progress ≡ with_progress query (progress.stopped why) (core_of old).progress
-stopped_progress old new query why d k there sets = progress_set old new query (progress.stopped why) _ _ k there sets refl
+stopped_progress old new query why d k there sets n = progress_set old new query (progress.stopped why) _ _ k there sets n (λ n. refl)
 
 pub stops_query : (old new : State) (query : ℕ) (why : Stop) (d : EntryData) (hands : List Hand) → IsState old → KeepsHistory old new → KeepsFailures old new → IsTable new.table
-    → entry_in old.table query ≡ Some d → Stops old.table query why d hands new.table → StopsQuery (core_of old) d.tenant query why hands (core_of new)
+    → entry_in old.table query ≡ Some d → Stops old.table query why d hands new.table → StopsQuery (core_of old) d.tenant query (progress.stopped why) hands (core_of new)
 stops_query old new query why d hands h k f t there stops = record {
   left = left_by old new d.tenant query hands h.table t stops.queues;
   history = history_same old new k;
   failed = ap (λ (v : _). v.items) f.failed;
   kept = f.results;
-  progress_is = stopped_progress old new query why d k there stops.entries;
+  progress_is = stopped_progress old new query why d k there stops.entries stops.tried;
 }
 
 -- ---- a job failed
@@ -411,7 +492,7 @@ counted_core old new actor k same table failed = λ i. record {
   limits = k.limits i;
   names = (k.tenants i).names;
   journal = map entry_of (k.journal i).items;
-  progress = progress_of (machine_after started (map entry_of (k.journal i).items)).queries (entry_in (table i));
+  progress = progress_of (machine_after started (map entry_of (k.journal i).items)).queries (entry_in (table i)) (tried_of (table i));
   queues = by_tenant (heads_in (table i));
   ring = ring_of (table i);
   failed = failed i;
@@ -419,10 +500,9 @@ counted_core old new actor k same table failed = λ i. record {
 }
 
 -- the table tells of as many tries as before
-counted_tries : (old new : State) → KeepsHistory old new → new.table ≡ old.table → open_tries (core_of new) ≡ open_tries (core_of old)
+counted_tries : (old new : State) → KeepsHistory old new → new.table ≡ old.table → tried_in (core_of new).progress ≡ tried_in (core_of old).progress
 counted_tries old new k table = λ i.
-    tried_in (by_tenant (heads_in (table i)))
-    + 5 * exhausted_in (progress_of (machine_after started (map entry_of (k.journal i).items)).queries (entry_in (table i)))
+    tried_in (progress_of (machine_after started (map entry_of (k.journal i).items)).queries (entry_in (table i)) (tried_of (table i)))
 
 answers_same : (old new : State) → KeepsHistory old new → failed_answers (core_of new).journal ≡ failed_answers (core_of old).journal
 answers_same old new k = ap (λ (v : _). failed_answers (map entry_of v.items)) k.journal
@@ -471,10 +551,7 @@ again_state old new held tries h k f t ahead stands again =
     (jobs_with (map entry_of old.journal.items) l u (waiting_of old.table) (waiting_of new.table) _ h.jobs.waiting_for again.queues.waiting
     (each_front _ (waiting_of old.table u) (job_of_held (held.head.tries + 1) held ∷ []) (h.jobs.waiting_for u) (again_job old held stands, tt))
     (λ v d. (again.queues.others v d).waiting))
-    (covered_ahead (core_of old) (core_of new) (ap (λ (v : _). v.items) f.failed) (ap (λ (v : _). map entry_of v.items) k.journal)
-    (let tries = tried_back old.table new.table held again.held_of.in_hand again.queues in
-    let far = ap exhausted_in (progress_same old new k again.entries) in
-    omega (arith, tries, far)) ahead)
+    (covered_once old new held.head.query h k f ahead again.tried)
 
 pub again_core : (old new : State) (held : Held) (tries : ℕ) → IsState old → KeepsHistory old new → KeepsFailures old new → IsTable new.table
     → table.WaitsAgain old.table held tries new.table → IsTried (core_of old) held (failed.Again tries) (core_of new)
@@ -506,7 +583,7 @@ again_core old new held tries h k f t again =
               };
               history = history_same old new k;
               failed = ap (λ (v : _). v.items) f.failed;
-              progress_is = progress_same old new k again.entries;
+              progress_is = far_tried old new held.head.query true k again.entries again.tried;
               kept_is = f.results;
             },
           ),
@@ -518,25 +595,20 @@ again_core old new held tries h k f t again =
 pub exhausted_state : (old new : State) (held : Held) (job : ℕ) → IsState old → KeepsHistory old new → KeepsFailures old new → IsTable new.table
     → IsAhead (core_of old) → table.IsExhausted old.table held job new.table → IsState new
 exhausted_state old new held job h k f t ahead e =
-    let known = (h.table.agree.all_kept held.head.query _ e.held_of.entry).known in
-    let stops : Stops old.table held.head.query (Exhausted job) (record { tenant = held.head.tenant; stop = None; work = Some e.work })
-    (without_hand (hand_of held) (hands_of old.table held.head.tenant)) new.table =
-    record { entries = e.entries; queues = e.queues; tries = e.tries } in
     stopped_state old new held.head.query (Exhausted job) _ (without_hand (hand_of held) (hands_of old.table held.head.tenant)) h k f.results t (counts_as old new f h.counts)
-    e.held_of.entry refl stops
-    (covered_ahead (core_of old) (core_of new) (ap (λ (v : _). v.items) f.failed) (ap (λ (v : _). map entry_of v.items) k.journal)
-    (let tries = tried_dropped old.table new.table held _ e.held_of.in_hand e.queues known in
-    let last = e.last_try in
-    let far = ap exhausted_in (stopped_progress old new held.head.query (Exhausted job) _ k e.held_of.entry stops.entries) in
-    let one = exhausted_one held.head.query (progress.stopped (Exhausted job)) 0 (machine_in old).queries (entry_in old.table) h.history.keeps.are_open.apart in
-    omega (arith, tries, last, far, one)) ahead)
+    e.held_of.entry refl e.entries e.queues (covered_once old new held.head.query h k f ahead e.tried)
 
 pub exhausted_core : (old new : State) (held : Held) (job : ℕ) → IsState old → KeepsHistory old new → KeepsFailures old new → IsTable new.table
     → table.IsExhausted old.table held job new.table → IsTried (core_of old) held (failed.Exhausted job) (core_of new)
 exhausted_core old new held job h k f t e =
     let u = held.head.tenant in
-    let left = stops_query old new held.head.query (Exhausted job) _ (without_hand (hand_of held) (hands_of old.table u)) h k f t e.held_of.entry
-    (record { entries = e.entries; queues = e.queues; tries = e.tries }) in (
+    let left : StopsQuery (core_of old) u held.head.query (exhausted job) (without_hand (hand_of held) (hands_of old.table u)) (core_of new) = record {
+      left = left_by old new u held.head.query (without_hand (hand_of held) (hands_of old.table u)) h.table t e.queues;
+      history = history_same old new k;
+      failed = ap (λ (v : _). v.items) f.failed;
+      kept = f.results;
+      progress_is = progress_once old new held.head.query (exhausted job) _ _ k e.held_of.entry e.entries e.tried (λ n. refl);
+    } in (
       whole_of old held e.work h e.held_of,
       (
         in_hand_as old held true h e.held_of.in_hand,
@@ -544,7 +616,7 @@ exhausted_core old new held job h k f t e =
           e.job_is,
           (
             e.last_try,
-            subst (λ (hs : List Hand). StopsQuery (core_of old) u held.head.query (Exhausted job) (without_hand (hand_of held) hs) (core_of new))
+            subst (λ (hs : List Hand). StopsQuery (core_of old) u held.head.query (exhausted job) (without_hand (hand_of held) hs) (core_of new))
                 (sym (ap (λ (q : QueueHeads). q.hands) (queue_is old h.table u))) left,
           ),
         ),
@@ -554,15 +626,12 @@ exhausted_core old new held job h k f t e =
 -- ---- want of memory
 
 pub lacked_state : (old new : State) (query : ℕ) (entry : Option EntryData) (hands : EntryData → List Hand) → IsState old → KeepsHistory old new → KeepsFailures old new
-    → IsTable new.table → entry_in old.table query ≡ entry → ((d : EntryData) → tried_hands (hands d) ≤ tried_hands (hands_of old.table d.tenant))
+    → IsTable new.table → entry_in old.table query ≡ entry
     → MatchOption entry (IsSameTable old.table new.table) (λ d. Stops old.table query Starved d (hands d) new.table) → IsState new
-lacked_state old new query None hands h k f t there less s = state_same old new h k f t s
-lacked_state old new query (Some d) hands h k f t there less s =
-    stopped_state old new query Starved d (hands d) h k f.results t (counts_as old new f h.counts) there refl s
-    (covered_beside old new h k f (tried_left old.table new.table d.tenant query (hands d) _ s.queues (less d))
-    (let far = ap exhausted_in (stopped_progress old new query Starved d k there s.entries) in
-    let none = exhausted_no_more query (progress.stopped Starved) (not_by_want Starved refl) (core_of old).progress in
-    omega (arith, far, none)))
+lacked_state old new query None hands h k f t there s = state_same old new h k f t s
+lacked_state old new query (Some d) hands h k f t there s =
+    stopped_state old new query Starved d (hands d) h k f.results t (counts_as old new f h.counts) there refl s.entries s.queues
+    (covered_beside old new h k f s.tried)
 
 pub lacked_none : (old new : State) (query : ℕ) (hands : EntryData → List Hand) → IsState old → KeepsHistory old new → KeepsFailures old new
     → MatchOption (entry_in old.table query) (IsSameTable old.table new.table) (λ d. Stops old.table query Starved d (hands d) new.table)
@@ -575,15 +644,15 @@ lacked_none old new query hands h k f s e =
 pub lacked_some : (old new : State) (query : ℕ) (hands : ℕ → List Hand) (told : ℕ → List Hand) → IsState old → KeepsHistory old new → KeepsFailures old new → IsTable new.table
     → MatchOption (entry_in old.table query) (IsSameTable old.table new.table) (λ (d : EntryData). Stops old.table query Starved d (hands d.tenant) new.table)
     → ((u : ℕ) → hands u ≡ told u)
-    → (o : Open) → open_at query (machine_in old).queries ≡ Some o → StopsQuery (core_of old) o.tenant query Starved (told o.tenant) (core_of new)
+    → (o : Open) → open_at query (machine_in old).queries ≡ Some o → StopsQuery (core_of old) o.tenant query (progress.stopped Starved) (told o.tenant) (core_of new)
 lacked_some old new query hands told h k f t s same o e =
     let entry = entry_there old.limits (open_at query (machine_in old).queries) (entry_in old.table query) o (h.jobs.outstanding query) e in
     let stops : Stops old.table query Starved entry.kept (hands entry.kept.tenant) new.table =
     subst (λ (x : Option EntryData). MatchOption x (IsSameTable old.table new.table)
     (λ (d : EntryData). Stops old.table query Starved d (hands d.tenant) new.table)) entry.there s in
     let left = stops_query old new query Starved entry.kept (hands entry.kept.tenant) h k f t entry.there stops in
-    subst (λ u. StopsQuery (core_of old) u query Starved (told u) (core_of new)) entry.is.tenant
-    (subst (λ (hs : List Hand). StopsQuery (core_of old) entry.kept.tenant query Starved hs (core_of new)) (same entry.kept.tenant) left)
+    subst (λ u. StopsQuery (core_of old) u query (progress.stopped Starved) (told u) (core_of new)) entry.is.tenant
+    (subst (λ (hs : List Hand). StopsQuery (core_of old) entry.kept.tenant query (progress.stopped Starved) hs (core_of new)) (same entry.kept.tenant) left)
 
 -- ---- a query is planned
 
@@ -606,7 +675,7 @@ planned_progress : (old new : State) (query count : ℕ) (legs : ResolvedLegs) (
     → KeepsHistory old new → table.IsPlannedOver old.table query legs rs cached offered snap count new.table
     → (core_of new).progress ≡ with_progress query (planned rs (steps_in cached) offered) (core_of old).progress
 planned_progress old new query count legs rs cached offered snap k p =
-    progress_set old new query (planned rs (steps_in cached) offered) _ _ k p.was p.entries refl
+    progress_set old new query (planned rs (steps_in cached) offered) _ _ k p.was p.entries p.tried (λ n. refl)
 
 pub planned_state : (old new : State) (query count : ℕ) (legs : ResolvedLegs) (cached : List DoneCells) (rs : List GridData) (offered : Bool) (snap : SnapData) (o : Open)
     → IsState old → KeepsHistory old new
@@ -628,11 +697,7 @@ planned_state old new query count legs cached rs offered snap o h k f t there is
     (jobs_planned J l p.tenant query (as_opened o) legs rs snap 0 p.jobs (asked_open J query o there) (sym entry.tenant)
     (record { legs_are = is.legs_are; lawful = is.lawful; bound = is.bound; stands = is.stands; apart = is.apart }) divided.each p.planned.each))
     (λ v d. (p.queues.others v d).waiting))
-    (covered_beside old new h k f
-    (tried_added old.table new.table p.tenant p.jobs _ p.queues (untried p.tenant query legs rs snap 0 p.jobs p.planned.each))
-    (let far = ap exhausted_in (planned_progress old new query count legs rs cached offered snap k p) in
-    let none = exhausted_no_more query (planned rs (steps_in cached) offered) (λ _. omega arith) (core_of old).progress in
-    omega (arith, far, none)))
+    (covered_beside old new h k f p.tried)
 
 pub planned_core : (old new : State) (query : ℕ) (told : Planned) (legs : ResolvedLegs) (cached : List DoneCells) (rs : List GridData) (offered : Bool) (snap : SnapData) (o : Open)
     → IsState old → KeepsHistory old new
@@ -681,8 +746,9 @@ planned_core old new query told legs cached rs offered snap o h k f t there is r
         opened = o;
         is_open = there;
         cancelled_at = sym (ap (λ (x : Open). x.cancelled) same) ∙ sym a.is.stop;
-        far = begun query;
-        is_far = far_at query (machine_in old).queries (entry_in old.table) o there ∙ ap (λ (x : Option EntryData). Some (far_of query x)) p.was;
+        far = record (begun query) { tried = tried_of old.table query };
+        is_far = far_at query (machine_in old).queries (entry_in old.table) (tried_of old.table) o there
+            ∙ ap (λ (x : Option EntryData). Some (far_of query x (tried_of old.table query))) p.was;
         stop_is = refl;
       };
       unplanned = refl;

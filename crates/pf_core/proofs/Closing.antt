@@ -7,7 +7,7 @@ use Rattle.pf_base.specs.declared.plain.Limits.{Limits}
 use Rattle.pf_journal.specs.Asking.{Asked}
 use Rattle.pf_journal.specs.Machine.{AnswersOpen, AreSteps, IsCode, Open, open_at}
 use Rattle.pf_query.specs.Entries.{cached_steps_of, is_given_out, is_planned}
-use Rattle.pf_query.specs.Tables.{EntryData, entry_in}
+use Rattle.pf_query.specs.Tables.{EntryData, entry_in, tried_of}
 use Rattle.pf_query.specs.Works.{WorkData}
 use Rattle.pf_query.specs.declared.stop.Stop.{Stop}
 use Rattle.pf_query.specs.declared.stop.Stop.TheVariants.{Cancelled, Exhausted, Starved}
@@ -41,39 +41,42 @@ steps_by l o given false (Some (Exhausted job)) code steps cached n h p none few
 steps_by l o given false (Some Starved) code steps cached n h p none few e = let zero = none refl in inr (omega (arith, e, zero), inr (inr h))
 
 -- parts are handed out of planned queries alone
-given_planned : (query : ℕ) (e : Option EntryData) → (far_of query e).given ≡ true → (far_of query e).planned ≡ true
-given_planned query None h = h
-given_planned query (Some e) h = by e.work h where
+given_planned : (query : ℕ) (e : Option EntryData) (n : ℕ) → (far_of query e n).given ≡ true → (far_of query e n).planned ≡ true
+given_planned query None n h = h
+given_planned query (Some e) n h = by e.work h where
   by : (w : Option WorkData) → is_given_out w ≡ true → is_planned w ≡ true
   by None h = h
   by (Some w) h = refl
 
 -- and their steps are cached
-unplanned_none : (query : ℕ) (e : Option EntryData) → (far_of query e).planned ≡ false → (far_of query e).cached ≡ 0
-unplanned_none query None h = refl
-unplanned_none query (Some e) h = by e.work h where
+unplanned_none : (query : ℕ) (e : Option EntryData) (n : ℕ) → (far_of query e n).planned ≡ false → (far_of query e n).cached ≡ 0
+unplanned_none query None n h = refl
+unplanned_none query (Some e) n h = by e.work h where
   by : (w : Option WorkData) → is_planned w ≡ false → cached_steps_of w ≡ 0
   by None h = refl
   by (Some w) h = cc
 
 -- at most all are
-few_by : (l : Limits) (query : ℕ) (o : Open) (d : EntryData) → IsEntryOf l o d → (far_of query (Some d)).cached ≤ length (points o.asked.query.grid)
-few_by l query o d h = by d.work h.work where
+few_by : (l : Limits) (query : ℕ) (o : Open) (d : EntryData) (n : ℕ) → IsEntryOf l o d
+    → (far_of query (Some d) n).cached ≤ length (points o.asked.query.grid)
+few_by l query o d n h = by d.work h.work where
   by : (w : Option WorkData) → IfSome w (IsWorkOf l o) → cached_steps_of w ≤ length (points o.asked.query.grid)
   by None k = omega arith
   by (Some w) k = k.few
 
 few_cached : (s : State) (query : ℕ) (o : Open) → IsState s → open_at query (machine_in s).queries ≡ Some o
-    → (far_of query (entry_in s.table query)).cached ≤ length (points o.asked.query.grid)
+    → (far_of query (entry_in s.table query) (tried_of s.table query)).cached ≤ length (points o.asked.query.grid)
 few_cached s query o h there =
     let e = entry_there s.limits (open_at query (machine_in s).queries) (entry_in s.table query) o (h.jobs.outstanding query) there in
-    subst (λ (x : Option EntryData). (far_of query x).cached ≤ length (points o.asked.query.grid)) (sym e.there) (few_by s.limits query o e.kept e.is)
+    subst (λ (x : Option EntryData). (far_of query x (tried_of s.table query)).cached ≤ length (points o.asked.query.grid)) (sym e.there)
+    (few_by s.limits query o e.kept (tried_of s.table query) e.is)
 
 -- how far an open query is, by the table
 far_kept : (s : State) (query : ℕ) (o : Open) (far : QueryProgress) → open_at query (machine_in s).queries ≡ Some o
-    → progress_at query (core_of s).progress ≡ Some far → far ≡ far_of query (entry_in s.table query)
+    → progress_at query (core_of s).progress ≡ Some far → far ≡ far_of query (entry_in s.table query) (tried_of s.table query)
 far_kept s query o far there is =
-    let both : Some far ≡ Some (far_of query (entry_in s.table query)) = sym is ∙ far_at query (machine_in s).queries (entry_in s.table) o there in cc
+    let both : Some far ≡ Some (far_of query (entry_in s.table query) (tried_of s.table query)) =
+    sym is ∙ far_at query (machine_in s).queries (entry_in s.table) (tried_of s.table) o there in cc
 
 pub few_opened : (s : State) (query : ℕ) (o : Opened) → IsState s → IsOpened (core_of s) query o → o.cached ≤ length (points (arc_value o.asked.now).query.grid)
 few_opened s query o h is =
@@ -93,7 +96,7 @@ answers_right s query code evaluated o h may is e =
     let same : m.opened ≡ is.opened = cc in
     let fars : Some m.far ≡ Some is.far = sym m.is_far ∙ is.is_far in
     let same_far : m.far ≡ is.far = cc in
-    let kept : m.far ≡ far_of query (entry_in s.table query) = far_kept s query m.opened m.far m.is_open m.is_far in
+    let kept : m.far ≡ far_of query (entry_in s.table query) (tried_of s.table query) = far_kept s query m.opened m.far m.is_open m.is_far in
     let cached : o.cached ≡ m.far.cached = sym is.cached ∙ ap (λ (x : QueryProgress). x.cached) (sym same_far) in
     let all : evaluated ≡ cond m.far.planned (length (points m.opened.asked.query.grid) - m.far.cached) 0 =
     e
@@ -103,8 +106,8 @@ answers_right s query code evaluated o h may is e =
     subst (λ (x : Option ℕ). IsCode s.limits m.opened x code) (sym m.cancelled_at) (code_by s.limits m.opened m.far.given may.stop code may.coded) in
     let stepped : AreSteps (length (points m.opened.asked.query.grid)) code (m.far.cached + evaluated) =
     steps_by s.limits m.opened m.far.given m.far.planned may.stop code (length (points m.opened.asked.query.grid)) m.far.cached evaluated may.coded
-    (subst (λ (x : QueryProgress). x.given ≡ true → x.planned ≡ true) (sym kept) (given_planned query (entry_in s.table query)))
-    (subst (λ (x : QueryProgress). x.planned ≡ false → x.cached ≡ 0) (sym kept) (unplanned_none query (entry_in s.table query)))
+    (subst (λ (x : QueryProgress). x.given ≡ true → x.planned ≡ true) (sym kept) (given_planned query (entry_in s.table query) (tried_of s.table query)))
+    (subst (λ (x : QueryProgress). x.planned ≡ false → x.cached ≡ 0) (sym kept) (unplanned_none query (entry_in s.table query) (tried_of s.table query)))
     (subst (λ (x : QueryProgress). x.cached ≤ length (points m.opened.asked.query.grid)) (sym kept) (few_cached s query m.opened h m.is_open)) all in (
       (cached ∙ sym (ap cached_by m.is_far), all ∙ sym (λ i. evaluated_by (m.is_open i) (m.is_far i))),
       subst (λ n. AnswersOpen s.limits (open_at query (machine_in s).queries) code n evaluated) (sym cached)

@@ -1,5 +1,5 @@
 -- What is collected of a query is what the core promises.
-use Rattle.std.proofs.Common.{◌≡◌, ℕ, false, map, Option, Some, None, List, length, sym, ap, ◌∙◌, arith, subst, slice_get}
+use Rattle.std.proofs.Common.{◌≡◌, ℕ, false, map, Option, Some, None, List, length, sym, ap, ◌∙◌, subst, slice_get}
 use Rattle.std.specs.Arc.{arc_value}
 use Rattle.std.specs.Prelude.{IfSome}
 use Rattle.pf_base.specs.GridLists.{GridData}
@@ -25,13 +25,11 @@ use Rattle.pf_core.specs.Cores.{in_hand_of, queued_of}
 use Rattle.pf_core.specs.Entries.{entry_of}
 use Rattle.pf_core.specs.Jobs.{AreParts, by_tenant}
 use Rattle.pf_core.specs.Progress as progress
-use Rattle.pf_core.specs.Progress.{exhausted_in, planned, with_progress}
+use Rattle.pf_core.specs.Progress.{planned, with_progress}
 use Rattle.pf_core.specs.States.{IsEntryOf, IsState, IsWorkOf, JobStands, KeepsFailures, KeepsHistory, core_of, machine_in, runs_of}
 use Rattle.pf_core.specs.declared.state.State.{State}
 use Rattle.pf_core.proofs.Calling.{HasAsk, ask_of, core_same, covered_beside, gone_by, history_same, open_with, progress_set, state_same}
-use Rattle.pf_core.proofs.Covered.{tried_same}
 use Rattle.pf_core.proofs.Outstanding.{closed_there, outstanding_set}
-use Rattle.pf_core.proofs.Progressing.{exhausted_no_more}
 use Rattle.pf_core.proofs.Runs.{each_placed, handed_unfilled, length_filled, part_in}
 use Rattle.pf_core.proofs.Standing.{counts_as, state_beside}
 use Rattle.pf_core.proofs.Tenanted.{head_of, in_hand_is, queued_is}
@@ -103,8 +101,8 @@ gathered_progress : (old new : State) (query : ℕ) (d : EntryData) (w : WorkDat
     → entry_in old.table query ≡ Some d → d.work ≡ Some w → table.IsGathered old.table query d w g new.table
     → (core_of new).progress ≡ with_progress query progress.handed_out (core_of old).progress
 gathered_progress old new query d w g k there work is =
-    progress_set old new query progress.handed_out (Some d) _ k there is.entries
-    (ap (λ (x : Option WorkData). progress.handed_out (record {
+    progress_set old new query progress.handed_out (Some d) _ k there is.entries is.tried
+    (λ n. ap (λ (x : Option WorkData). progress.handed_out (record {
       query = query;
       stop = d.stop;
       planned = is_planned x;
@@ -112,6 +110,7 @@ gathered_progress old new query d w g k there work is =
       runs = runs_of x;
       cached = cached_steps_of x;
       offered = is_offered x;
+      tried = n;
     })) (sym work))
 
 pub gathered_state : (old new : State) (query : ℕ) (d : EntryData) (w : WorkData) (g : Gathered) → IsState old → KeepsHistory old new → KeepsFailures old new → IsTable new.table
@@ -123,10 +122,7 @@ gathered_state old new query d w g h k f t there planned is =
     (outstanding_set old.limits query (machine_in old).queries a.opened _ (entry_in old.table) (entry_in new.table) h.jobs.outstanding a.there
     (record { tenant = a.is.tenant; stop = a.is.stop; work = work_handed old.limits a.opened w work.of }) is.entries)
     (λ u. subst (λ (js : List Job). Each (JobStands (map entry_of old.journal.items) old.limits) js) (sym (is.queues.queues u).waiting) (h.jobs.waiting_for u))
-    (covered_beside old new h k f (let tries = tried_same old.table new.table is.queues in omega (arith, tries))
-    (let far = ap exhausted_in (gathered_progress old new query d w g k there planned is) in
-    let none = exhausted_no_more query progress.handed_out (λ _. omega arith) (core_of old).progress in
-    omega (arith, far, none)))
+    (covered_beside old new h k f is.tried)
 
 collected_state : (old new : State) (query : ℕ) (d : EntryData) (c : Collected) → IsState old → KeepsHistory old new → KeepsFailures old new → IsTable new.table
     → entry_in old.table query ≡ Some d → table.IsCollectedOf old.table query d c new.table → IsState new

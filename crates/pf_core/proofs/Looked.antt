@@ -7,7 +7,7 @@ use Rattle.pf_block.specs.Snaps.{SnapData}
 use Rattle.pf_base.specs.declared.plain.Limits.{Limits}
 use Rattle.pf_journal.specs.Machine.{Open, most_tenants, open_at}
 use Rattle.pf_query.specs.Tables as table
-use Rattle.pf_query.specs.Tables.{EntryData, IsClosed, IsTable, entry_in, progress_of}
+use Rattle.pf_query.specs.Tables.{EntryData, IsClosed, IsTable, entry_in, progress_of, tried_of}
 use Rattle.pf_query.specs.declared.table.Table.{Table}
 use Rattle.pf_query.specs.declared.answers.Progress.{Progress}
 use Rattle.pf_store.specs.Standing.{IsPin, PinData}
@@ -65,8 +65,9 @@ told s query q p o h kept progress tenant asked pin cancelled planned stop cache
       asked = found.is.asked ∙ sym asked;
       pinned = subst (λ (x : PinData). IsPin x s.limits.window found.opened.log) (sym pin) found.is.pinned;
       cancelled = found.is.cancelled ∙ sym cancelled;
-      far = far_of query (Some e.entry);
-      is_far = far_at query (machine_in s).queries (entry_in s.table) found.opened found.there ∙ ap (λ (x : Option EntryData). Some (far_of query x)) e.there;
+      far = far_of query (Some e.entry) (tried_of s.table query);
+      is_far = far_at query (machine_in s).queries (entry_in s.table) (tried_of s.table) found.opened found.there
+          ∙ ap (λ (x : Option EntryData). Some (far_of query x (tried_of s.table query))) e.there;
       planned = ap (λ (x : Progress). x.planned) e.is ∙ sym planned;
       stop = ap (λ (x : Progress). x.stop) e.is ∙ sym stop;
       cached = ap (λ (x : Progress). x.cached) e.is ∙ sym cached;

@@ -19,7 +19,7 @@ use Rattle.pf_print.specs.OwnTexts.{HasText}
 use Rattle.pf_query.specs.Covers.{covers, is_covered_by}
 use Rattle.pf_query.specs.Entries.{is_planned}
 use Rattle.pf_query.specs.Tables as table
-use Rattle.pf_query.specs.Tables.{EntryData, IsSameTable, IsTable, Offers, entry_in, is_covered_in}
+use Rattle.pf_query.specs.Tables.{EntryData, IsSameTable, IsTable, Offers, entry_in, is_covered_in, tried_of}
 use Rattle.pf_query.specs.Works as works
 use Rattle.pf_query.specs.Works.{WorkData}
 use Rattle.pf_query.specs.declared.job.Job.{Job}
@@ -33,14 +33,13 @@ use Rattle.pf_core.specs.Divisions.{IsOfferedIf, asker_by, key_by}
 use Rattle.pf_core.specs.Entries.{entry_of}
 use Rattle.pf_core.specs.Jobs.{by_tenant}
 use Rattle.pf_core.specs.Progress as progress
-use Rattle.pf_core.specs.Progress.{QueryProgress, exhausted_in, progress_at, with_progress}
+use Rattle.pf_core.specs.Progress.{QueryProgress, progress_at, with_progress}
 use Rattle.pf_core.specs.Seats.{AreTenants}
 use Rattle.pf_core.specs.States.{IsQuery, IsSameButCache, IsState, IsWorkOf, JobStands, KeepsFailures, KeepsHistory, core_of, far_of, kept_in, machine_in, runs_of}
 use Rattle.pf_core.specs.declared.answers.Kept.{Kept}
 use Rattle.pf_core.specs.declared.query.Query.{Query}
 use Rattle.pf_core.specs.declared.state.State.{State}
 use Rattle.pf_core.proofs.Calling.{ask_of, covered_beside, history_same, progress_set}
-use Rattle.pf_core.proofs.Covered.{tried_same}
 use Rattle.pf_core.proofs.Divided.{asker_same, key_is}
 use Rattle.pf_core.proofs.KeptQueries.{kept_is}
 use Rattle.pf_core.proofs.Lists.{each_map}
@@ -48,7 +47,7 @@ use Rattle.pf_core.proofs.Logs.{asker_stands, front_of, front_taken}
 use Rattle.pf_core.proofs.Machines.{open_each}
 use Rattle.pf_core.proofs.Outstanding.{entry_there, outstanding_set}
 use Rattle.pf_core.proofs.Planning.{query_of}
-use Rattle.pf_core.proofs.Progressing.{exhausted_no_more, far_at}
+use Rattle.pf_core.proofs.Progressing.{far_at}
 use Rattle.pf_core.proofs.Seated.{stored}
 use Rattle.pf_core.proofs.Standing.{core_cached, counts_as, state_beside, state_cached}
 use Rattle.pf_core.proofs.Tenanted.{head_of}
@@ -186,16 +185,16 @@ work_offered l o (Some w) h = record {
 
 -- a query whose runs are covered is planned
 far_offered : (query : ℕ) (d : EntryData) (cells : List DoneCells) → is_covered_in (Some d) cells ≡ true
-    → far_of query (Some (record d { work = option_map works.offered d.work })) ≡ progress.offered (far_of query (Some d))
-far_offered query d cells h = by d.work h where
+    → (n : ℕ) → far_of query (Some (record d { work = option_map works.offered d.work })) n ≡ progress.offered (far_of query (Some d) n)
+far_offered query d cells h n = by d.work h where
   by : (w : Option WorkData) → is_covered_by w cells ≡ true
-      → far_of query (Some (record d { work = option_map works.offered w })) ≡ progress.offered (far_of query (Some (record d { work = w })))
+      → far_of query (Some (record d { work = option_map works.offered w })) n ≡ progress.offered (far_of query (Some (record d { work = w })) n)
   by None e = cc
   by (Some w) e = refl
 
 -- whether it is
-covered_far : (query : ℕ) (d : EntryData) (cells : List DoneCells) → is_offered_by (far_of query (Some d)) cells ≡ is_covered_in (Some d) cells
-covered_far query d cells = by d.work where
+covered_far : (query : ℕ) (d : EntryData) (n : ℕ) (cells : List DoneCells) → is_offered_by (far_of query (Some d) n) cells ≡ is_covered_in (Some d) cells
+covered_far query d n cells = by d.work where
   by : (w : Option WorkData) → (is_planned w && covers (runs_of w) cells) ≡ is_covered_by w cells
   by None = refl
   by (Some w) = refl
@@ -204,7 +203,7 @@ offered_progress : (old new : State) (query : ℕ) (d : EntryData) (cells : List
     → is_covered_in (Some d) cells ≡ true → Offers old.table query d new.table
     → (core_of new).progress ≡ with_progress query progress.offered (core_of old).progress
 offered_progress old new query d cells k there covered x =
-    progress_set old new query progress.offered (Some d) _ k there x.entries (far_offered query d cells covered)
+    progress_set old new query progress.offered (Some d) _ k there x.entries x.tried (far_offered query d cells covered)
 
 offered_state : (old new : State) (query : ℕ) (d : EntryData) (cells : List DoneCells) → IsState old → KeepsHistory old new → KeepsFailures old new → IsTable new.table
     → entry_in old.table query ≡ Some d → is_covered_in (Some d) cells ≡ true → Offers old.table query d new.table → IsState new
@@ -214,10 +213,7 @@ offered_state old new query d cells h k f t there covered x =
     (outstanding_set old.limits query (machine_in old).queries a.opened _ (entry_in old.table) (entry_in new.table) h.jobs.outstanding a.there
     (record { tenant = a.is.tenant; stop = a.is.stop; work = work_offered old.limits a.opened d.work a.is.work }) x.entries)
     (λ u. subst (λ (js : List Job). Each (JobStands (map entry_of old.journal.items) old.limits) js) (sym (x.queues.queues u).waiting) (h.jobs.waiting_for u))
-    (covered_beside old new h k f (let tries = tried_same old.table new.table x.queues in omega (arith, tries))
-    (let far = ap exhausted_in (offered_progress old new query d cells k there covered x) in
-    let none = exhausted_no_more query progress.offered (λ _. omega arith) (core_of old).progress in
-    omega (arith, far, none)))
+    (covered_beside old new h k f x.tried)
 
 -- a query that is covered has an entry
 record HasCovered (e : Option EntryData) (cells : List DoneCells) : Type 0 where
@@ -242,16 +238,18 @@ offers_state old new query cells h k f t covered x =
 
 -- how far an open query is, by the table's entry
 far_is : (s : State) (query : ℕ) (o : Open) (far : QueryProgress) → open_at query (machine_in s).queries ≡ Some o
-    → progress_at query (core_of s).progress ≡ Some far → far ≡ far_of query (entry_in s.table query)
+    → progress_at query (core_of s).progress ≡ Some far → far ≡ far_of query (entry_in s.table query) (tried_of s.table query)
 far_is s query o far there is =
-    let both : Some far ≡ Some (far_of query (entry_in s.table query)) = sym is ∙ far_at query (machine_in s).queries (entry_in s.table) o there in cc
+    let both : Some far ≡ Some (far_of query (entry_in s.table query) (tried_of s.table query)) =
+    sym is ∙ far_at query (machine_in s).queries (entry_in s.table) (tried_of s.table) o there in cc
 
 covered_is : (s : State) (query : ℕ) (o : Open) (far : QueryProgress) (cells : List DoneCells) → IsState s → open_at query (machine_in s).queries ≡ Some o
     → progress_at query (core_of s).progress ≡ Some far → is_offered_by far cells ≡ is_covered_in (entry_in s.table query) cells
 covered_is s query o far cells h there is =
     let e = entry_there s.limits (open_at query (machine_in s).queries) (entry_in s.table query) o (h.jobs.outstanding query) there in
-    ap (λ (p : QueryProgress). is_offered_by p cells) (far_is s query o far there is ∙ ap (far_of query) e.there)
-    ∙ covered_far query e.kept cells ∙ ap (λ (x : Option EntryData). is_covered_in x cells) (sym e.there)
+    ap (λ (p : QueryProgress). is_offered_by p cells) (far_is s query o far there is
+    ∙ ap (λ (x : Option EntryData). far_of query x (tried_of s.table query)) e.there)
+    ∙ covered_far query e.kept (tried_of s.table query) cells ∙ ap (λ (x : Option EntryData). is_covered_in x cells) (sym e.there)
 
 pub offers : (old new : State) (query : ℕ) (cells : List DoneCells) → IsState old → KeepsHistory old new → KeepsFailures old new
     → is_covered_in (entry_in old.table query) cells ≡ true → table.IsOffered old.table query new.table → IsOfferedIf (core_of old) query cells (core_of new)
@@ -287,8 +285,8 @@ offers_none s query cells h uncovered = record {
 
 -- a query as it is open, and how far it is
 far_open : (s : State) (query : ℕ) (o : Open) → open_at query (machine_in s).queries ≡ Some o
-    → progress_at query (core_of s).progress ≡ Some (far_of query (entry_in s.table query))
-far_open s query o there = far_at query (machine_in s).queries (entry_in s.table) o there
+    → progress_at query (core_of s).progress ≡ Some (far_of query (entry_in s.table query) (tried_of s.table query))
+far_open s query o there = far_at query (machine_in s).queries (entry_in s.table) (tried_of s.table) o there
 
 as_kept : (old : State) (mid new : CoreData) (query : ℕ) (cells : List DoneCells) (answer : Kept) (o : Open) → open_at query (machine_in old).queries ≡ Some o
     → KeepsCells (core_of old) o cells answer mid.kept
@@ -296,10 +294,10 @@ as_kept : (old : State) (mid new : CoreData) (query : ℕ) (cells : List DoneCel
 as_kept old mid new query cells answer o there keeps x = record {
   opened = o;
   is_open = there;
-  far = far_of query (entry_in old.table query);
+  far = far_of query (entry_in old.table query) (tried_of old.table query);
   is_far = far_open old query o there;
   keeps = subst (KeepsCells (core_of old) o cells answer) (sym x.kept) keeps;
-  progress_is = x.progress_is o (far_of query (entry_in old.table query)) there (far_open old query o there);
+  progress_is = x.progress_is o (far_of query (entry_in old.table query) (tried_of old.table query)) there (far_open old query o there);
   history = record { limits = x.history.limits; names = x.history.names; journal = x.history.journal };
   queues = x.queues;
   ring = x.ring;

@@ -1,6 +1,8 @@
 -- A state stands after each call on its journal.
-use Rattle.std.proofs.Common.{◌≡◌, ℕ, ◌+◌, ◌*◌, ◌<◌, ◌≤◌, inl, inr, Bool, true, false, not, cond, map, nat_eq, Option, Some, None, List, [], ◌∷◌, ◌++◌, filter, length, refl, sym, ap, ◌∙◌, arith, subst}
+use Rattle.std.proofs.Common.{◌≡◌, ◌⊎◌, ℕ, ◌+◌, ◌*◌, ◌<◌, ◌≤◌, inl, inr, Bool, true, false, not, cond, map, nat_eq, Option, Some, None, List, [], ◌∷◌, ◌++◌, filter, length, refl, sym, ap, ◌∙◌, arith, subst}
+use Rattle.std.proofs.lemmas.List.Sums.{sum_by-cons}
 use Rattle.std.specs.HashMap.{get}
+use Rattle.std.specs.Option.{option_map}
 use Rattle.std.specs.Prelude.{MatchOption, sum, vec_capacity, ◌==◌}
 use Rattle.std.proofs.lemmas.Bool.Decides.{nat_tests}
 use Rattle.pf_base.specs.declared.plain.By.{By}
@@ -14,7 +16,9 @@ use Rattle.pf_model.specs.Log.{Change}
 use Rattle.pf_queue.specs.Rings.{waits, without}
 use Rattle.pf_query.specs.Jobs.{is_empty, is_other_hand, is_other_job}
 use Rattle.pf_query.specs.Tables as table
-use Rattle.pf_query.specs.Tables.{AreLeft, Ends, EntryData, IsClosed, IsInHand, IsSameTable, IsStopped, IsTable, IsWaiting, Stops, entry_in, hands_of, ring_of, waiting_of}
+use Rattle.pf_query.specs.Entries.{most_tries}
+use Rattle.pf_query.specs.Tables.{AreLeft, Ends, EntryData, IsClosed, IsInHand, IsSameTable, IsStopped, IsTable, IsWaiting, Stops, entry_in, hands_of, last_tries, ring_of, tried_by, tried_of, tries_in_hand, tries_waiting, tries_with, waiting_of}
+use Rattle.pf_query.specs.declared.entry.Entry as table_entry
 use Rattle.pf_query.specs.declared.job.Hand.{Hand}
 use Rattle.pf_query.specs.declared.job.Job.{Job}
 use Rattle.pf_query.specs.declared.stop.Stop.{Stop}
@@ -23,17 +27,17 @@ use Rattle.pf_query.specs.declared.table.Table.{Table}
 use Rattle.pf_results.specs.Truth.{AreTrue, HaveGrown, StayTrue}
 use Rattle.pf_core.specs.Cached.{KeptData}
 use Rattle.pf_core.specs.Calls.{IsAnswerable, IsCodeBy}
-use Rattle.pf_core.specs.Cores.{AreBegun, AreClosed, AreCovered, AreSameJobs, AreSameWork, CoreData, Enters, IsLeft, KeepsTruth, Stands, machine_of, open_tries, others_waiting, queue_at}
+use Rattle.pf_core.specs.Cores.{AllAreTried, AreBegun, AreClosed, AreCovered, AreSameJobs, AreSameWork, AreTried, CoreData, Enters, IsLeft, KeepsTruth, Stands, machine_of, others_waiting, queue_at}
 use Rattle.pf_core.specs.Entries.{entry_of}
-use Rattle.pf_core.specs.Jobs.{QueueHeads, by_tenant, is_other_head, tried_in, tries_in}
-use Rattle.pf_core.specs.Progress.{begun, exhausted_in, is_exhausted, stopped, with_progress, without_progress}
-use Rattle.pf_core.specs.States.{AreCounts, AreJobs, HasHistory, IsOutstanding, IsSame, IsSameButCache, IsState, JobStands, KeepsFailures, KeepsHistory, KeepsJobs, core_of, heads_in, machine_in, progress_of}
+use Rattle.pf_core.specs.Jobs.{QueueHeads, by_tenant, is_other_head, tries_in, tries_queued}
+use Rattle.pf_core.specs.Progress.{QueryProgress, begun, progress_at, stopped, tried_in, with_progress, without_progress}
+use Rattle.pf_core.specs.States.{AreCounts, AreJobs, HasHistory, IsOutstanding, IsSame, IsSameButCache, IsState, JobStands, KeepsFailures, KeepsHistory, KeepsJobs, core_of, far_of, heads_in, machine_in, progress_of}
 use Rattle.pf_core.specs.declared.state.State.{State}
-use Rattle.pf_core.proofs.Covered.{covered_entered, hands_filtered, tried_left}
+use Rattle.pf_core.proofs.Covered.{covered_entered}
 use Rattle.pf_core.proofs.Logs.{logs_grown}
 use Rattle.pf_core.proofs.Machines.{after_push, bool_cases}
 use Rattle.pf_core.proofs.Outstanding.{each_filter, entry_there, jobs_grow, jobs_with, none_there, outstanding_answered, outstanding_cancelled, outstanding_opened, outstanding_same}
-use Rattle.pf_core.proofs.Progressing.{exhausted_begun, exhausted_gone, exhausted_no_more, far_cancelled, far_closed, far_opened, far_set, goes_with, not_by_want}
+use Rattle.pf_core.proofs.Progressing.{far_at, far_cancelled, far_closed, far_opened, far_set, goes_with, over_gone, tried_begun, tried_over, tries_over}
 use Rattle.pf_core.proofs.Stepped.{counted, history_as, same_core, same_history}
 use Rattle.pf_core.proofs.Tenanted.{empty_heads, has_queue, head_of, other_heads, queue_is, served, tries_table}
 
@@ -80,6 +84,68 @@ truth_same : (old new : State) → KeepsHistory old new → new.results ≡ old.
 truth_same old new k same h =
     truth_beside old new k (subst (λ (x : KeptData). AreTrue old.limits.window old.limits.interval (log_of (machine_in old).logs) x.entries) (sym same) h)
 
+-- what is counted of an open query's failed tries covers its jobs
+
+queued_tries : (query : ℕ) (js : List Job) → tries_queued query (map head_of js) ≡ tries_waiting query js
+queued_tries query [] = refl
+queued_tries query (j ∷ js) =
+    let now = sum_by-cons (tries_with query) j.head (map head_of js) in
+    let was = sum_by-cons (λ (x : Job). tries_with query x.head) j js in
+    let rest = queued_tries query js in
+    omega (arith, now, was, rest)
+
+tried_at : (s : State) (query : ℕ) (o : Open) (d : EntryData) → IsTable s.table → d.tenant ≡ o.tenant → entry_in s.table query ≡ Some d
+    → AreTried (core_of s) query o (far_of query (Some d) (tried_of s.table query))
+tried_at s query o d t owner there = by (get nat_eq s.table.entries query) refl there where
+  queued : (u : ℕ) → tries_queued query (queue_at (core_of s) u).waiting ≡ tries_waiting query (waiting_of s.table u)
+  queued u = ap (λ (q : QueueHeads). tries_queued query q.waiting) (queue_is s t u) ∙ queued_tries query (waiting_of s.table u)
+
+  held : (u : ℕ) → tries_in_hand query (queue_at (core_of s) u).hands ≡ tries_in_hand query (hands_of s.table u)
+  held u = ap (λ (q : QueueHeads). tries_in_hand query q.hands) (queue_is s t u)
+
+  told : (e : table_entry.Entry) → table.data_of e ≡ d → table.AreTried query (waiting_of s.table) (hands_of s.table) e
+      → (most_tries ≤ e.tried) ⊎ (tries_queued query (queue_at (core_of s) o.tenant).waiting + tries_in_hand query (queue_at (core_of s) o.tenant).hands
+      + last_tries d.stop ≤ e.tried)
+  told e is (inl most) = inl most
+  told e is (inr few) =
+      let tenant : e.tenant ≡ o.tenant = ap (λ (x : EntryData). x.tenant) is ∙ owner in
+      let stop = ap (λ (x : EntryData). last_tries x.stop) is in
+      let jobs = queued o.tenant ∙ sym (ap (λ u. tries_waiting query (waiting_of s.table u)) tenant) in
+      let hands = held o.tenant ∙ sym (ap (λ u. tries_in_hand query (hands_of s.table u)) tenant) in
+      inr (omega (arith, few, stop, jobs, hands))
+
+  by : (raw : Option table_entry.Entry) → get nat_eq s.table.entries query ≡ raw → option_map table.data_of raw ≡ Some d
+      → (most_tries ≤ tried_by raw) ⊎ (tries_queued query (queue_at (core_of s) o.tenant).waiting + tries_in_hand query (queue_at (core_of s) o.tenant).hands
+      + last_tries d.stop ≤ tried_by raw)
+  by None e h = cc
+  by (Some x) e h = let is : table.data_of x ≡ d = cc in told x is (t.tried query x e)
+
+tried_all : (s : State) → IsTable s.table → ((p : ℕ) → IsOutstanding s.limits (open_at p (machine_in s).queries) (entry_in s.table p)) → AllAreTried (core_of s)
+tried_all s t outstanding query o p there is =
+    let entry = entry_there s.limits (open_at query (machine_in s).queries) (entry_in s.table query) o (outstanding query) there in
+    let far : Some p ≡ Some (far_of query (Some entry.kept) (tried_of s.table query)) =
+    sym is ∙ far_at query (machine_in s).queries (entry_in s.table) (tried_of s.table) o there
+    ∙ ap (λ (x : Option EntryData). Some (far_of query x (tried_of s.table query))) entry.there in
+    let same : p ≡ far_of query (Some entry.kept) (tried_of s.table query) = cc in
+    subst (AreTried (core_of s) query o) (sym same) (tried_at s query o entry.kept t entry.is.tenant entry.there)
+
+-- at least five of one that a job stopped
+five_tried : (t : Table) (query : ℕ) (d : EntryData) → IsTable t → entry_in t query ≡ Some d → last_tries d.stop ≤ tried_of t query
+five_tried t query d h there = by (get nat_eq t.entries query) refl there where
+  few : (stop : Option Stop) → last_tries stop ≤ 5
+  few None = omega arith
+  few (Some (Cancelled place)) = omega arith
+  few (Some (Exhausted job)) = omega arith
+  few (Some Starved) = omega arith
+
+  told : (e : table_entry.Entry) → table.data_of e ≡ d → table.AreTried query (waiting_of t) (hands_of t) e → last_tries d.stop ≤ e.tried
+  told e is (inl most) = let five = few d.stop in omega (arith, most, five)
+  told e is (inr few) = let stop = ap (λ (x : EntryData). last_tries x.stop) is in omega (arith, few, stop)
+
+  by : (raw : Option table_entry.Entry) → get nat_eq t.entries query ≡ raw → option_map table.data_of raw ≡ Some d → last_tries d.stop ≤ tried_by raw
+  by None e k = cc
+  by (Some x) e k = let is : table.data_of x ≡ d = cc in told x is (h.tried query x e)
+
 -- what every core keeps
 pub stands : (s : State) → HasHistory s → IsTable s.table → AreCounts s.failed.items s.total
     → ((p : ℕ) → IsOutstanding s.limits (open_at p (machine_in s).queries) (entry_in s.table p)) → AreCovered (core_of s) → KeepsTruth (core_of s) → Stands (core_of s)
@@ -89,7 +155,8 @@ stands s h t k outstanding covered truth = record {
   names = h.stands.names;
   served = served s t;
   actors = k.actors;
-  progressing = goes_with s.limits (machine_in s).queries (entry_in s.table) h.keeps.are_open.apart outstanding;
+  progressing = goes_with s.limits (machine_in s).queries (entry_in s.table) (tried_of s.table) h.keeps.are_open.apart outstanding;
+  tried = tried_all s t outstanding;
   covered = covered;
   kept = truth;
 }
@@ -119,7 +186,7 @@ pub state_entered : (old new : State) (by : By) (what : What) → IsState old �
     → IsTable new.table → KeepsFailures old new
     → ((p : ℕ) → IsOutstanding old.limits (open_at p (queries_after (machine_in old) what)) (entry_in new.table p))
     → ((u : ℕ) → Each (JobStands (map entry_of old.journal.items) old.limits) (waiting_of new.table u))
-    → 5 * is_500 what + open_tries (core_of new) ≤ open_tries (core_of old) → KeepsTruth (core_of new)
+    → 5 * is_500 what + tried_in (core_of new).progress ≤ tried_in (core_of old).progress → KeepsTruth (core_of new)
     → IsState new
 state_entered old new by what h history e t k outstanding waiting tries truth =
     let jobs : AreJobs (map entry_of new.journal.items) new.limits (machine_in new).queries (entry_in new.table) (waiting_of new.table) =
@@ -148,7 +215,7 @@ pub work_kept : (old new : State) (by : By) (what : What) → Enters (core_of ol
     → queries_after (machine_in old) what ≡ (machine_in old).queries → AreSameWork (core_of old) (core_of new)
 work_kept old new by what e k same = (
   kept_jobs old new k,
-  (λ i. progress_of ((queries_entered (core_of old) (core_of new) by what e ∙ same) i) (entry_in (k.table i))),
+  (λ i. progress_of ((queries_entered (core_of old) (core_of new) by what e ∙ same) i) (entry_in (k.table i)) (tried_of (k.table i))),
 )
 
 -- after an entry that leaves the jobs
@@ -160,9 +227,8 @@ state_kept old new by what law h history e k same none =
     (subst (λ (qs : List Open). IsOutstanding old.limits (open_at p qs) (entry_in old.table p)) (sym same) (h.jobs.outstanding p)))
     (λ u. subst (λ (t : Table). Each (JobStands (map entry_of old.journal.items) old.limits) (waiting_of t u)) (sym k.table) (h.jobs.waiting_for u))
     (let work = work_kept old new by what e k same in
-    let tries = ap tried_in work.0.queues in
-    let far = ap exhausted_in work.1 in
-    omega (arith, none, tries, far))
+    let far = ap tried_in work.1 in
+    omega (arith, none, far))
     (truth_grown old new by what law e k.results h.stands.kept)
 
 -- after a call that leaves the journal
@@ -202,7 +268,7 @@ core_cached old new e = λ i. record {
   limits = e.history.limits i;
   names = (e.history.tenants i).names;
   journal = map entry_of (e.history.journal i).items;
-  progress = progress_of (machine_after started (map entry_of (e.history.journal i).items)).queries (entry_in (e.table i));
+  progress = progress_of (machine_after started (map entry_of (e.history.journal i).items)).queries (entry_in (e.table i)) (tried_of (e.table i));
   queues = by_tenant (heads_in (e.table i));
   ring = ring_of (e.table i);
   failed = (e.failed i).items;
@@ -252,6 +318,7 @@ same_table t u e = subst (λ (x : Table). IsSameTable t x) (sym e) (record {
   entries = λ q. refl;
   queues = record { queues = λ v. record { waiting = refl; hands = refl }; ring = refl };
   tries = refl;
+  tried = λ q. refl;
 })
 
 -- ---- jobs of a query leave
@@ -274,10 +341,10 @@ cancelled_progress : (old new : State) (by : By) (query : ℕ) (d : EntryData) (
     → entry_in old.table query ≡ Some d → Stops old.table query (Cancelled (length old.journal.items)) d hands new.table
     → (core_of new).progress ≡ with_progress query (stopped (Cancelled (machine_in old).count)) (core_of old).progress
 cancelled_progress old new by query d hands e there stops =
-    ap (λ (qs : List Open). progress_of qs (entry_in new.table)) (queries_entered (core_of old) (core_of new) by (cancel query) e)
-    ∙ far_cancelled (machine_in old).count query (machine_in old).queries (entry_in new.table)
-    ∙ far_set query (stopped (Cancelled (length old.journal.items))) (machine_in old).queries (entry_in old.table) (entry_in new.table) (Some d) _ there
-    stops.entries refl
+    ap (λ (qs : List Open). progress_of qs (entry_in new.table) (tried_of new.table)) (queries_entered (core_of old) (core_of new) by (cancel query) e)
+    ∙ far_cancelled (machine_in old).count query (machine_in old).queries (entry_in new.table) (tried_of new.table)
+    ∙ far_set query (stopped (Cancelled (length old.journal.items))) (machine_in old).queries (entry_in old.table) (entry_in new.table) (tried_of old.table)
+    (tried_of new.table) (Some d) _ there stops.entries (λ q x. stops.tried q) (ap (far_of query (Some (table.stopped (Cancelled (length old.journal.items)) d))) (stops.tried query))
     ∙ ap (λ n. with_progress query (stopped (Cancelled n)) (core_of old).progress) (sym (counted old))
 
 -- a query is cancelled
@@ -297,10 +364,15 @@ cancelled_state old new by query o h history e found s t k =
     (jobs_with (map entry_of old.journal.items) l entry.kept.tenant (waiting_of old.table) (waiting_of new.table) _ h.jobs.waiting_for stops.queues.waiting
     (each_filter _ (is_other_job query) (waiting_of old.table entry.kept.tenant) (h.jobs.waiting_for entry.kept.tenant))
     (λ v d. (stops.queues.others v d).waiting))
-    (let far = ap exhausted_in (cancelled_progress old new by query entry.kept _ e entry.there stops) in
-    let less = exhausted_no_more query (stopped (Cancelled (machine_in old).count)) (not_by_want (Cancelled (machine_in old).count) refl) (core_of old).progress in
-    let tries = tried_left old.table new.table entry.kept.tenant query _ _ stops.queues (omega arith) in
-    omega (arith, far, less, tries))
+    (let far : tried_in (core_of new).progress ≡ tried_in (progress_of (machine_in old).queries (entry_in new.table) (tried_of new.table)) =
+    ap tried_in
+    (ap (λ (qs : List Open). progress_of qs (entry_in new.table) (tried_of new.table)) (queries_entered (core_of old) (core_of new) by (cancel query) e)
+    ∙ far_cancelled (machine_in old).count query (machine_in old).queries (entry_in new.table) (tried_of new.table)) in
+    let now = tried_over (machine_in old).queries (entry_in new.table) (tried_of new.table) in
+    let same : tries_over (tried_of new.table) (machine_in old).queries ≡ tries_over (tried_of old.table) (machine_in old).queries =
+    λ i. tries_over (λ q. stops.tried q i) (machine_in old).queries in
+    let was = tried_over (machine_in old).queries (entry_in old.table) (tried_of old.table) in
+    omega (arith, far, now, same, was))
     (truth_kept old new by (cancel query) e refl k.results h.stands.kept)
 
 pub cancelled_jobs : (old new : State) (by : By) (query : ℕ) (o : Open) → IsState old → Enters (core_of old) by (cancel query) (core_of new)
@@ -336,23 +408,38 @@ cancelled_jobs old new by query o h e found s t k = (
 -- how far the work on open queries is, once one is answered
 closed_progress : (old new : State) (by : By) (query code cached evaluated : ℕ) → Enters (core_of old) by (answer query code cached evaluated) (core_of new)
     → ((q : ℕ) → entry_in new.table q ≡ cond (nat_eq query q) None (entry_in old.table q))
+    → ((q : ℕ) → tried_of new.table q ≡ cond (nat_eq query q) 0 (tried_of old.table q))
     → (core_of new).progress ≡ without_progress query (core_of old).progress
-closed_progress old new by query code cached evaluated e sets =
-    ap (λ (qs : List Open). progress_of qs (entry_in new.table)) (queries_entered (core_of old) (core_of new) by (answer query code cached evaluated) e)
-    ∙ far_closed query (machine_in old).queries (entry_in old.table) (entry_in new.table) sets
+closed_progress old new by query code cached evaluated e sets left =
+    ap (λ (qs : List Open). progress_of qs (entry_in new.table) (tried_of new.table))
+    (queries_entered (core_of old) (core_of new) by (answer query code cached evaluated) e)
+    ∙ far_closed query (machine_in old).queries (entry_in old.table) (entry_in new.table) (tried_of old.table) (tried_of new.table) sets left
 
 -- only the code of a query that a failed job stopped is 500
-abbrev one_if_stopped : Option Stop → ℕ
-one_if_stopped stop = cond (is_exhausted stop) 1 0
-
-code_500 : (l : Limits) (o : Open) (given : Bool) (stop : Option Stop) (code : ℕ) → IsCodeBy l o given stop code → cond (nat_eq code 500) 1 0 ≤ one_if_stopped stop
+code_500 : (l : Limits) (o : Open) (given : Bool) (stop : Option Stop) (code : ℕ) → IsCodeBy l o given stop code → 5 * cond (nat_eq code 500) 1 0 ≤ last_tries stop
 code_500 l o given None code h = by (answer_of l o) h.1 where
-  by : (a : Answer) → code ≡ code_of a → cond (nat_eq code 500) 1 0 ≤ 0
-  by (gathered rows) e = subst (λ n. cond (nat_eq n 500) 1 0 ≤ 0) (sym e) (omega arith)
-  by (failed step kind) e = subst (λ n. cond (nat_eq n 500) 1 0 ≤ 0) (sym e) (omega arith)
-code_500 l o given (Some (Cancelled place)) code h = subst (λ n. cond (nat_eq n 500) 1 0 ≤ 0) (sym h) (omega arith)
-code_500 l o given (Some (Exhausted job)) code h = subst (λ n. cond (nat_eq n 500) 1 0 ≤ 1) (sym h) (omega arith)
-code_500 l o given (Some Starved) code h = subst (λ n. cond (nat_eq n 500) 1 0 ≤ 0) (sym h) (omega arith)
+  by : (a : Answer) → code ≡ code_of a → 5 * cond (nat_eq code 500) 1 0 ≤ 0
+  by (gathered rows) e = subst (λ n. 5 * cond (nat_eq n 500) 1 0 ≤ 0) (sym e) (omega arith)
+  by (failed step kind) e = subst (λ n. 5 * cond (nat_eq n 500) 1 0 ≤ 0) (sym e) (omega arith)
+code_500 l o given (Some (Cancelled place)) code h = subst (λ n. 5 * cond (nat_eq n 500) 1 0 ≤ 0) (sym h) (omega arith)
+code_500 l o given (Some (Exhausted job)) code h = subst (λ n. 5 * cond (nat_eq n 500) 1 0 ≤ 5) (sym h) (omega arith)
+code_500 l o given (Some Starved) code h = subst (λ n. 5 * cond (nat_eq n 500) 1 0 ≤ 0) (sym h) (omega arith)
+
+-- how an open query is stopped, by the table
+stop_told : (s : State) (query : ℕ) (o : Open) (p : QueryProgress) (d : EntryData) → open_at query (machine_in s).queries ≡ Some o
+    → progress_at query (core_of s).progress ≡ Some p → entry_in s.table query ≡ Some d → p.stop ≡ d.stop
+stop_told s query o p d there is entry =
+    let far : Some p ≡ Some (far_of query (Some d) (tried_of s.table query)) =
+    sym is ∙ far_at query (machine_in s).queries (entry_in s.table) (tried_of s.table) o there
+    ∙ ap (λ (x : Option EntryData). Some (far_of query x (tried_of s.table query))) entry in
+    let same : p ≡ far_of query (Some d) (tried_of s.table query) = cc in
+    ap (λ (x : QueryProgress). x.stop) same
+
+apart : (m n : ℕ) → (m ≡ n → ⊥) → nat_eq m n ≡ false
+apart m n d = elim (bool_cases (nat_eq m n)) [
+  | inl t ↦ absurd (d (grind (arith, nat_tests, t)))
+  | inr t ↦ t
+]
 
 -- a query is answered
 pub answered_state : (old new : State) (by : By) (query code cached evaluated : ℕ) (o : Open) → IsState old → HasHistory new
@@ -369,13 +456,19 @@ answered_state old new by query code cached evaluated o h history e found may s 
     (jobs_with (map entry_of old.journal.items) l entry.kept.tenant (waiting_of old.table) (waiting_of new.table) _ h.jobs.waiting_for ends.queues.waiting
     (each_filter _ (is_other_job query) (waiting_of old.table entry.kept.tenant) (h.jobs.waiting_for entry.kept.tenant))
     (λ v d. (ends.queues.others v d).waiting))
-    (let far = ap exhausted_in (closed_progress old new by query code cached evaluated e ends.entries) in
-    let gone = exhausted_gone query (core_of old).progress may.opened.far may.opened.is_far in
-    let stop = ap one_if_stopped may.opened.stop_is in
+    (let far : tried_in (core_of new).progress ≡ tried_in (progress_of (closed query (machine_in old).queries) (entry_in new.table) (tried_of new.table)) =
+    ap tried_in
+    (ap (λ (qs : List Open). progress_of qs (entry_in new.table) (tried_of new.table))
+    (queries_entered (core_of old) (core_of new) by (answer query code cached evaluated) e)) in
+    let now = tried_over (closed query (machine_in old).queries) (entry_in new.table) (tried_of new.table) in
+    let was = tried_over (machine_in old).queries (entry_in old.table) (tried_of old.table) in
+    let others : (q : ℕ) → (q ≡ query → ⊥) → tried_of new.table q ≡ tried_of old.table q = λ q d.
+    (let other : nat_eq query q ≡ false = apart query q (λ x. d (sym x)) in rw other at (ends.tried q)) in
+    let gone = over_gone query (tried_of old.table) (tried_of new.table) others (machine_in old).queries o found in
+    let stop = ap last_tries (sym may.opened.stop_is ∙ stop_told old query may.opened.opened may.opened.far entry.kept may.opened.is_open may.opened.is_far entry.there) in
     let one = code_500 old.limits may.opened.opened may.opened.far.given may.stop code may.coded in
-    let tries = tried_left old.table new.table entry.kept.tenant query _ _ ends.queues
-    (hands_filtered (is_other_hand query) (hands_of old.table entry.kept.tenant)) in
-    omega (arith, far, gone, stop, one, tries))
+    let five = five_tried old.table query entry.kept h.table entry.there in
+    omega (arith, far, now, was, gone, stop, one, five))
     (truth_kept old new by (answer query code cached evaluated) e refl k.results h.stands.kept)
 
 pub closed_jobs : (old new : State) (by : By) (query code cached evaluated : ℕ) (o : Open) → IsState old
@@ -396,7 +489,7 @@ closed_jobs old new by query code cached evaluated o h e found s t k = record {
       let entry = entry_there old.limits (open_at query (machine_in old).queries) (entry_in old.table query) o (h.jobs.outstanding query) found in
       let ends : Ends old.table query entry.kept new.table =
       subst (λ (x : Option EntryData). MatchOption x (IsSameTable old.table new.table) (λ d. Ends old.table query d new.table)) entry.there s in
-      closed_progress old new by query code cached evaluated e ends.entries;
+      closed_progress old new by query code cached evaluated e ends.entries ends.tried;
 }
 
 -- ---- a query is opened
@@ -413,6 +506,12 @@ unopened s h =
           let low = below.0 in
           let other : nat_eq q.place (length s.journal.items) ≡ false = grind (arith, nat_tests, low) in
           rw other (later qs below.1)
+
+never_tried : (t : Table) (query : ℕ) → entry_in t query ≡ None → tried_of t query ≡ 0
+never_tried t query h = by (get nat_eq t.entries query) h where
+  by : (raw : Option table_entry.Entry) → option_map table.data_of raw ≡ None → tried_by raw ≡ 0
+  by None h = refl
+  by (Some e) h = cc
 
 opened_jobs : (old new : State) (u : ℕ) → table.IsOpened old.table (length old.journal.items) u new.table → KeepsFailures old new
     → AreSameJobs (core_of old) (core_of new)
@@ -433,9 +532,12 @@ pub opened_work : (old new : State) (by : By) (what : What) (o : Open) (place : 
     → table.IsOpened old.table (length old.journal.items) o.tenant new.table → KeepsFailures old new → AreBegun (core_of old) place (core_of new)
 opened_work old new by what o place h e more here at_end opened k = (
   opened_jobs old new o.tenant opened k,
-  (λ i. progress_of ((queries_entered (core_of old) (core_of new) by what e ∙ more) i) (entry_in new.table))
-      ∙ far_opened (length old.journal.items) (machine_in old).queries o (entry_in old.table) (entry_in new.table) _ opened.entries
-      (subst (λ n. Each (λ q. q.place < n) (machine_in old).queries) (counted old) h.history.keeps.are_open.below) here refl
+  (λ i. progress_of ((queries_entered (core_of old) (core_of new) by what e ∙ more) i) (entry_in new.table) (tried_of new.table))
+      ∙ far_opened (length old.journal.items) (machine_in old).queries o (entry_in old.table) (entry_in new.table) (tried_of old.table) (tried_of new.table) _
+      opened.entries opened.tried
+      (subst (λ n. Each (λ q. q.place < n) (machine_in old).queries) (counted old) h.history.keeps.are_open.below) here
+      (ap (far_of (length old.journal.items) (Some (record { tenant = o.tenant; stop = None; work = None })))
+      (opened.tried (length old.journal.items) ∙ never_tried old.table (length old.journal.items) (unopened old h)))
       ∙ ap (λ n. (core_of old).progress ++ begun n ∷ []) (sym at_end),
 )
 
@@ -452,10 +554,9 @@ opened_state old new by what o law h history e more place whole none opened t k 
     (λ u. subst (λ (js : List Job). Each (JobStands (map entry_of old.journal.items) old.limits) js) (sym (opened.queues.queues u).waiting)
     (h.jobs.waiting_for u))
     (let work = opened_work old new by what o (length old.journal.items) h e more place refl opened k in
-    let far = ap exhausted_in work.1 in
-    let one = exhausted_begun (length old.journal.items) (core_of old).progress in
-    let tries = ap tried_in work.0.queues in
-    omega (arith, none, far, one, tries))
+    let far = ap tried_in work.1 in
+    let one = tried_begun (length old.journal.items) (core_of old).progress in
+    omega (arith, none, far, one))
     (truth_grown old new by what law e k.results h.stands.kept)
 
 -- a query that was opened and ended again left nothing behind
@@ -514,6 +615,15 @@ undone before mid after place u h k none opened closed = record {
   tries = sym (tries_table after k)
       ∙ ap (λ (f : ℕ → QueueHeads). tries_in (by_tenant f)) (λ i v. record { waiting = map head_of (waiting v i); hands = hands v i })
       ∙ tries_table before h;
+  tried = λ q. elim (bool_cases (nat_eq place q)) [
+    | inl t ↦
+        let same : place ≡ q = grind (arith, nat_tests, t) in
+        let gone : tried_of after q ≡ 0 = rw t at (ends.tried q) in
+        gone ∙ sym (subst (λ x. tried_of before x ≡ 0) same (never_tried before place none))
+    | inr t ↦
+        let first : tried_of after q ≡ tried_of mid q = rw t at (ends.tried q) in
+        first ∙ opened.tried q
+  ];
 } where
   kept : EntryData
   kept = record { tenant = u; stop = None; work = None }

@@ -49,7 +49,8 @@ same_core old new e =
       limits = e.limits i;
       names = (e.tenants i).names;
       journal = map entry_of (e.journal i);
-      progress = progress_of (machine_after started (map entry_of (e.journal i))).queries (λ q. e.jobs.table.entries q i);
+      progress = progress_of (machine_after started (map entry_of (e.journal i))).queries (λ q. e.jobs.table.entries q i)
+          (λ q. e.jobs.table.tried q i);
       queues = by_tenant (λ u. record {
         waiting = map (λ (j : Job). j.head) ((e.jobs.table.queues.queues u).waiting i);
         hands = (e.jobs.table.queues.queues u).hands i;

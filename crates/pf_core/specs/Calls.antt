@@ -37,7 +37,7 @@ use Rattle.pf_core.specs.Asks.{opened_at}
 use Rattle.pf_core.specs.Cached.{KeptData, asker_of, cached_steps, fixed_by, is_offered_at_once, kept_by, used_by, wanted_runs}
 use Rattle.pf_core.specs.Cores.{AreSameJobs, CoreData, HasQueue, IsLeft, IsSameHistory, in_hand_of, machine_of, queue_at, queued_of, tries_left}
 use Rattle.pf_core.specs.Jobs.{AreParts, IsForAsk, IsLegsOf, IsRunOf, IsValueOver, QueueHeads, failures_after, legs_asked, planned_heads}
-use Rattle.pf_core.specs.Progress.{QueryProgress, cancel_in, handed_out, offered, planned, progress_at, stopped, with_progress}
+use Rattle.pf_core.specs.Progress.{QueryProgress, cancel_in, exhausted, handed_out, offered, planned, progress_at, stopped, tried_once, with_progress}
 use Rattle.pf_core.specs.declared.answers.Kept.{Kept}
 use Rattle.pf_core.specs.declared.answers.Kept.TheVariants.{NoMemory, Outdated, Steps}
 
@@ -110,11 +110,14 @@ Takes old actor (Some held) new = IsTaken old actor held new
 abbrev pub hands_left : CoreData → Held → List Hand
 hands_left c held = without_hand (hand_of held) (queue_at c held.head.tenant).hands
 
--- a job is in hand no more
-abbrev pub IsReleased : CoreData → Held → CoreData → Type 0
-IsReleased old held new =
+-- a job is in hand no more, and queries are as far as this
+abbrev pub Releases : CoreData → Held → List QueryProgress → CoreData → Type 0
+Releases old held progress new =
     ChangesQueue old held.head.tenant
-    (record { waiting = (queue_at old held.head.tenant).waiting; hands = hands_left old held }) old.ring old.progress old.kept new
+    (record { waiting = (queue_at old held.head.tenant).waiting; hands = hands_left old held }) old.ring progress old.kept new
+
+abbrev pub IsReleased : CoreData → Held → CoreData → Type 0
+IsReleased old held new = Releases old held old.progress new
 
 abbrev pub is_in_hand : CoreData → Held → Bool
 is_in_hand c held = has_hand (hand_of held) (queue_at c held.head.tenant).hands
@@ -133,6 +136,10 @@ IsFinished old held finished.NotHeld new = IsNotHeld old held × (new ≡ old)
 abbrev pub counted : CoreData → ℕ → CoreData
 counted c actor = record c { failed = failures_after c.failed actor }
 
+-- how far queries are once a job's failed try is counted for its query
+abbrev pub tried_after : CoreData → Held → List QueryProgress
+tried_after c held = with_progress held.head.query tried_once c.progress
+
 -- a job waits last of its tenant's, tried once more
 abbrev pub IsPutBack : CoreData → Held → CoreData → Type 0
 IsPutBack old held new =
@@ -141,15 +148,16 @@ IsPutBack old held new =
       waiting = (queue_at old held.head.tenant).waiting ++ tried (held.head.tries + 1) held.head ∷ [];
       hands = hands_left old held;
     })
-    (cond (is_empty (queue_at old held.head.tenant).waiting) (put_last held.head.tenant old.ring) old.ring) old.progress old.kept new
+    (cond (is_empty (queue_at old held.head.tenant).waiting) (put_last held.head.tenant old.ring) old.ring) (tried_after old held)
+    old.kept new
 
--- a query is stopped: none of its jobs waits any more, and these of its tenant's jobs are in hand
-pub record StopsQuery (old : CoreData) (u query : ℕ) (why : Stop) (hands : List Hand) (new : CoreData) : Type 0 where
+-- a query is stopped, as this tells: none of its jobs waits any more, and these of its tenant's jobs are in hand
+pub record StopsQuery (old : CoreData) (u query : ℕ) (stop : QueryProgress → QueryProgress) (hands : List Hand) (new : CoreData) : Type 0 where
   pub left : IsLeft old u query hands new
   pub history : IsSameHistory old new
   pub failed : new.failed ≡ old.failed
   pub kept : new.kept ≡ old.kept
-  pub progress_is : new.progress ≡ with_progress query (stopped why) old.progress
+  pub progress_is : new.progress ≡ with_progress query stop old.progress
 
 -- what became of a failed job, over the core in which the try is counted
 abbrev pub IsTried : CoreData → Held → FailedTry → CoreData → Type 0
@@ -157,8 +165,9 @@ IsTried old held (failed.Again tries) new =
     IsWhole old held.head.query × ((is_in_hand old held ≡ true) × ((tries ≡ held.head.tries + 1) × ((tries < 5) × IsPutBack old held new)))
 IsTried old held (failed.Exhausted job) new =
     IsWhole old held.head.query
-    × ((is_in_hand old held ≡ true) × ((job ≡ held.head.job) × ((held.head.tries ≡ 4) × StopsQuery old held.head.tenant held.head.query (Exhausted job) (hands_left old held) new)))
-IsTried old held (failed.Gone why) new = IsStoppedBy old held.head.query why × IsReleased old held new
+    × ((is_in_hand old held ≡ true) × ((job ≡ held.head.job) × ((held.head.tries ≡ 4) × StopsQuery old held.head.tenant held.head.query (exhausted job) (hands_left old held) new)))
+IsTried old held (failed.Gone why) new =
+    IsStoppedBy old held.head.query why × Releases old held (cond (is_in_hand old held) (tried_after old held) old.progress) new
 IsTried old held failed.NotHeld new = IsNotHeld old held × (new ≡ old)
 
 abbrev pub IsFailed : CoreData → Held → FailedTry → CoreData → Type 0
@@ -173,13 +182,13 @@ TriesAfter old _ new = tries_left new ≤ tries_left old
 pub record IsLackedBy (old : CoreData) (held : Held) (new : CoreData) : Type 0 where
   pub none : open_at held.head.query (machine_of old).queries ≡ None → new ≡ old
   pub some : (o : Open) → open_at held.head.query (machine_of old).queries ≡ Some o
-      → StopsQuery old o.tenant held.head.query Starved (without_hand (hand_of held) (queue_at old o.tenant).hands) new
+      → StopsQuery old o.tenant held.head.query (stopped Starved) (without_hand (hand_of held) (queue_at old o.tenant).hands) new
 
 -- a query is stopped, if it is open
 pub record IsLacked (old : CoreData) (query : ℕ) (new : CoreData) : Type 0 where
   pub none : open_at query (machine_of old).queries ≡ None → new ≡ old
   pub some : (o : Open) → open_at query (machine_of old).queries ≡ Some o
-      → StopsQuery old o.tenant query Starved (queue_at old o.tenant).hands new
+      → StopsQuery old o.tenant query (stopped Starved) (queue_at old o.tenant).hands new
 
 -- the ring once these jobs of a tenant wait behind its others
 abbrev pub ring_with : CoreData → ℕ → List JobHead → List ℕ

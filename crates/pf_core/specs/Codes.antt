@@ -154,10 +154,10 @@ stop_code = code_by (ℕ × ℕ) (coded× coded_ℕ coded_ℕ) stop_parts stop_f
 
 abbrev pub progress_code : Coded QueryProgress
 progress_code =
-    code_by (ℕ × (Option Stop × (Bool × (Bool × (List GridData × (ℕ × Bool))))))
-    (coded× coded_ℕ (coded× (coded_option stop_code) (coded× coded_bool (coded× coded_bool (coded× (coded_list grid_code) (coded× coded_ℕ coded_bool))))))
-    (λ p. (p.query, (p.stop, (p.planned, (p.given, (p.runs, (p.cached, p.offered)))))))
-    (λ p. record { query = p.0; stop = p.1.0; planned = p.1.1.0; given = p.1.1.1.0; runs = p.1.1.1.1.0; cached = p.1.1.1.1.1.0; offered = p.1.1.1.1.1.1 })
+    code_by (ℕ × (Option Stop × (Bool × (Bool × (List GridData × (ℕ × (Bool × ℕ)))))))
+    (coded× coded_ℕ (coded× (coded_option stop_code) (coded× coded_bool (coded× coded_bool (coded× (coded_list grid_code) (coded× coded_ℕ (coded× coded_bool coded_ℕ)))))))
+    (λ p. (p.query, (p.stop, (p.planned, (p.given, (p.runs, (p.cached, (p.offered, p.tried))))))))
+    (λ p. record { query = p.0; stop = p.1.0; planned = p.1.1.0; given = p.1.1.1.0; runs = p.1.1.1.1.0; cached = p.1.1.1.1.1.0; offered = p.1.1.1.1.1.1.0; tried = p.1.1.1.1.1.1.1 })
     (λ _. refl)
 
 abbrev pub core_code : Coded CoreData

@@ -15,7 +15,8 @@ use Rattle.pf_results.specs.Truth.{AreTrue}
 use Rattle.pf_journal.specs.Machine.{Entry, Machine, Open, What, append, ask, cancel, delete, full, no_tenant, log_of, most_tenants, open_at, reserved, started}
 use Rattle.pf_model.specs.declared.expr.Matcher.{Matcher}
 use Rattle.pf_query.specs.Jobs.{is_empty, is_other_hand}
-use Rattle.pf_query.specs.Tables.{hands_with}
+use Rattle.pf_query.specs.Entries.{most_tries}
+use Rattle.pf_query.specs.Tables.{hands_with, last_tries, tries_in_hand}
 use Rattle.pf_journal.specs.Weave.{failed_answers}
 use Rattle.pf_query.specs.declared.job.Hand.{Hand}
 use Rattle.pf_query.specs.declared.stop.Stop.TheVariants.{Cancelled}
@@ -23,8 +24,8 @@ use Rattle.pf_queue.specs.Rings.{AreDifferent, waits, without}
 use Rattle.pf_store.specs.Standing.{IsPin, PinData}
 use Rattle.pf_store.specs.Verdicts.{VerdictsData}
 use Rattle.pf_store.specs.declared.tenant_log.Deleted.{Deleted}
-use Rattle.pf_core.specs.Jobs.{QueueHeads, by_tenant, heads_with, is_other_head, no_failures, no_heads, tried_in, tries_in}
-use Rattle.pf_core.specs.Progress.{GoesWith, QueryProgress, begun, cancel_in, exhausted_in, progress_at, stopped, with_progress, without_progress}
+use Rattle.pf_core.specs.Jobs.{QueueHeads, by_tenant, heads_with, is_other_head, no_failures, no_heads, tries_in, tries_queued}
+use Rattle.pf_core.specs.Progress.{GoesWith, QueryProgress, begun, cancel_in, progress_at, stopped, tried_in, with_progress, without_progress}
 use Rattle.pf_core.specs.declared.error.AskError.{AskError}
 use Rattle.pf_core.specs.declared.error.AskError.TheVariants as ask_error
 use Rattle.pf_core.specs.declared.error.CoreError.{CoreError}
@@ -99,14 +100,21 @@ pub record AreServed (c : CoreData) : Type 0 where
   pub different : AreDifferent c.ring
   pub known : (u : ℕ) → waits u c.ring ≡ true → u < most_tenants
 
--- how often jobs that wait or are in hand were tried, and five tries for each open query that one of its jobs stopped
-abbrev pub open_tries : CoreData → ℕ
-open_tries c = tried_in c.queues + 5 * exhausted_in c.progress
+-- the failed tries that are counted of an open query cover those of its jobs that wait or are in hand, and five of the job that
+-- stopped it, unless they stand at their greatest number
+abbrev pub AreTried : CoreData → (query : ℕ) → Open → QueryProgress → Type 0
+AreTried c query o p =
+    (most_tries ≤ p.tried)
+    ⊎ (tries_queued query (queue_at c o.tenant).waiting + tries_in_hand query (queue_at c o.tenant).hands + last_tries p.stop ≤ p.tried)
 
--- the failed tries are at least five for each answer with 500 and those of jobs of open queries, unless their total stands at its
--- greatest value
+abbrev pub AllAreTried : CoreData → Type 0
+AllAreTried c =
+    (query : ℕ) (o : Open) (p : QueryProgress) → open_at query (machine_of c).queries ≡ Some o → progress_at query c.progress ≡ Some p → AreTried c query o p
+
+-- the failed tries of the actors are at least five for each answer with 500 and those of all jobs of open queries, unless their
+-- total stands at its greatest value
 abbrev pub AreCovered : CoreData → Type 0
-AreCovered c = (sum c.failed ≡ 18446744073709551615) ⊎ (5 * failed_answers c.journal + open_tries c ≤ sum c.failed)
+AreCovered c = (sum c.failed ≡ 18446744073709551615) ⊎ (5 * failed_answers c.journal + tried_in c.progress ≤ sum c.failed)
 
 -- each extent that is kept is what its query is over the samples after the first changes of its tenant's log, and frozen there
 -- (pf_results: Truth), in the interval of its key
@@ -122,6 +130,7 @@ pub record Stands (c : CoreData) : Type 0 where
   pub served : AreServed c
   pub actors : length c.failed ≡ 32
   pub progressing : GoesWith c.limits (machine_of c).queries c.progress
+  pub tried : AllAreTried c
   pub covered : AreCovered c
   pub kept : KeepsTruth c
 

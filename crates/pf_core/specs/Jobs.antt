@@ -13,7 +13,7 @@ use Rattle.pf_model.specs.Legs.{LegsData, leg_part}
 use Rattle.pf_model.specs.Lists.{Each}
 use Rattle.pf_model.specs.Log.{AreApart, store_of}
 use Rattle.pf_model.specs.Sharding.{legs_over}
-use Rattle.pf_query.specs.Tables.{is_of}
+use Rattle.pf_query.specs.Tables.{is_of, tries_with}
 use Rattle.pf_query.specs.Works.{last_of}
 use Rattle.pf_query.specs.declared.job.Hand.{Hand}
 use Rattle.pf_shard.specs.Bound.{AreBoundOver, AreEvaluable}
@@ -64,12 +64,9 @@ tries_of hs = sum_by (λ h. 5 - h.tries) hs
 abbrev pub tries_in : List QueueHeads → ℕ
 tries_in qs = sum_by (λ q. tries_of q.waiting) qs
 
--- how often jobs that wait, and jobs in hand, were tried already
-abbrev pub tried_of : QueueHeads → ℕ
-tried_of q = sum_by (λ h. h.tries) q.waiting + sum_by (λ h. h.head.tries) q.hands
-
-abbrev pub tried_in : List QueueHeads → ℕ
-tried_in qs = sum_by tried_of qs
+-- how often the waiting jobs of a query were tried already
+abbrev pub tries_queued : ℕ → List JobHead → ℕ
+tries_queued query hs = sum_by (tries_with query) hs
 
 -- ---- counts of failed tries
 

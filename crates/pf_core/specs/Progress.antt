@@ -1,17 +1,18 @@
 -- How far the work on open queries is, as contracts see it. This project's own.
 use Rattle.std.specs.Prelude.{◌≡◌, ◌≤◌, ℕ, Bool, true, false, not, cond, nat_eq, Option, Some, None, List, [], ◌∷◌, filter, length, map}
-use Rattle.std.specs.List.{count_by}
+use Rattle.std.specs.List.{sum_by}
 use Rattle.pf_base.specs.GridLists.{GridData}
 use Rattle.pf_base.specs.Grids.{points}
 use Rattle.pf_base.specs.declared.plain.Limits.{Limits}
 use Rattle.pf_journal.specs.Machine.{Open}
-use Rattle.pf_query.specs.Entries.{stop_after}
+use Rattle.pf_query.specs.Entries.{one_more, stop_after}
 use Rattle.pf_query.specs.declared.stop.Stop.{Stop}
 use Rattle.pf_query.specs.declared.stop.Stop.TheVariants.{Cancelled, Exhausted, Starved}
 use Rattle.pf_core.specs.Jobs.{AreRunsOf}
 
 -- of an open query, by the place of its ask: why it was stopped, if it was; whether it is planned; whether its parts were handed
--- out; the runs of its jobs, none before its plan; how many of its steps were cached at its plan; and whether it is offered
+-- out; the runs of its jobs, none before its plan; how many of its steps were cached at its plan; whether it is offered; and how
+-- often its jobs failed, all together
 pub record QueryProgress : Type 0 where
   pub query : ℕ
   pub stop : Option Stop
@@ -20,10 +21,11 @@ pub record QueryProgress : Type 0 where
   pub runs : List GridData
   pub cached : ℕ
   pub offered : Bool
+  pub tried : ℕ
 
 -- of a query that was just asked
 abbrev pub begun : ℕ → QueryProgress
-begun query = record { query = query; stop = None; planned = false; given = false; runs = []; cached = 0; offered = false }
+begun query = record { query = query; stop = None; planned = false; given = false; runs = []; cached = 0; offered = false; tried = 0 }
 
 abbrev pub progress_at : ℕ → List QueryProgress → Option QueryProgress
 progress_at query [] = None
@@ -51,6 +53,13 @@ offered p = record p { offered = true }
 abbrev pub stopped : Stop → QueryProgress → QueryProgress
 stopped why p = record p { stop = Some (stop_after p.stop why) }
 
+-- a job of it failed; for the fifth time
+abbrev pub tried_once : QueryProgress → QueryProgress
+tried_once p = record p { tried = one_more p.tried }
+
+abbrev pub exhausted : ℕ → QueryProgress → QueryProgress
+exhausted job p = tried_once (stopped (Exhausted job) p)
+
 -- a stop by a cancel names the place of the cancel
 abbrev pub cancel_in : Option Stop → Option ℕ
 cancel_in (Some (Cancelled place)) = Some place
@@ -75,12 +84,6 @@ GoesWith l [] (p ∷ ps) = ⊥
 GoesWith l (o ∷ os) [] = ⊥
 GoesWith l (o ∷ os) (p ∷ ps) = IsProgressOf l o p × GoesWith l os ps
 
--- how many were stopped by a job that failed five times
-abbrev pub is_exhausted : Option Stop → Bool
-is_exhausted (Some (Exhausted job)) = true
-is_exhausted (Some (Cancelled place)) = false
-is_exhausted (Some Starved) = false
-is_exhausted None = false
-
-abbrev pub exhausted_in : List QueryProgress → ℕ
-exhausted_in ps = count_by (λ p. is_exhausted p.stop) ps
+-- how often the jobs of open queries failed, all together
+abbrev pub tried_in : List QueryProgress → ℕ
+tried_in ps = sum_by (λ p. p.tried) ps

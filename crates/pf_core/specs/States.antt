@@ -17,7 +17,7 @@ use Rattle.pf_model.specs.Log.{Change, log_with, log_without, store_of, verdicts
 use Rattle.pf_model.specs.declared.expr.Matcher.{Matcher}
 use Rattle.pf_shard.specs.declared.parts.Part.{Part}
 use Rattle.pf_query.specs.Entries.{cached_steps_of, is_given_out, is_offered, is_planned}
-use Rattle.pf_query.specs.Tables.{EntryData, IsClosed, IsSameTable, IsTable, entry_in, hands_of, ring_of, waiting_of}
+use Rattle.pf_query.specs.Tables.{EntryData, IsClosed, IsSameTable, IsTable, entry_in, hands_of, ring_of, tried_of, waiting_of}
 use Rattle.pf_query.specs.Works.{WorkData, legs_in}
 use Rattle.pf_query.specs.declared.job.Job.{Job}
 use Rattle.pf_query.specs.declared.slot.Slot.TheVariants.{Filled}
@@ -28,10 +28,10 @@ use Rattle.pf_shard.specs.LegParts.{FitsNodes}
 use Rattle.pf_store.specs.Standing.{IsLog, IsPin, LogData, deleted_after, verdicts_after}
 use Rattle.pf_store.specs.Verdicts.{VerdictsData}
 use Rattle.pf_store.specs.declared.tenant_log.Deleted.{Deleted}
-use Rattle.pf_core.specs.Cores.{AreLimits, CoreData, Stands, open_tries}
+use Rattle.pf_core.specs.Cores.{AreLimits, CoreData, Stands}
 use Rattle.pf_core.specs.Entries.{entry_of, what_of}
 use Rattle.pf_core.specs.Jobs.{AreDivided, AreRunsOf, IsForAsk, IsValueOver, QueueHeads, by_tenant, legs_asked}
-use Rattle.pf_core.specs.Progress.{QueryProgress, begun, cancel_in}
+use Rattle.pf_core.specs.Progress.{QueryProgress, begun, cancel_in, tried_in}
 use Rattle.pf_core.specs.Seats.{TenantsData, counted_as, settled}
 use Rattle.pf_core.specs.declared.query.Query.{Query}
 use Rattle.pf_core.specs.declared.state.Opening.{Opening}
@@ -104,10 +104,10 @@ abbrev pub runs_of : Option WorkData → List GridData
 runs_of None = []
 runs_of (Some w) = w.runs
 
--- how far the work on a query is, by what the table keeps of it
-abbrev pub far_of : ℕ → Option EntryData → QueryProgress
-far_of query None = begun query
-far_of query (Some e) = record {
+-- how far the work on a query is, by what the table keeps of it, and how often its jobs failed
+abbrev pub far_of : ℕ → Option EntryData → (tried : ℕ) → QueryProgress
+far_of query None tried = record (begun query) { tried = tried }
+far_of query (Some e) tried = record {
   query = query;
   stop = e.stop;
   planned = is_planned e.work;
@@ -115,11 +115,12 @@ far_of query (Some e) = record {
   runs = runs_of e.work;
   cached = cached_steps_of e.work;
   offered = is_offered e.work;
+  tried = tried;
 }
 
 -- and on each of these open queries
-abbrev pub progress_of : List Open → (ℕ → Option EntryData) → List QueryProgress
-progress_of qs entries = map (λ o. far_of o.place (entries o.place)) qs
+abbrev pub progress_of : List Open → (ℕ → Option EntryData) → (tried : ℕ → ℕ) → List QueryProgress
+progress_of qs entries tried = map (λ o. far_of o.place (entries o.place) (tried o.place)) qs
 
 abbrev pub machine_in : State → Machine
 machine_in s = machine_after started (map entry_of s.journal.items)
@@ -129,7 +130,7 @@ core_of s = record {
   limits = s.limits;
   names = s.tenants.names;
   journal = map entry_of s.journal.items;
-  progress = progress_of (machine_in s).queries (entry_in s.table);
+  progress = progress_of (machine_in s).queries (entry_in s.table) (tried_of s.table);
   queues = by_tenant (heads_in s.table);
   ring = ring_of s.table;
   failed = s.failed.items;
@@ -197,7 +198,7 @@ pub record AreCounts (failed : List ℕ) (total : ℕ) : Type 0 where
 
 -- a failed try more is counted than is told of jobs, unless the total stands at its greatest value
 abbrev pub IsAhead : CoreData → Type 0
-IsAhead c = (sum c.failed ≡ 18446744073709551615) ⊎ (5 * failed_answers c.journal + open_tries c + 1 ≤ sum c.failed)
+IsAhead c = (sum c.failed ≡ 18446744073709551615) ⊎ (5 * failed_answers c.journal + tried_in c.progress + 1 ≤ sum c.failed)
 
 -- a state stands for its journal, and its table for the open queries
 pub record IsState (s : State) : Type 0 where

@@ -6,7 +6,7 @@ ghost use Rattle.pf_core.specs.Cores.{tries_left};
 ghost use Rattle.pf_core.specs.States.{IsAhead, IsState, core_of};
 
 use crate::state::State;
-use pf_query::{Collected, FailedTry, Finished, Held, Stop};
+use pf_query::{Collected, FailedTry, Finished, Held};
 use pf_shard::Part;
 
 impl State {
@@ -86,7 +86,7 @@ impl State {
         ensures state { IsState self.new }
         ensures lacked { IsLacked (core_of self.old) query (core_of self.new) }
     {
-        self.table.stop(query, Stop::Starved);
+        self.table.lack_query(query);
     }
 
     /// What a query has.

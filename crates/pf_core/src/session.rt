@@ -196,8 +196,8 @@ impl Core {
         self.state.finish(held, part)
     }
 
-    /// Counts a failed try of a job's actor, up to 2^64 - 1 in all, and lets the job wait again, last of its tenant's. At the fifth
-    /// failed try its query is stopped.
+    /// Counts a failed try of a job's actor, up to 2^64 - 1 in all, and of its query, if the job is in hand, and lets it wait again,
+    /// last of its tenant's. At the fifth failed try its query is stopped.
     pub fn fail(&mut self, held: Held) -> FailedTry
         requires stands { StandsForAsk self.old held }
         requires actor { held.actor < 32 }

@@ -21,7 +21,7 @@ use crate::query::{Queries, Query, cancel, open};
 use crate::tenants::{Seat, Tenants};
 use pf_base::{Batch, By, Limits, OutOfMemory, Tenant};
 use pf_model::Matchers;
-use pf_query::{Asked, Stop, Table};
+use pf_query::{Asked, Table};
 use pf_results::{Results, stay_true};
 use pf_store::{Deleted, Pin, Verdicts};
 use std::alloc::Global;
@@ -408,7 +408,7 @@ impl State {
     {
         let place = self.journal.len() as u64;
         cancel(&mut self.queries, query, place);
-        self.table.stop(query, Stop::Cancelled { place });
+        self.table.cancel(query, place);
         self.reserved -= 1;
         self.note(by, What::Cancel { query });
     }

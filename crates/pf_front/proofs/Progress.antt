@@ -2,11 +2,12 @@
 use Rattle.std.proofs.Common.{◌≡◌, ℕ, Bool, true, false, ◌⊎◌, inl, inr, cond, nat_eq, Option, None, Some, List, [], ◌∷◌, refl, sym, ap, ◌∙◌, subst}
 use Rattle.pf_base.specs.declared.plain.Limits.{Limits}
 use Rattle.pf_core.specs.Cores.{CoreData}
-use Rattle.pf_core.specs.Progress.{GoesWith, IsProgressOf, QueryProgress, progress_at, stopped, with_progress}
+use Rattle.pf_core.specs.Progress.{GoesWith, IsProgressOf, QueryProgress, exhausted, progress_at, stopped, tried_once, with_progress}
 use Rattle.pf_front.specs.Settling.{IsBegun}
 use Rattle.pf_journal.specs.Machine.{Open, open_at}
 use Rattle.pf_query.specs.Entries.{stop_after}
 use Rattle.pf_query.specs.declared.stop.Stop.{Stop}
+use Rattle.pf_query.specs.declared.stop.Stop.TheVariants.{Exhausted}
 
 pub some_is : {X : Type 0} (x y : X) → Some x ≡ Some y → x ≡ y
 some_is x y e = cc
@@ -69,16 +70,37 @@ begun_same old new query e b = record { far = b.far; is_far = ap (progress_at qu
 abbrev Begun : QueryProgress → Type 0
 Begun far = (far.planned ≡ true) ⊎ ((why : Stop) × (far.stop ≡ Some why))
 
-still_begun : (why : Stop) (far after : QueryProgress) → (after ≡ far) ⊎ (after ≡ stopped why far) → Begun far → Begun after
-still_begun why far after (inl is) b = subst Begun (sym is) b
-still_begun why far after (inr is) b = inr (stop_after far.stop why, ap (λ (p : QueryProgress). p.stop) is)
+still_begun : (change : QueryProgress → QueryProgress) → ((p : QueryProgress) → Begun p → Begun (change p)) → (far after : QueryProgress)
+    → (after ≡ far) ⊎ (after ≡ change far) → Begun far → Begun after
+still_begun change keeps far after (inl is) b = subst Begun (sym is) b
+still_begun change keeps far after (inr is) b = subst Begun (sym is) (keeps far b)
+
+begun_changed : (old new : CoreData) (one : ℕ) (change : QueryProgress → QueryProgress) → ((p : QueryProgress) → (change p).query ≡ p.query)
+    → ((p : QueryProgress) → Begun p → Begun (change p)) → (query : ℕ) → new.progress ≡ with_progress one change old.progress
+    → IsBegun old query → IsBegun new query
+begun_changed old new one change same keeps query e b =
+    let s = stays one change same query old.progress b.far b.is_far in
+    record { far = s.0; is_far = ap (progress_at query) e ∙ s.1.0; begun = still_begun change keeps b.far s.0 s.1.1 b.begun }
 
 -- a stop leaves them so
 pub begun_stopped : (old new : CoreData) (stop : ℕ) (why : Stop) (query : ℕ) → new.progress ≡ with_progress stop (stopped why) old.progress
     → IsBegun old query → IsBegun new query
 begun_stopped old new stop why query e b =
-    let s = stays stop (stopped why) (λ p. refl) query old.progress b.far b.is_far in
-    record { far = s.0; is_far = ap (progress_at query) e ∙ s.1.0; begun = still_begun why b.far s.0 s.1.1 b.begun }
+    begun_changed old new stop (stopped why) (λ p. refl) (λ p _. inr (stop_after p.stop why, refl)) query e b
+
+pub begun_exhausted : (old new : CoreData) (stop job : ℕ) (query : ℕ) → new.progress ≡ with_progress stop (exhausted job) old.progress
+    → IsBegun old query → IsBegun new query
+begun_exhausted old new stop job query e b =
+    begun_changed old new stop (exhausted job) (λ p. refl) (λ p _. inr (stop_after p.stop (Exhausted job), refl)) query e b
+
+-- and a failed try
+pub begun_tried : (old new : CoreData) (one query : ℕ) → new.progress ≡ with_progress one tried_once old.progress → IsBegun old query → IsBegun new query
+begun_tried old new one query e b = begun_changed old new one tried_once (λ p. refl) (λ p k. k) query e b
+
+pub begun_if : (old new : CoreData) (one query : ℕ) (failed : Bool) → new.progress ≡ cond failed (with_progress one tried_once old.progress) old.progress
+    → IsBegun old query → IsBegun new query
+begun_if old new one query true e b = begun_tried old new one query e b
+begun_if old new one query false e b = begun_same old new query e b
 
 -- ---- each open query has a place
 

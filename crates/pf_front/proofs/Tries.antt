@@ -5,11 +5,12 @@ use Rattle.std.proofs.lemmas.Bool.{false≢true}
 use Rattle.std.proofs.lemmas.Bool.Decides.{nat_tests}
 use Rattle.std.proofs.lemmas.List.{set_past}
 use Rattle.std.proofs.lemmas.List.Sums.{sum_by-set}
-use Rattle.pf_core.specs.Calls.{ChangesQueue, IsLackedBy, IsNotHeld, IsReleased, IsTaken, StopsQuery, counted}
+use Rattle.pf_core.specs.Calls.{ChangesQueue, IsLackedBy, IsNotHeld, IsReleased, IsTaken, Releases, StopsQuery, counted, is_in_hand, tried_after}
 use Rattle.pf_core.specs.Cores.{CoreData, HasQueue, IsSameHistory, machine_of, queue_at}
 use Rattle.pf_core.specs.Jobs.{QueueHeads, failures_after}
+use Rattle.pf_core.specs.Progress.{QueryProgress, exhausted, stopped}
 use Rattle.pf_front.proofs.Hands.{IsNotOf, each_without, idle_with, in_hand_last, same_hands}
-use Rattle.pf_front.proofs.Progress.{begun_same, begun_stopped, not_none}
+use Rattle.pf_front.proofs.Progress.{begun_exhausted, begun_if, begun_same, begun_stopped, begun_tried, not_none}
 use Rattle.pf_front.specs.Settling.{IsBegun}
 use Rattle.pf_front.specs.Works.{HasFailed, IsEvaluated, IsIdle, IsWorked, WorksOn}
 use Rattle.pf_front.specs.declared.working.Worked.{Worked}
@@ -20,6 +21,7 @@ use Rattle.pf_query.specs.Jobs.{hand_of, has_hand, without_hand}
 use Rattle.pf_query.specs.declared.job.Hand.{Hand}
 use Rattle.pf_query.specs.declared.job.Held.{Held}
 use Rattle.pf_query.specs.declared.stop.Stop.{Stop}
+use Rattle.pf_query.specs.declared.stop.Stop.TheVariants.{Starved}
 
 -- ---- counts
 
@@ -75,19 +77,28 @@ record Follows (mid : CoreData) (u : ℕ) (h : Hand) (new : CoreData) : Type 0 w
   fewer : left.hands ≡ without_hand h (queue_at mid u).hands
   begun : (query : ℕ) → IsBegun mid query → IsBegun new query
 
-released : (mid : CoreData) (held : Held) (new : CoreData) → IsReleased mid held new → Follows mid held.head.tenant (hand_of held) new
-released mid held new r = record {
+releases : (mid : CoreData) (held : Held) (new : CoreData) (far : List QueryProgress) → Releases mid held far new
+    → ((query : ℕ) → IsBegun mid query → IsBegun new query) → Follows mid held.head.tenant (hand_of held) new
+releases mid held new far r begun = record {
   history = r.history;
   failed = same_sum mid.failed new.failed r.failed;
   left = _;
   ring = _;
   queue_is = r.queue_is;
   fewer = refl;
-  begun = λ query b. begun_same mid new query r.progress_is b;
+  begun = begun;
 }
 
+released : (mid : CoreData) (held : Held) (new : CoreData) → IsReleased mid held new → Follows mid held.head.tenant (hand_of held) new
+released mid held new r = releases mid held new mid.progress r (λ query b. begun_same mid new query r.progress_is b)
+
+-- after a failed try
+gone : (mid : CoreData) (held : Held) (new : CoreData) → Releases mid held (cond (is_in_hand mid held) (tried_after mid held) mid.progress) new
+    → Follows mid held.head.tenant (hand_of held) new
+gone mid held new r = releases mid held new _ r (λ query b. begun_if mid new held.head.query query (is_in_hand mid held) r.progress_is b)
+
 lacked : (mid : CoreData) (held : Held) (new : CoreData) (o : Open) (why : Stop)
-    → StopsQuery mid o.tenant held.head.query why (without_hand (hand_of held) (queue_at mid o.tenant).hands) new → Follows mid o.tenant (hand_of held) new
+    → StopsQuery mid o.tenant held.head.query (stopped why) (without_hand (hand_of held) (queue_at mid o.tenant).hands) new → Follows mid o.tenant (hand_of held) new
 lacked mid held new o why s = record {
   history = s.history;
   failed = same_sum mid.failed new.failed s.failed;
@@ -117,13 +128,13 @@ follows_evaluated mid held worked.Stored new o there own in_hand e = released mi
 follows_evaluated mid held (worked.Again tries) new o there own in_hand e = absurd e
 follows_evaluated mid held (worked.Exhausted job) new o there own in_hand e = absurd e
 follows_evaluated mid held worked.Lacked new o there own in_hand e =
-    subst (λ (u : ℕ). Follows mid u (hand_of held) new) own (lacked mid held new o _ (e.some o there))
+    subst (λ (u : ℕ). Follows mid u (hand_of held) new) own (lacked mid held new o Starved (e.some o there))
 follows_evaluated mid held (worked.Gone why) new o there own in_hand e = released mid held new e.1
 follows_evaluated mid held worked.NotHeld new o there own in_hand e = absurd (in_hand e.0)
 
 put_back : (mid : CoreData) (held : Held) (new : CoreData) (waiting : QueueHeads) (ring : List ℕ)
     → waiting.hands ≡ without_hand (hand_of held) (queue_at mid held.head.tenant).hands
-    → ChangesQueue mid held.head.tenant waiting ring mid.progress mid.kept new → Follows mid held.head.tenant (hand_of held) new
+    → ChangesQueue mid held.head.tenant waiting ring (tried_after mid held) mid.kept new → Follows mid held.head.tenant (hand_of held) new
 put_back mid held new waiting ring hands r = record {
   history = r.history;
   failed = same_sum mid.failed new.failed r.failed;
@@ -131,20 +142,20 @@ put_back mid held new waiting ring hands r = record {
   ring = _;
   queue_is = r.queue_is;
   fewer = hands;
-  begun = λ query b. begun_same mid new query r.progress_is b;
+  begun = λ query b. begun_tried mid new held.head.query query r.progress_is b;
 }
 
-exhausted : (mid : CoreData) (held : Held) (new : CoreData) (why : Stop)
-    → StopsQuery mid held.head.tenant held.head.query why (without_hand (hand_of held) (queue_at mid held.head.tenant).hands) new
+last_failed : (mid : CoreData) (held : Held) (new : CoreData) (job : ℕ)
+    → StopsQuery mid held.head.tenant held.head.query (exhausted job) (without_hand (hand_of held) (queue_at mid held.head.tenant).hands) new
     → Follows mid held.head.tenant (hand_of held) new
-exhausted mid held new why s = record {
+last_failed mid held new job s = record {
   history = s.history;
   failed = same_sum mid.failed new.failed s.failed;
   left = _;
   ring = _;
   queue_is = s.left;
   fewer = refl;
-  begun = λ query b. begun_stopped mid new held.head.query why query s.progress_is b;
+  begun = λ query b. begun_exhausted mid new held.head.query job query s.progress_is b;
 }
 
 not_held_counted : (mid : CoreData) (held : Held) → IsNotHeld (counted mid held.actor) held → IsNotHeld mid held
@@ -158,10 +169,10 @@ follows_failed mid held worked.Stored new in_hand e = absurd e
 follows_failed mid held (worked.Again tries) new in_hand e =
     uncounted mid held.actor held.head.tenant (hand_of held) new (put_back (counted mid held.actor) held new _ _ refl e.1.1.1.1)
 follows_failed mid held (worked.Exhausted job) new in_hand e =
-    uncounted mid held.actor held.head.tenant (hand_of held) new (exhausted (counted mid held.actor) held new _ e.1.1.1.1)
+    uncounted mid held.actor held.head.tenant (hand_of held) new (last_failed (counted mid held.actor) held new job e.1.1.1.1)
 follows_failed mid held worked.Lacked new in_hand e = absurd e
 follows_failed mid held (worked.Gone why) new in_hand e =
-    uncounted mid held.actor held.head.tenant (hand_of held) new (released (counted mid held.actor) held new e.1)
+    uncounted mid held.actor held.head.tenant (hand_of held) new (gone (counted mid held.actor) held new e.1)
 follows_failed mid held worked.NotHeld new in_hand e = absurd (in_hand (not_held_counted mid held e.0))
 
 -- ---- a job that was taken is in hand
@@ -211,7 +222,7 @@ lacked_idle : (mid : CoreData) (held : Held) (new : CoreData) (actor : ℕ) (o :
     → IsLackedBy mid held new → IsIdle mid actor → IsIdle new actor
 lacked_idle mid held new actor None there e idle = same_idle mid new actor (e.none there) idle
 lacked_idle mid held new actor (Some o) there e idle =
-    follows_idle mid o.tenant (hand_of held) new actor (lacked mid held new o _ (e.some o there)) idle
+    follows_idle mid o.tenant (hand_of held) new actor (lacked mid held new o Starved (e.some o there)) idle
 
 pub evaluated_idle : (mid : CoreData) (held : Held) (r : Worked) (new : CoreData) → IsEvaluated mid held r new
     → (actor : ℕ) → IsIdle mid actor → IsIdle new actor
@@ -231,8 +242,8 @@ failed_idle mid held worked.Stored new e actor idle = absurd e
 failed_idle mid held (worked.Again tries) new e actor idle =
     follows_idle (counted mid held.actor) held.head.tenant (hand_of held) new actor (put_back (counted mid held.actor) held new _ _ refl e.1.1.1.1) idle
 failed_idle mid held (worked.Exhausted job) new e actor idle =
-    follows_idle (counted mid held.actor) held.head.tenant (hand_of held) new actor (exhausted (counted mid held.actor) held new _ e.1.1.1.1) idle
+    follows_idle (counted mid held.actor) held.head.tenant (hand_of held) new actor (last_failed (counted mid held.actor) held new job e.1.1.1.1) idle
 failed_idle mid held worked.Lacked new e actor idle = absurd e
 failed_idle mid held (worked.Gone why) new e actor idle =
-    follows_idle (counted mid held.actor) held.head.tenant (hand_of held) new actor (released (counted mid held.actor) held new e.1) idle
+    follows_idle (counted mid held.actor) held.head.tenant (hand_of held) new actor (gone (counted mid held.actor) held new e.1) idle
 failed_idle mid held worked.NotHeld new e actor idle = same_idle (counted mid held.actor) new actor e.1 idle

@@ -4,11 +4,11 @@ use Rattle.std.specs.Option.{option_map}
 use Rattle.std.specs.Prelude.{IfSome, MatchOption}
 use Rattle.pf_base.specs.declared.plain.JobHead.{JobHead}
 use Rattle.pf_model.specs.Lists.{Each}
-use Rattle.pf_query.specs.Entries.{Gathers, GathersAt, GathersFrom, back_entry, given_entry, is_given_out, is_planned, state_of, stop_after, stopped_entry, stored_entry, taken_entry, with_change}
+use Rattle.pf_query.specs.Entries.{Gathers, GathersAt, GathersFrom, back_entry, given_entry, is_given_out, is_planned, one_more, state_of, stop_after, stopped_entry, stored_entry, taken_entry, tried_entry, with_change}
 use Rattle.pf_query.specs.Jobs.{hand_of, has_hand, is_other_job, job_of_held, without_hand}
 use Rattle.pf_shard.specs.declared.parts.Part.{Part}
 use Rattle.pf_query.specs.Queueing.{AreNotWaiting, AreQueues, AreSame, AreWith, IsPutBack, IsReleased, IsTaken, hands_in, ring_in, tries_left, waiting_in}
-use Rattle.pf_query.specs.Tables.{EntryData, Goes, IsCounted, IsExhausted, IsGathered, IsGone, IsHeldOf, IsInHand, IsNothing, IsNotHeld, IsSameTable, IsStored, IsTable, IsTakenFrom, IsWaiting, Stops, WaitsAgain, data_of, entry_in, hands_named, hands_with, is_named, jobs_in, ring_without}
+use Rattle.pf_query.specs.Tables.{EntryData, Goes, IsCounted, IsExhausted, IsGathered, IsGone, IsHeldOf, IsInHand, IsNothing, IsNotHeld, IsSameTable, IsStored, IsTable, IsTakenFrom, IsWaiting, KeepsTried, Stops, WaitsAgain, data_of, entry_in, hands_named, hands_with, is_named, jobs_in, last_tries, ring_without, tried_by}
 use Rattle.pf_query.specs.Works.{IsFilled, WorkData, filled, handed_out, is_handed}
 use Rattle.pf_query.specs.declared.entry.Entry.{Entry}
 use Rattle.pf_query.specs.declared.gathered.Gathered.{Gathered}
@@ -28,7 +28,8 @@ use Rattle.pf_query.proofs.Opening.{agree_collected, agree_equal, none_wanted}
 use Rattle.pf_query.proofs.Slotted.{all_filled, get_within}
 use Rattle.pf_query.proofs.Stepping.{Holds, agree_again, agree_gone, agree_stopped, agree_stored, agree_taken, holds, known_hand, waited}
 use Rattle.pf_query.proofs.Tallies.{bool_cases, each_map}
-use Rattle.pf_query.proofs.Tabled.{are_same, left_after, raw_of, table_same, unplanned_by}
+use Rattle.pf_query.proofs.Tabled.{are_same, left_after, raw_of, same_table, table_same, unplanned_by}
+use Rattle.pf_query.proofs.Trying.{AreAllTried, AreFewer, back_others, back_own, counted_more, counts_try, fewer_left, fewer_released, fewer_same, fewer_taken, hand_fewer, keeps_tried, last_gone, not_more, tried_after, tried_change, tried_equal, tried_more, tries_at}
 
 raw_is : (o : Option Entry) (e f : Entry) → o ≡ Some e → o ≡ Some f → e ≡ f
 raw_is o e f h k = cc
@@ -98,6 +99,7 @@ module _ (old new : Table) (actor : ℕ) (held : Held) (t : IsTable old) (k : Is
         entries = takes_same;
         tries = l;
         fewer = omega (arith, l, few);
+        tried = keeps_tried (raw_of old) (raw_of new) held.head.query taken_entry set (λ e. refl);
       }
 
   pub taken_table : AreQueues new.queues → IsTable new
@@ -118,6 +120,8 @@ module _ (old new : Table) (actor : ℕ) (held : Held) (t : IsTable old) (k : Is
             (λ p d. first_other p job k.job k.jobs refl d ∙ sym (ap (λ js. jobs_in p js) k.waiting))
             (λ p d. more_held_other p job (hands_in old.queues u) (hand_of held) (takes_query old actor held new.queues t k) d) (taken_entry taken_entry_is) here
             (takes_tenant old actor held new.queues t k) (omega (arith, m)) (omega (arith, n, more)) (omega (arith, few, m));
+        tried = tried_after (raw_of old) (raw_of new) held.head.query taken_entry set old.queues new.queues t.tried
+            (fewer_taken old.queues new.queues actor held k) (λ e. refl) (λ e. refl) (λ e. omega arith);
       }
 
 -- ---- a job in hand
@@ -134,11 +138,39 @@ released_same old new held r f = record {
   ring = r.ring;
 }
 
+pub same_self : (old : Table) → IsSameTable old old
+same_self old = same_table old old (are_same old.queues old.queues refl) refl (λ p. refl)
+
 pub nothing_kept : (old : Table) (held : Held) → None ≡ option_map state_of (raw_of old held.head.query) → IsNothing old held old
 nothing_kept old held h =
     let gone : entry_in old held.head.query ≡ None = ap (λ (o : Option Entry). option_map data_of o) (untold (raw_of old held.head.query) h) in record {
       not_held = subst (λ (o : Option EntryData). IsNotHeld old held o) (sym gone) tt;
-      same = record { entries = λ p. refl; queues = are_same old.queues old.queues refl; tries = refl };
+      same = same_self old;
+    }
+
+-- a failed try is counted of a query, and nothing else is changed
+tried_table : (old new : Table) (query : ℕ) (e : Entry) → raw_of old query ≡ Some e → ((p : ℕ) → raw_of new p ≡ with_change query tried_entry (raw_of old) p)
+    → new.queues ≡ old.queues → IsTable old → AreQueues new.queues → IsTable new
+tried_table old new query e was set same t q =
+    let s = are_same old.queues new.queues same in record {
+      queues = q;
+      agree = agree_equal (entry_in old) (entry_in new) (waiting_in old.queues) (waiting_in new.queues) (hands_in old.queues) (hands_in new.queues) t.agree
+          (data_keeps (raw_of old) (raw_of new) query tried_entry e was set refl) (λ v. (s.queues v).waiting) (λ v. (s.queues v).hands);
+      counted = counted_after (raw_of old) (raw_of new) (waiting_in old.queues) (waiting_in new.queues) (hands_in old.queues) (hands_in new.queues) query e.tenant
+          t.counted (raw_else (raw_of old) (raw_of new) query tried_entry e was set)
+          (λ v d. (s.queues v).waiting) (λ v d. (s.queues v).hands)
+          (λ p d. ap (λ js. jobs_in p js) (s.queues e.tenant).waiting) (λ p d. ap (λ xs. hands_with p xs) (s.queues e.tenant).hands)
+          (λ x k n.
+          let is : tried_entry e ≡ x = raw_is (raw_of new query) (tried_entry e) x (raw_here (raw_of old) (raw_of new) query tried_entry e was set) k in
+          let count = t.counted query e was (ap (λ (y : Entry). y.stop) is ∙ n) in
+          subst (λ (y : Entry). IsCounted query (waiting_in new.queues) (hands_in new.queues) y) is
+          (record {
+            queued = count.queued ∙ sym (ap (λ js. jobs_in query js) (s.queues e.tenant).waiting);
+            in_hand = count.in_hand ∙ sym (ap (λ xs. hands_with query xs) (s.queues e.tenant).hands);
+            few = count.few;
+          }));
+      tried = counted_more (raw_of old) (raw_of new) query tried_entry set old.queues new.queues t.tried
+          (fewer_same old.queues new.queues s) (λ e. refl) (λ e. refl) (λ e. omega arith);
     }
 
 module _ (old : Table) (held : Held) (s : EntryState) (h : Some s ≡ option_map state_of (raw_of old held.head.query)) (t : IsTable old) where
@@ -153,13 +185,19 @@ module _ (old : Table) (held : Held) (s : EntryState) (h : Some s ≡ option_map
 
   -- its query is stopped
   module _ (new : Table) (why : Stop) (stopped : s.stop ≡ Some why) (entries : (p : ℕ) → raw_of new p ≡ raw_of old p) (r : IsReleased old.queues held new.queues) where
-    pub goes_is : tries_left new.queues ≡ tries_left old.queues → Goes old held why new
+    pub goes_is : tries_left new.queues ≡ tries_left old.queues → Goes old held why false new
     goes_is l = record {
       stopped = subst (λ (o : Option EntryData). IsGone o why) (sym here) (stop_is ∙ stopped);
       entries = λ p. ap (λ (o : Option Entry). option_map data_of o) (entries p);
       queues = r;
       tries = l;
+      tried = λ p. ap tried_by (entries p);
     }
+
+    -- by a failed try, where it isn't in hand
+    pub untried_goes : has_hand (hand_of held) (hands_in old.queues held.head.tenant) ≡ false → tries_left new.queues ≡ tries_left old.queues
+        → Goes old held why (has_hand (hand_of held) (hands_in old.queues held.head.tenant)) new
+    untried_goes gone l = subst (λ (b : Bool). Goes old held why b new) (sym gone) (goes_is l)
 
     never_counted : (e : Entry) → raw_of new held.head.query ≡ Some e → e.stop ≡ None → ⊥
     never_counted e k n =
@@ -175,9 +213,37 @@ module _ (old : Table) (held : Held) (s : EntryState) (h : Some s ≡ option_map
             (λ p. ap (λ (o : Option Entry). option_map data_of o) (entries p)) (λ v. refl) (λ v. refl);
         counted = counted_stopped (raw_of old) (raw_of new) old.queues new.queues held.head.query held.head.tenant _ _ _ r t.counted
             (λ p d. entries p) (λ p d. refl) (λ p d. less_held_other p (hand_of held) (hands_in old.queues held.head.tenant) d) never_counted;
+        tried = tried_equal (raw_of old) (raw_of new) old.queues new.queues entries
+            (fewer_released old.queues new.queues held.head.tenant (hand_of held) _ r) t.tried;
       }
       | inr f ↦ table_same old new t q (released_same old.queues new.queues held r f) entries
     ]
+
+  -- and its try is counted
+  module _ (mid new : Table) (why : Stop) (stopped : s.stop ≡ Some why) (entries : (p : ℕ) → raw_of mid p ≡ raw_of old p) (r : IsReleased old.queues held mid.queues)
+      (set : (p : ℕ) → raw_of new p ≡ with_change held.head.query tried_entry (raw_of mid) p) (same : new.queues ≡ mid.queues) where
+    mid_was : raw_of mid held.head.query ≡ Some the.entry
+    mid_was = entries held.head.query ∙ the.was
+
+    is_counted : tries_left mid.queues ≡ tries_left old.queues → Goes old held why true new
+    is_counted l = record {
+      stopped = subst (λ (o : Option EntryData). IsGone o why) (sym here) (stop_is ∙ stopped);
+      entries = λ p. data_keeps (raw_of mid) (raw_of new) held.head.query tried_entry the.entry mid_was set refl p
+          ∙ ap (λ (o : Option Entry). option_map data_of o) (entries p);
+      queues = subst (λ (q : Queues). IsReleased old.queues held q) (sym same) r;
+      tries = ap tries_left same ∙ l;
+      tried = λ p. counts_try (raw_of mid) (raw_of new) held.head.query tried_entry set the.entry mid_was refl p
+          ∙ ap (λ (o : Option Entry). cond (nat_eq held.head.query p) (one_more (tried_by o)) (tried_by o)) (entries p);
+    }
+
+    pub tried_goes : has_hand (hand_of held) (hands_in old.queues held.head.tenant) ≡ true → tries_left mid.queues ≡ tries_left old.queues
+        → Goes old held why (has_hand (hand_of held) (hands_in old.queues held.head.tenant)) new
+    tried_goes there l = subst (λ (b : Bool). Goes old held why b new) (sym there) (is_counted l)
+
+    pub tried_goes_table : AreQueues mid.queues → IsTable new
+    tried_goes_table q =
+        tried_table mid new held.head.query the.entry mid_was set same (goes_table mid why stopped entries r q)
+        (subst AreQueues (sym same) q)
 
   -- it isn't in hand
   pub not_in_hand : s.stop ≡ None → has_hand (hand_of held) (hands_in old.queues held.head.tenant) ≡ false → (new : Table)
@@ -251,6 +317,7 @@ module _ (old : Table) (held : Held) (s : EntryState) (h : Some s ≡ option_map
             ∙ ap (λ (x : EntryData). cond (nat_eq held.head.query p) (Some x) (entry_in old p)) stored_data;
         queues = r;
         tries = l;
+        tried = keeps_tried (raw_of old) (raw_of new) held.head.query (stored_entry held.head.job part) set (λ e. refl);
       }
 
       pub stored_table : AreQueues new.queues → IsTable new
@@ -265,6 +332,8 @@ module _ (old : Table) (held : Held) (s : EntryState) (h : Some s ≡ option_map
                 (raw_else (raw_of old) (raw_of new) held.head.query (stored_entry held.head.job part) the.entry the.was set) (λ p d. refl)
                 (λ p d. less_held_other p (hand_of held) (hands_in old.queues held.head.tenant) d) (stored_entry held.head.job part the.entry)
                 (raw_here (raw_of old) (raw_of new) held.head.query (stored_entry held.head.job part) the.entry the.was set) tenant_is m (omega (arith, o)) (omega (arith, f));
+            tried = tried_after (raw_of old) (raw_of new) held.head.query (stored_entry held.head.job part) set old.queues new.queues t.tried
+                (fewer_released old.queues new.queues held.head.tenant (hand_of held) _ r) (λ e. refl) (λ e. refl) (λ e. omega arith);
           }
 
     -- it waits again
@@ -282,6 +351,7 @@ module _ (old : Table) (held : Held) (s : EntryState) (h : Some s ≡ option_map
         entries = back_same;
         queues = b;
         tries_left = l;
+        tried = counts_try (raw_of old) (raw_of new) held.head.query back_entry set the.entry the.was refl;
       }
 
       pub again_table : AreQueues new.queues → IsTable new
@@ -298,37 +368,47 @@ module _ (old : Table) (held : Held) (s : EntryState) (h : Some s ≡ option_map
                 (λ p d. more_other p held.head.query (waiting_in old.queues held.head.tenant) (job_of_held (held.head.tries + 1) held) refl d)
                 (λ p d. less_held_other p (hand_of held) (hands_in old.queues held.head.tenant) d) (back_entry the.entry)
                 (raw_here (raw_of old) (raw_of new) held.head.query back_entry the.entry the.was set) tenant_is (omega (arith, m, g)) (omega (arith, o)) (omega (arith, f, o));
+            tried = tried_change (raw_of old) (raw_of new) held.head.query back_entry set old.queues new.queues t.tried
+                (λ p v d. back_others old.queues new.queues held _ there b p v d)
+                (λ e k a. tried_more held.head.query old.queues new.queues e (back_entry e) refl refl
+                (let l = back_own old.queues new.queues held _ there b e.tenant in omega (arith, l)) a);
           }
 
 -- ---- a query is stopped
 
+-- an entry with a stop, and with these tries
+abbrev pub stop_with : Stop → (ℕ → ℕ) → Entry → Entry
+stop_with why more e = record e { stop = Some (stop_after e.stop why); tried = more e.tried }
+
 -- it is kept why, and its jobs in hand are these; none of its jobs waits
-module _ (old new : Table) (query : ℕ) (e : Entry) (was : raw_of old query ≡ Some e) (t : IsTable old) (why : Stop) (hands : List Hand)
-    (set : (p : ℕ) → raw_of new p ≡ with_change query (stopped_entry why) (raw_of old) p)
+module _ (old new : Table) (query : ℕ) (e : Entry) (was : raw_of old query ≡ Some e) (t : IsTable old) (why : Stop) (more : ℕ → ℕ) (hands : List Hand)
+    (set : (p : ℕ) → raw_of new p ≡ with_change query (stop_with why more) (raw_of old) p)
     (aw : AreWith old.queues e.tenant (filter (is_other_job query) (waiting_in old.queues e.tenant)) hands (ring_without old.queues e.tenant query) new.queues) where
-  pub stops_is : tries_left new.queues ≤ tries_left old.queues → Stops old query why (data_of e) hands new
-  stops_is l = record {
-    entries = data_sets (raw_of old) (raw_of new) query (stopped_entry why) e was set;
+  pub stops_is : tries_left new.queues ≤ tries_left old.queues → KeepsTried old new → Stops old query why (data_of e) hands new
+  stops_is l k = record {
+    entries = data_sets (raw_of old) (raw_of new) query (stop_with why more) e was set;
     queues = aw;
     tries = l;
+    tried = k;
   }
 
-  stops_here : raw_of new query ≡ Some (stopped_entry why e)
-  stops_here = raw_here (raw_of old) (raw_of new) query (stopped_entry why) e was set
+  stops_here : raw_of new query ≡ Some (stop_with why more e)
+  stops_here = raw_here (raw_of old) (raw_of new) query (stop_with why more) e was set
 
   pub stops_table : Each (IsInHand (entry_in old) e.tenant) hands → ((n : ℕ) → hands_named query n hands ≤ hands_named query n (hands_in old.queues e.tenant))
       → ((p n : ℕ) → (p ≡ query → ⊥) → hands_named p n hands ≡ hands_named p n (hands_in old.queues e.tenant))
       → ((p : ℕ) → (p ≡ query → ⊥) → hands_with p hands ≡ hands_with p (hands_in old.queues e.tenant))
-      → AreQueues new.queues → IsTable new
-  stops_table each fewer same with_same q = record {
+      → AreQueues new.queues → AreAllTried (raw_of new) new.queues → IsTable new
+  stops_table each fewer same with_same q k = record {
     queues = q;
     agree = agree_stopped (entry_in old) (entry_in new) old.queues new.queues t.agree query (data_of e) (stop_after e.stop why) (data_at old query e was)
-        (data_here (raw_of old) (raw_of new) query (stopped_entry why) e was set)
-        (data_else (raw_of old) (raw_of new) query (stopped_entry why) e was set) hands _ each fewer same aw;
+        (data_here (raw_of old) (raw_of new) query (stop_with why more) e was set)
+        (data_else (raw_of old) (raw_of new) query (stop_with why more) e was set) hands _ each fewer same aw;
     counted = counted_stopped (raw_of old) (raw_of new) old.queues new.queues query e.tenant _ hands _ aw t.counted
-        (raw_else (raw_of old) (raw_of new) query (stopped_entry why) e was set)
+        (raw_else (raw_of old) (raw_of new) query (stop_with why more) e was set)
         (λ p d. others_waiting p query (waiting_in old.queues e.tenant) d) with_same
-        (λ x h n. none_some (sym n ∙ sym (ap (λ (y : Entry). y.stop) (raw_is (raw_of new query) (stopped_entry why e) x stops_here h))));
+        (λ x h n. none_some (sym n ∙ sym (ap (λ (y : Entry). y.stop) (raw_is (raw_of new query) (stop_with why more e) x stops_here h))));
+    tried = k;
   }
 
 -- all its jobs in hand stay there
@@ -345,18 +425,18 @@ module _ (old new : Table) (query : ℕ) (s : EntryState) (h : Some s ≡ option
   stop_is_told l =
       subst (λ (o : Option EntryData). MatchOption o (IsSameTable old new) (λ e. Stops old query why e (hands_in old.queues e.tenant) new))
       (sym (data_at old query its.entry its.was))
-      (stops_is old new query its.entry its.was t why (hands_in old.queues its.entry.tenant) set its_queue l)
+      (stops_is old new query its.entry its.was t why (λ n. n) (hands_in old.queues its.entry.tenant) set its_queue l
+      (keeps_tried (raw_of old) (raw_of new) query (stopped_entry why) set (λ e. refl)))
 
-  pub stop_table : AreQueues new.queues → IsTable new
-  stop_table q =
-      stops_table old new query its.entry its.was t why (hands_in old.queues its.entry.tenant) set its_queue
+  pub stop_table : last_tries (Some why) ≡ 0 → AreQueues new.queues → IsTable new
+  stop_table none q =
+      stops_table old new query its.entry its.was t why (λ n. n) (hands_in old.queues its.entry.tenant) set its_queue
       (t.agree.all_in_hand its.entry.tenant) (λ n. omega arith) (λ p n d. refl) (λ p d. refl) q
+      (tried_after (raw_of old) (raw_of new) query (stopped_entry why) set old.queues new.queues t.tried
+      (fewer_left old.queues new.queues its.entry.tenant query _ _ its_queue (λ p. omega arith)) (λ e. refl) (λ e. refl) (λ e. not_more why none e.stop))
 
 pub never_told : (old : Table) (query : ℕ) → None ≡ option_map state_of (raw_of old query) → entry_in old query ≡ None
 never_told old query h = ap (λ (o : Option Entry). option_map data_of o) (untold (raw_of old query) h)
-
-pub same_self : (old : Table) → IsSameTable old old
-same_self old = record { entries = λ p. refl; queues = are_same old.queues old.queues refl; tries = refl }
 
 -- a job of it is taken out of its actor's hand
 module _ (old : Table) (held : Held) (t : IsTable old) (e : Entry) (was : raw_of old held.head.query ≡ Some e) where
@@ -393,8 +473,8 @@ module _ (old : Table) (held : Held) (t : IsTable old) (e : Entry) (was : raw_of
         }
   ]
 
-module _ (old new : Table) (held : Held) (s : EntryState) (h : Some s ≡ option_map state_of (raw_of old held.head.query)) (t : IsTable old) (why : Stop) (mid : Queues)
-    (set : (p : ℕ) → raw_of new p ≡ with_change held.head.query (stopped_entry why) (raw_of old) p)
+module _ (old new : Table) (held : Held) (s : EntryState) (h : Some s ≡ option_map state_of (raw_of old held.head.query)) (t : IsTable old) (why : Stop) (more : ℕ → ℕ) (mid : Queues)
+    (set : (p : ℕ) → raw_of new p ≡ with_change held.head.query (stop_with why more) (raw_of old) p)
     (r : IsReleased old.queues held mid) (a : AreNotWaiting mid s.tenant held.head.query new.queues) where
   lost : Told (raw_of old held.head.query) s
   lost = told (raw_of old held.head.query) s h
@@ -406,31 +486,42 @@ module _ (old new : Table) (held : Held) (s : EntryState) (h : Some s ≡ option
       (released_with old held t lost.entry lost.was mid r)
       (subst (λ u. AreNotWaiting mid u held.head.query new.queues) (ap (λ (x : EntryState). x.tenant) lost.is) a)
 
-  pub lack_is : tries_left new.queues ≤ tries_left old.queues
+  pub lack_is : tries_left new.queues ≤ tries_left old.queues → KeepsTried old new
       → MatchOption (entry_in old held.head.query) (IsSameTable old new)
       (λ e. Stops old held.head.query why e (without_hand (hand_of held) (hands_in old.queues e.tenant)) new)
-  lack_is l =
+  lack_is l k =
       subst (λ (o : Option EntryData). MatchOption o (IsSameTable old new) (λ e. Stops old held.head.query why e (without_hand (hand_of held) (hands_in old.queues e.tenant)) new))
       (sym (data_at old held.head.query lost.entry lost.was))
-      (stops_is old new held.head.query lost.entry lost.was t why (without_hand (hand_of held) (hands_in old.queues lost.entry.tenant)) set lost_queue l)
+      (stops_is old new held.head.query lost.entry lost.was t why more (without_hand (hand_of held) (hands_in old.queues lost.entry.tenant)) set lost_queue l k)
 
-  pub lack_table : AreQueues new.queues → IsTable new
-  lack_table q =
+  lack_fewer : AreFewer old.queues new.queues
+  lack_fewer =
+      fewer_left old.queues new.queues lost.entry.tenant held.head.query _ _ lost_queue
+      (λ p. hand_fewer p (hand_of held) (hands_in old.queues lost.entry.tenant))
+
+  pub lack_table : AreQueues new.queues → AreAllTried (raw_of new) new.queues → IsTable new
+  lack_table q k =
       let hs = hands_in old.queues lost.entry.tenant in
-      stops_table old new held.head.query lost.entry lost.was t why (without_hand (hand_of held) hs) set lost_queue
+      stops_table old new held.head.query lost.entry lost.was t why more (without_hand (hand_of held) hs) set lost_queue
       (each_without (IsInHand (entry_in old) lost.entry.tenant) (hand_of held) hs (t.agree.all_in_hand lost.entry.tenant))
       (λ n. count_fewer (λ x. is_named held.head.query n x.head) (hand_of held) hs)
       (λ p n d. count_same (λ x. is_named p n x.head) (hand_of held) hs (named_other p n held.head.query held.head refl d))
-      (λ p d. less_held_other p (hand_of held) hs d) q
+      (λ p d. less_held_other p (hand_of held) hs d) q k
+
+  -- where as many tries are kept
+  pub lack_tried : last_tries (Some why) ≡ 0 → ((n : ℕ) → more n ≡ n) → AreAllTried (raw_of new) new.queues
+  lack_tried none same =
+      tried_after (raw_of old) (raw_of new) held.head.query (stop_with why more) set old.queues new.queues t.tried lack_fewer
+      (λ e. refl) (λ e. same e.tried) (λ e. not_more why none e.stop)
 
   -- at its fifth failure
   pub exhausted_is : (n : s.stop ≡ None) (there : has_hand (hand_of held) (hands_in old.queues held.head.tenant) ≡ true) → why ≡ Exhausted held.head.job
-      → held.head.tries ≡ 4 → tries_left new.queues ≤ tries_left old.queues → IsExhausted old held held.head.job new
-  exhausted_is n there w last l =
+      → ((n : ℕ) → more n ≡ one_more n) → held.head.tries ≡ 4 → tries_left new.queues ≤ tries_left old.queues → IsExhausted old held held.head.job new
+  exhausted_is n there w counts last l =
       let k = held_is old held s h t n there in
       let same : data_of lost.entry ≡ entry_with held.head.tenant None (Some k.work) =
       entry_is (entry_in old held.head.query) (data_of lost.entry) (entry_with held.head.tenant None (Some k.work)) (data_at old held.head.query lost.entry lost.was) k.entry in
-      let after : data_of (stopped_entry why lost.entry) ≡ entry_with held.head.tenant (Some (Exhausted held.head.job)) (Some k.work) =
+      let after : data_of (stop_with why more lost.entry) ≡ entry_with held.head.tenant (Some (Exhausted held.head.job)) (Some k.work) =
       ap (λ (x : EntryData). entry_with x.tenant (Some (stop_after x.stop why)) x.work) same
       ∙ ap (λ (x : Stop). entry_with held.head.tenant (Some (stop_after None x)) (Some k.work)) w in
       let tenant : lost.entry.tenant ≡ held.head.tenant = ap (λ (x : EntryData). x.tenant) same in record {
@@ -438,12 +529,34 @@ module _ (old new : Table) (held : Held) (s : EntryState) (h : Some s ≡ option
         held_of = held_of_is old held s h t n there;
         job_is = refl;
         last_try = last;
-        entries = λ p. data_sets (raw_of old) (raw_of new) held.head.query (stopped_entry why) lost.entry lost.was set p
+        entries = λ p. data_sets (raw_of old) (raw_of new) held.head.query (stop_with why more) lost.entry lost.was set p
             ∙ ap (λ (x : EntryData). cond (nat_eq held.head.query p) (Some x) (entry_in old p)) after;
         queues = subst (λ u. AreWith old.queues u (filter (is_other_job held.head.query) (waiting_in old.queues u)) (without_hand (hand_of held) (hands_in old.queues u))
             (ring_without old.queues u held.head.query) new.queues) tenant lost_queue;
         tries = l;
+        tried = counts_try (raw_of old) (raw_of new) held.head.query (stop_with why more) set lost.entry lost.was (counts lost.entry.tried);
       }
+
+  -- its fifth try is counted
+  pub exhausted_tried : (n : s.stop ≡ None) → has_hand (hand_of held) (hands_in old.queues held.head.tenant) ≡ true → why ≡ Exhausted held.head.job
+      → ((n : ℕ) → more n ≡ one_more n) → held.head.tries ≡ 4 → AreAllTried (raw_of new) new.queues
+  exhausted_tried n there w counts last =
+      tried_change (raw_of old) (raw_of new) held.head.query (stop_with why more) set old.queues new.queues t.tried (λ p v d. lack_fewer p v)
+      (λ e k a.
+      let h = held_is old held s h t n there in
+      let same : data_of e ≡ entry_with held.head.tenant None (Some h.work) =
+      entry_is (entry_in old held.head.query) (data_of e) (entry_with held.head.tenant None (Some h.work)) (data_at old held.head.query e k) h.entry in
+      let tenant : e.tenant ≡ held.head.tenant = ap (λ (x : EntryData). x.tenant) same in
+      let was : last_tries e.stop ≡ 0 = ap (λ (x : EntryData). last_tries x.stop) same in
+      let now : last_tries (Some (stop_after e.stop why)) ≡ 5 =
+      ap (λ (x : EntryData). last_tries (Some (stop_after x.stop why))) same ∙ ap (λ (x : Stop). last_tries (Some (stop_after None x))) w in
+      let same_entry : lost.entry ≡ e = raw_is (raw_of old held.head.query) lost.entry e lost.was k in
+      let gone = last_gone old.queues new.queues held _ there
+      (subst (λ u. AreWith old.queues u (filter (is_other_job held.head.query) (waiting_in old.queues u)) (without_hand (hand_of held) (hands_in old.queues u))
+      (ring_without old.queues u held.head.query) new.queues) (ap (λ (x : Entry). x.tenant) same_entry ∙ tenant) lost_queue) in
+      let at = ap (λ u. tries_at new.queues held.head.query u) tenant in
+      let before = ap (λ u. tries_at old.queues held.head.query u) tenant in
+      tried_more held.head.query old.queues new.queues e (stop_with why more e) refl (counts e.tried) (omega (arith, was, now, gone, at, before, last)) a)
 
 -- ---- what a query has
 
@@ -539,6 +652,7 @@ module _ (old : Table) (query : ℕ) (s : EntryState) (h : Some s ≡ option_map
                   ∙ ap (λ (y : EntryData). cond (nat_eq query r) (Some y) (entry_in old r)) given_data;
               queues = are_same old.queues new.queues same;
               tries = ap tries_left same;
+              tried = keeps_tried (raw_of old) (raw_of new) query given_entry set (λ e. refl);
             }
 
         pub never_missing : GathersAt None (raw_of old query) → ⊥
@@ -565,4 +679,6 @@ module _ (old : Table) (query : ℕ) (s : EntryState) (h : Some s ≡ option_map
                     in_hand = count.in_hand ∙ sym (ap (λ xs. hands_with query xs) (same_queues.queues u).hands);
                     few = count.few;
                   }));
+              tried = tried_after (raw_of old) (raw_of new) query given_entry set old.queues new.queues t.tried
+                  (fewer_same old.queues new.queues same_queues) (λ e. refl) (λ e. refl) (λ e. omega arith);
             }

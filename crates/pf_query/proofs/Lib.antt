@@ -15,5 +15,6 @@ pub mod Slotted
 pub mod Stepping
 pub mod Tabled
 pub mod Tallies
+pub mod Trying
 pub mod Turns
 mod Worked

@@ -1,5 +1,5 @@
 -- A query is offered. This project's own.
-use Rattle.std.proofs.Common.{◌≡◌, ◌∙◌, ℕ, Option, Some, None, refl, sym, ap, subst}
+use Rattle.std.proofs.Common.{◌≡◌, ◌∙◌, ℕ, Option, Some, None, refl, sym, ap, subst, arith}
 use Rattle.std.specs.Option.{option_map}
 use Rattle.std.specs.Prelude.{MatchOption}
 use Rattle.pf_query.specs.Entries.{offered_entry, with_change}
@@ -11,6 +11,7 @@ use Rattle.pf_query.proofs.Counting.{counted_after}
 use Rattle.pf_query.proofs.Entering.{data_else, data_here, data_sets, raw_else, raw_here, raw_none}
 use Rattle.pf_query.proofs.Opening.{agree_offered}
 use Rattle.pf_query.proofs.Tabled.{are_same, one_entry, raw_of, same_table, table_same}
+use Rattle.pf_query.proofs.Trying.{fewer_same, keeps_tried, tried_after}
 
 module _ (old new : Table) (query : ℕ) (set : (r : ℕ) → raw_of new r ≡ with_change query offered_entry (raw_of old) r) (same : new.queues ≡ old.queues) where
   is_offered_by : (o : Option Entry) → raw_of old query ≡ o → MatchOption (option_map data_of o) (IsSameTable old new) (λ e. Offers old query e new)
@@ -20,6 +21,7 @@ module _ (old new : Table) (query : ℕ) (set : (r : ℕ) → raw_of new r ≡ w
     entries = data_sets (raw_of old) (raw_of new) query offered_entry e h set;
     queues = are_same old.queues new.queues same;
     tries = ap tries_left same;
+    tried = keeps_tried (raw_of old) (raw_of new) query offered_entry set (λ e. refl);
   }
 
   pub is_offered : IsOffered old query new
@@ -48,6 +50,8 @@ module _ (old new : Table) (query : ℕ) (set : (r : ℕ) → raw_of new r ≡ w
               in_hand = count.in_hand ∙ sym (ap (λ xs. hands_with query xs) (same_queues.queues u).hands);
               few = count.few;
             }));
+        tried = tried_after (raw_of old) (raw_of new) query offered_entry set old.queues new.queues t.tried
+            (fewer_same old.queues new.queues same_queues) (λ e. refl) (λ e. refl) (λ e. omega arith);
       }
 
   pub offered_table : IsTable old → AreQueues new.queues → IsTable new

@@ -11,7 +11,7 @@ use Rattle.pf_journal.specs.Machine.{most_tenants}
 use Rattle.pf_query.specs.Entries.{is_planned, opened_entry, planned_entry, state_of, with_change}
 use Rattle.pf_query.specs.Jobs.{is_empty, is_other_hand, is_other_job, tries_left_in}
 use Rattle.pf_query.specs.Queueing.{AreAdded, AreNotInHand, AreNotWaiting, AreQueues, AreSame, AreWith, IsSameQueue, hands_in, ring_in, tries_left, waiting_in}
-use Rattle.pf_query.specs.Tables.{AreLeft, EntryData, Ends, IsCounted, IsOpened, IsPlannedOver, IsSameTable, IsTable, IsUnplanned, data_of, entry_in, hands_with, jobs_in, ring_without}
+use Rattle.pf_query.specs.Tables.{AreLeft, AreTried, EntryData, Ends, IsCounted, IsOpened, IsPlannedOver, IsSameTable, IsTable, IsUnplanned, data_of, entry_in, hands_with, jobs_in, ring_without, tried_by, tries_in_hand, tries_waiting}
 use Rattle.pf_query.specs.Works.{ArePlanned, WorkData, planned_work}
 use Rattle.pf_query.specs.declared.answers.PlanError.{PlanError}
 use Rattle.pf_query.specs.declared.answers.PlanError.TheVariants as plan_error
@@ -30,6 +30,7 @@ use Rattle.pf_query.proofs.Entering.{Raw, Told, data_else, data_here, data_sets,
 use Rattle.pf_query.proofs.Naming.{eq_apart, eq_same, num_cases, of_other}
 use Rattle.pf_query.proofs.Opening.{agree_closed, agree_equal, agree_opened, agree_planned, planned_each}
 use Rattle.pf_query.proofs.Tallies.{count_all, count_append, count_none}
+use Rattle.pf_query.proofs.Trying.{AreAllTried, fewer_added, fewer_same, hands_fewer, fewer_left, keeps_tried, none_in_hand, none_waiting, planned_untried, tried_after, tried_as, tried_equal}
 
 abbrev pub raw_of : Table → Raw
 raw_of t = get nat_eq t.entries
@@ -93,15 +94,25 @@ table_same old new t q s e = record {
   counted = λ p x h n.
       counted_equal (raw_of old) (waiting_in old.queues) (waiting_in new.queues) (hands_in old.queues) (hands_in new.queues)
       (λ v. (s.queues v).waiting) (λ v. (s.queues v).hands) t.counted p x (sym (e p) ∙ h) n;
+  tried = tried_equal (raw_of old) (raw_of new) old.queues new.queues e (fewer_same old.queues new.queues s) t.tried;
 }
 
 pub same_table : (old new : Table) → AreSame old.queues new.queues → tries_left new.queues ≡ tries_left old.queues → ((p : ℕ) → raw_of new p ≡ raw_of old p) → IsSameTable old new
-same_table old new s t e = record { entries = λ p. ap (λ (o : Option Entry). option_map data_of o) (e p); queues = s; tries = t }
+same_table old new s t e = record {
+  entries = λ p. ap (λ (o : Option Entry). option_map data_of o) (e p);
+  queues = s;
+  tries = t;
+  tried = λ p. ap tried_by (e p);
+}
 
 pub one_entry : (e f : Entry) → Some e ≡ Some f → e ≡ f
 one_entry e f h = cc
 
 -- ---- a query is opened
+
+never_kept : (o : Option Entry) → option_map data_of o ≡ None → o ≡ None
+never_kept None h = refl
+never_kept (Some e) h = cc
 
 module _ (old new : Table) (query tenant : ℕ) (t : IsTable old) (fresh : entry_in old query ≡ None) (known : tenant < most_tenants)
     (set : (p : ℕ) → raw_of new p ≡ cond (nat_eq query p) (Some (opened_entry tenant)) (raw_of old p)) (same : new.queues ≡ old.queues) where
@@ -121,8 +132,19 @@ module _ (old new : Table) (query tenant : ℕ) (t : IsTable old) (fresh : entry
         ∙ sym (ap (λ b. cond b (Some (entry_with tenant None None)) (entry_in old p)) (eq_apart query p (λ e. d (sym e))))
   ]
 
+  opened_tried : (p : ℕ) → tried_by (raw_of new p) ≡ tried_by (raw_of old p)
+  opened_tried p = elim (num_cases p query) [
+    | inl e ↦ subst (λ x. tried_by (raw_of new x) ≡ tried_by (raw_of old x)) (sym e) (ap tried_by opened_here ∙ sym (ap tried_by (never_kept (raw_of old query) fresh)))
+    | inr d ↦ ap tried_by (opened_else p d)
+  ]
+
   pub opened_is : IsOpened old query tenant new
-  opened_is = record { entries = opened_sets; queues = are_same old.queues new.queues same; tries = same_tries old.queues new.queues same }
+  opened_is = record {
+    entries = opened_sets;
+    queues = are_same old.queues new.queues same;
+    tries = same_tries old.queues new.queues same;
+    tried = opened_tried;
+  }
 
   opened_count : (e : Entry) → raw_of new query ≡ Some e → IsCounted query (waiting_in new.queues) (hands_in new.queues) e
   opened_count e h =
@@ -137,6 +159,23 @@ module _ (old new : Table) (query tenant : ℕ) (t : IsTable old) (fresh : entry
         few = omega arith;
       })
 
+  opened_covered : AreSame old.queues new.queues → AreAllTried (raw_of new) new.queues
+  opened_covered s p e h = elim (num_cases p query) [
+    | inl k ↦
+        let unplanned = subst Unplanned (sym fresh) tt in
+        let x = none_waiting query (waiting_in old.queues tenant) (no_job_of (entry_in old) query tenant (waiting_in old.queues tenant) (t.agree.all_waiting tenant) unplanned) in
+        let y = none_in_hand query (hands_in old.queues tenant) (no_hand_of (entry_in old) query tenant (hands_in old.queues tenant) (t.agree.all_in_hand tenant) unplanned) in
+        let w = ap (λ js. tries_waiting query js) (s.queues tenant).waiting in
+        let z = ap (λ xs. tries_in_hand query xs) (s.queues tenant).hands in
+        let few : tries_waiting query (waiting_in new.queues tenant) + tries_in_hand query (hands_in new.queues tenant) + 0 ≤ 0 = omega (arith, x, y, w, z) in
+        let is : opened_entry tenant ≡ e = one_entry (opened_entry tenant) e (sym opened_here ∙ subst (λ x. raw_of new x ≡ Some e) k h) in
+        subst (λ x. AreTried x (waiting_in new.queues) (hands_in new.queues) e) (sym k)
+        (subst (λ (x : Entry). AreTried query (waiting_in new.queues) (hands_in new.queues) x) is (inr few))
+    | inr d ↦
+        tried_as p old.queues new.queues e e refl refl
+        (let l = fewer_same old.queues new.queues s p e.tenant in omega (arith, l)) (t.tried p e (sym (opened_else p d) ∙ h))
+  ]
+
   pub opened_table : AreQueues new.queues → IsTable new
   opened_table q =
       let s = are_same old.queues new.queues same in
@@ -147,6 +186,7 @@ module _ (old new : Table) (query tenant : ℕ) (t : IsTable old) (fresh : entry
         counted = counted_after (raw_of old) (raw_of new) (waiting_in old.queues) (waiting_in new.queues) (hands_in old.queues) (hands_in new.queues) query tenant
             t.counted opened_else (λ v d. (s.queues v).waiting) (λ v d. (s.queues v).hands) (λ p d. ap (λ js. jobs_in p js) (s.queues tenant).waiting)
             (λ p d. ap (λ xs. hands_with p xs) (s.queues tenant).hands) (λ e h n. opened_count e h);
+        tried = opened_covered s;
       }
 
 -- ---- a query is closed
@@ -172,8 +212,28 @@ module _ (old new : Table) (query : ℕ) (e : Entry) (mid : Queues) (t : IsTable
   closed_queue : AreLeft old e.tenant query (filter (is_other_hand query) (hands_in old.queues e.tenant)) new
   closed_queue = ended_after old.queues mid new.queues e.tenant query a b
 
+  closed_tried : (p : ℕ) → tried_by (raw_of new p) ≡ cond (nat_eq query p) 0 (tried_by (raw_of old p))
+  closed_tried p = elim (num_cases p query) [
+    | inl f ↦
+        subst (λ x. tried_by (raw_of new x) ≡ cond (nat_eq query x) 0 (tried_by (raw_of old x))) (sym f)
+        (ap tried_by closed_here ∙ sym (ap (λ c. cond c 0 (tried_by (raw_of old query))) (eq_same query)))
+    | inr d ↦ ap tried_by (closed_else p d) ∙ sym (ap (λ c. cond c 0 (tried_by (raw_of old p))) (eq_apart query p (λ f. d (sym f))))
+  ]
+
+  closed_covered : AreAllTried (raw_of new) new.queues
+  closed_covered p x h = elim (num_cases p query) [
+    | inl f ↦ absurd (none_some x (sym closed_here ∙ subst (λ y. raw_of new y ≡ Some x) f h))
+    | inr d ↦
+        tried_as p old.queues new.queues x x refl refl
+        (let l = fewer_left old.queues new.queues e.tenant query _ _ closed_queue
+        (λ q. hands_fewer q (is_other_hand query) (hands_in old.queues e.tenant)) p x.tenant in omega (arith, l))
+        (t.tried p x (sym (closed_else p d) ∙ h))
+  ] where
+    none_some : (x : Entry) → None ≡ Some x → ⊥
+    none_some x h = cc
+
   pub closed_is : tries_left new.queues ≤ tries_left old.queues → Ends old query (data_of e) new
-  closed_is l = record { entries = closed_sets; queues = closed_queue; tries = l }
+  closed_is l = record { entries = closed_sets; queues = closed_queue; tries = l; tried = closed_tried }
 
   pub closed_entry : entry_in old query ≡ Some (data_of e)
   closed_entry = ap (λ (o : Option Entry). option_map data_of o) was
@@ -186,6 +246,7 @@ module _ (old new : Table) (query : ℕ) (e : Entry) (mid : Queues) (t : IsTable
     counted = counted_stopped (raw_of old) (raw_of new) old.queues new.queues query e.tenant _ _ _ closed_queue t.counted closed_else
         (λ p d. others_waiting p query (waiting_in old.queues e.tenant) d) (λ p d. others_in_hand p query (hands_in old.queues e.tenant) d)
         (λ x h n. none_some x (sym closed_here ∙ h));
+    tried = closed_covered;
   } where
     none_some : (x : Entry) → None ≡ Some x → ⊥
     none_some x h = cc
@@ -282,6 +343,7 @@ module _ (old new : Table) (query : ℕ) (s : EntryState) (h : Some s ≡ option
     entries = planned_sets;
     queues = added;
     tries = l;
+    tried = keeps_tried (raw_of old) (raw_of new) query (planned_entry w count) set (λ e. refl);
   }
 
   all_of : jobs_in query jobs ≡ length jobs
@@ -317,4 +379,7 @@ module _ (old new : Table) (query : ℕ) (s : EntryState) (h : Some s ≡ option
             (λ r d. refl) (planned_entry w count the.entry)
             (raw_here (raw_of old) (raw_of new) query (planned_entry w count) the.entry the.was set) at
             (omega (arith, count_is, none, c, all)) held (omega (arith, count_is, m, held, idle_hands));
+        tried = tried_after (raw_of old) (raw_of new) query (planned_entry w count) set old.queues new.queues t.tried
+            (fewer_added old.queues new.queues u jobs _ added (λ p. planned_untried p u query legs runs snap 0 jobs made.each))
+            (λ e. refl) (λ e. refl) (λ e. omega arith);
       }

@@ -1,7 +1,7 @@
 -- What is kept of each query with the numbers of its jobs, and how calls change it: this project's own.
 use Rattle.std.specs.Arc.{arc_value}
 use Rattle.std.specs.Option.{option_map}
-use Rattle.std.specs.Prelude.{◌≡◌, ℕ, ◌+◌, ◌-◌, Bool, true, false, Option, Some, None, cond, nat_eq, map}
+use Rattle.std.specs.Prelude.{◌≡◌, ℕ, ◌+◌, ◌-◌, Bool, true, false, Option, Some, None, cond, nat_eq, map, min}
 use Rattle.pf_shard.specs.declared.parts.Part.{Part}
 use Rattle.pf_query.specs.Works.{WorkData, filled, handed_out, offered}
 use Rattle.pf_query.specs.declared.entry.Entry.{Entry}
@@ -9,7 +9,7 @@ use Rattle.pf_query.specs.declared.gathered.Gathered.{Gathered}
 use Rattle.pf_query.specs.declared.slot.Slot.TheVariants.{Filled}
 use Rattle.pf_query.specs.declared.state.EntryState.{EntryState}
 use Rattle.pf_query.specs.declared.stop.Stop.{Stop}
-use Rattle.pf_query.specs.declared.stop.Stop.TheVariants.{Cancelled}
+use Rattle.pf_query.specs.declared.stop.Stop.TheVariants.{Cancelled, Exhausted}
 
 -- why a query is stopped, where it may be already: a cancel is in place of another stop, and else the first stays
 abbrev pub stop_after : Option Stop → Stop → Stop
@@ -17,8 +17,15 @@ stop_after stop (Cancelled place) = Cancelled place
 stop_after None why = why
 stop_after (Some first) why = first
 
+-- the greatest number of failed tries that is counted of a query, and one more, up to it
+abbrev pub most_tries : ℕ
+most_tries = 18446744073709551615
+
+abbrev pub one_more : ℕ → ℕ
+one_more tried = min (tried + 1) most_tries
+
 abbrev pub opened_entry : ℕ → Entry
-opened_entry tenant = record { tenant = tenant; stop = None; work = None; queued = 0; in_hand = 0 }
+opened_entry tenant = record { tenant = tenant; stop = None; work = None; queued = 0; in_hand = 0; tried = 0 }
 
 abbrev pub planned_entry : WorkData → ℕ → Entry → Entry
 planned_entry w count e = record e { work = Some w; queued = count }
@@ -27,13 +34,19 @@ abbrev pub taken_entry : Entry → Entry
 taken_entry e = record e { queued = e.queued - 1; in_hand = e.in_hand + 1 }
 
 abbrev pub back_entry : Entry → Entry
-back_entry e = record e { queued = e.queued + 1; in_hand = e.in_hand - 1 }
+back_entry e = record e { queued = e.queued + 1; in_hand = e.in_hand - 1; tried = one_more e.tried }
+
+abbrev pub tried_entry : Entry → Entry
+tried_entry e = record e { tried = one_more e.tried }
 
 abbrev pub stored_entry : ℕ → Part → Entry → Entry
 stored_entry job part e = record e { work = option_map (filled job part) e.work; in_hand = e.in_hand - 1 }
 
 abbrev pub stopped_entry : Stop → Entry → Entry
 stopped_entry why e = record e { stop = Some (stop_after e.stop why) }
+
+abbrev pub exhausted_entry : ℕ → Entry → Entry
+exhausted_entry job e = record e { stop = Some (stop_after e.stop (Exhausted job)); tried = one_more e.tried }
 
 abbrev pub given_entry : Entry → Entry
 given_entry e = record e { work = option_map handed_out e.work }

@@ -3,7 +3,7 @@
 use Rattle.std.specs.Arc.{arc_value}
 use Rattle.std.specs.HashMap.{get}
 use Rattle.std.specs.Option.{option_map}
-use Rattle.std.specs.Prelude.{◌≡◌, ℕ, ◌+◌, ◌-◌, ◌<◌, ◌≤◌, Bool, true, false, Option, Some, None, MatchOption, IfSome, cond, List, [], count_by, filter, length, map, nat_eq, slice_get}
+use Rattle.std.specs.Prelude.{◌≡◌, ℕ, ◌+◌, ◌-◌, ◌<◌, ◌≤◌, ◌⊎◌, Bool, true, false, Option, Some, None, MatchOption, IfSome, cond, List, [], count_by, filter, length, map, nat_eq, slice_get, sum_by}
 use Rattle.pf_base.specs.GridLists.{GridData}
 use Rattle.pf_base.specs.declared.plain.JobHead.{JobHead}
 use Rattle.pf_block.specs.Snaps.{SnapData}
@@ -13,7 +13,7 @@ use Rattle.pf_queue.specs.Rings.{without}
 use Rattle.pf_shard.specs.Lawful.{ResolvedLegs}
 use Rattle.pf_query.specs.Jobs.{hand_of, has_hand, is_empty, is_other_hand, is_other_job, tries_left_in, without_hand}
 use Rattle.pf_query.specs.Covers.{is_covered_by}
-use Rattle.pf_query.specs.Entries.{cached_steps_of, is_given_out, is_offered, is_planned, stop_after}
+use Rattle.pf_query.specs.Entries.{cached_steps_of, is_given_out, is_offered, is_planned, most_tries, one_more, stop_after}
 use Rattle.pf_shard.specs.declared.parts.Part.{Part}
 use Rattle.pf_query.specs.Queueing as queues
 use Rattle.pf_query.specs.Queueing.{AreAdded, AreEmpty, AreQueues, AreSame, AreWith, IsPutBack, IsReleased, IsTaken, hands_in, ring_in, waiting_in}
@@ -26,7 +26,7 @@ use Rattle.pf_query.specs.declared.queues.Queues.{Queues}
 use Rattle.pf_query.specs.declared.slot.Slot.{Slot}
 use Rattle.pf_query.specs.declared.slot.Slot.TheVariants.{Empty, Filled, Handed}
 use Rattle.pf_query.specs.declared.stop.Stop.{Stop}
-use Rattle.pf_query.specs.declared.stop.Stop.TheVariants.{Exhausted, Starved}
+use Rattle.pf_query.specs.declared.stop.Stop.TheVariants.{Cancelled, Exhausted, Starved}
 use Rattle.pf_query.specs.declared.entry.Entry.{Entry}
 use Rattle.pf_query.specs.declared.answers.Collected.{Collected}
 use Rattle.pf_query.specs.declared.answers.Collected.TheVariants as collected
@@ -54,6 +54,14 @@ data_of e = record { tenant = e.tenant; stop = e.stop; work = e.work }
 -- what is kept of a query
 abbrev pub entry_in : Table → ℕ → Option EntryData
 entry_in t query = option_map data_of (get nat_eq t.entries query)
+
+-- how often jobs of a query failed, all together; never where nothing is kept of it
+abbrev pub tried_by : Option Entry → ℕ
+tried_by None = 0
+tried_by (Some e) = e.tried
+
+abbrev pub tried_of : Table → ℕ → ℕ
+tried_of t query = tried_by (get nat_eq t.entries query)
 
 -- the queues of all tenants
 abbrev pub queues_of : Table → Queues
@@ -146,10 +154,35 @@ pub record IsCounted (query : ℕ) (waiting : ℕ → List Job) (hands : ℕ →
   pub in_hand : e.in_hand ≡ hands_with query (hands e.tenant)
   pub few : e.queued + e.in_hand ≤ 4294967295
 
+-- how often a job was tried, if it is one of a query
+abbrev pub tries_with : (query : ℕ) → JobHead → ℕ
+tries_with query h = cond (is_of query h) h.tries 0
+
+-- how often the jobs of a query that wait, and those in hand, were tried, all together
+abbrev pub tries_waiting : (query : ℕ) → List Job → ℕ
+tries_waiting query jobs = sum_by (λ j. tries_with query j.head) jobs
+
+abbrev pub tries_in_hand : (query : ℕ) → List Hand → ℕ
+tries_in_hand query hands = sum_by (λ h. tries_with query h.head) hands
+
+-- and those of the job that stopped it
+abbrev pub last_tries : Option Stop → ℕ
+last_tries None = 0
+last_tries (Some (Cancelled place)) = 0
+last_tries (Some (Exhausted job)) = 5
+last_tries (Some Starved) = 0
+
+-- the failed tries that are kept of a query cover these, unless they stand at their greatest number
+abbrev pub AreTried : (query : ℕ) → (waiting : ℕ → List Job) → (hands : ℕ → List Hand) → Entry → Type 0
+AreTried query waiting hands e =
+    (most_tries ≤ e.tried)
+    ⊎ (tries_waiting query (waiting e.tenant) + tries_in_hand query (hands e.tenant) + last_tries e.stop ≤ e.tried)
+
 pub record IsTable (t : Table) : Type 0 where
   pub queues : AreQueues t.queues
   pub agree : Agree (entry_in t) (waiting_of t) (hands_of t)
   pub counted : (query : ℕ) (e : Entry) → get nat_eq t.entries query ≡ Some e → e.stop ≡ None → IsCounted query (waiting_of t) (hands_of t) e
+  pub tried : (query : ℕ) (e : Entry) → get nat_eq t.entries query ≡ Some e → AreTried query (waiting_of t) (hands_of t) e
 
 -- ---- what calls leave
 
@@ -159,6 +192,18 @@ KeepsEntries old new = (query : ℕ) → entry_in new query ≡ entry_in old que
 -- this is kept of one query, and of the others what was
 abbrev pub SetsEntry : Table → ℕ → Option EntryData → Table → Type 0
 SetsEntry old query entry new = (q : ℕ) → entry_in new q ≡ cond (nat_eq query q) entry (entry_in old q)
+
+-- no failed try is counted, or one more of a query
+abbrev pub KeepsTried : Table → Table → Type 0
+KeepsTried old new = (query : ℕ) → tried_of new query ≡ tried_of old query
+
+abbrev pub CountsTry : Table → ℕ → Table → Type 0
+CountsTry old query new = (q : ℕ) → tried_of new q ≡ cond (nat_eq query q) (one_more (tried_of old q)) (tried_of old q)
+
+-- one more if it was one
+abbrev pub CountsTryIf : Bool → Table → ℕ → Table → Type 0
+CountsTryIf true old query new = CountsTry old query new
+CountsTryIf false old query new = KeepsTried old new
 
 -- no query is outstanding
 pub record IsNew (t : Table) : Type 0 where
@@ -170,6 +215,7 @@ pub record IsSameTable (old new : Table) : Type 0 where
   pub entries : KeepsEntries old new
   pub queues : AreSame old.queues new.queues
   pub tries : tries_left_of new ≡ tries_left_of old
+  pub tried : KeepsTried old new
 
 -- the ring once a tenant has no waiting job of a query
 abbrev pub ring_without : Queues → ℕ → ℕ → List ℕ
@@ -185,12 +231,14 @@ pub record IsOpened (old : Table) (query tenant : ℕ) (new : Table) : Type 0 wh
   pub entries : SetsEntry old query (Some (record { tenant = tenant; stop = None; work = None })) new
   pub queues : AreSame old.queues new.queues
   pub tries : tries_left_of new ≡ tries_left_of old
+  pub tried : KeepsTried old new
 
 -- nothing is kept of a query any more, and none of its jobs waits or is in hand
 pub record Ends (old : Table) (query : ℕ) (e : EntryData) (new : Table) : Type 0 where
   pub entries : SetsEntry old query None new
   pub queues : AreLeft old e.tenant query (filter (is_other_hand query) (hands_of old e.tenant)) new
   pub tries : tries_left_of new ≤ tries_left_of old
+  pub tried : (q : ℕ) → tried_of new q ≡ cond (nat_eq query q) 0 (tried_of old q)
 
 abbrev pub IsClosed : Table → ℕ → Table → Type 0
 IsClosed old query new = MatchOption (entry_in old query) (IsSameTable old new) (λ e. Ends old query e new)
@@ -205,6 +253,7 @@ pub record IsPlannedOver (old : Table) (query : ℕ) (legs : ResolvedLegs) (runs
   pub entries : SetsEntry old query (Some (record { tenant = tenant; stop = None; work = Some (planned_work legs runs cached offered) })) new
   pub queues : AreAdded old.queues tenant jobs new.queues
   pub tries : tries_left_of new ≡ tries_left_of old + tries_left_in jobs
+  pub tried : KeepsTried old new
 
 -- why it isn't
 abbrev pub IsUnplanned : Option EntryData → PlanError → Type 0
@@ -220,6 +269,7 @@ pub record IsTakenFrom (old : Table) (actor : ℕ) (held : Held) (new : Table) :
   pub entries : KeepsEntries old new
   pub tries : tries_left_of new + (5 - held.head.tries) ≡ tries_left_of old
   pub fewer : tries_left_of new < tries_left_of old
+  pub tried : KeepsTried old new
 
 abbrev pub TakesFrom : Table → ℕ → Option Held → Table → Type 0
 TakesFrom old actor taken new =
@@ -243,12 +293,13 @@ abbrev pub IsGone : Option EntryData → Stop → Type 0
 IsGone None why = ⊥
 IsGone (Some e) why = e.stop ≡ Some why
 
--- a job of a stopped query is in hand no more
-pub record Goes (old : Table) (held : Held) (why : Stop) (new : Table) : Type 0 where
+-- a job of a stopped query is in hand no more, whether by a failed try that is counted or not
+pub record Goes (old : Table) (held : Held) (why : Stop) (failed : Bool) (new : Table) : Type 0 where
   pub stopped : IsGone (entry_in old held.head.query) why
   pub entries : KeepsEntries old new
   pub queues : IsReleased old.queues held new.queues
   pub tries : tries_left_of new ≡ tries_left_of old
+  pub tried : CountsTryIf failed old held.head.query new
 
 -- a job that isn't held changes nothing
 pub record IsNothing (old : Table) (held : Held) (new : Table) : Type 0 where
@@ -262,10 +313,11 @@ pub record IsStored (old : Table) (held : Held) (part : Part) (new : Table) : Ty
   pub entries : SetsEntry old held.head.query (Some (record { tenant = held.head.tenant; stop = None; work = Some (filled held.head.job part work) })) new
   pub queues : IsReleased old.queues held new.queues
   pub tries : tries_left_of new ≡ tries_left_of old
+  pub tried : KeepsTried old new
 
 abbrev pub IsFinished : Table → Held → Part → Finished → Table → Type 0
 IsFinished old held part finished.Stored new = IsStored old held part new
-IsFinished old held part (finished.Gone why) new = Goes old held why new
+IsFinished old held part (finished.Gone why) new = Goes old held why false new
 IsFinished old held part finished.NotHeld new = IsNothing old held new
 
 -- a job waits again, tried once more
@@ -277,6 +329,7 @@ pub record WaitsAgain (old : Table) (held : Held) (tries : ℕ) (new : Table) : 
   pub entries : KeepsEntries old new
   pub queues : IsPutBack old.queues held new.queues
   pub tries_left : tries_left_of new ≡ tries_left_of old + (5 - tries)
+  pub tried : CountsTry old held.head.query new
 
 -- a job was tried five times: its query is stopped
 pub record IsExhausted (old : Table) (held : Held) (job : ℕ) (new : Table) : Type 0 where
@@ -287,11 +340,12 @@ pub record IsExhausted (old : Table) (held : Held) (job : ℕ) (new : Table) : T
   pub entries : SetsEntry old held.head.query (Some (record { tenant = held.head.tenant; stop = Some (Exhausted job); work = Some work })) new
   pub queues : AreLeft old held.head.tenant held.head.query (without_hand (hand_of held) (hands_of old held.head.tenant)) new
   pub tries : tries_left_of new ≤ tries_left_of old
+  pub tried : CountsTry old held.head.query new
 
 abbrev pub IsFailed : Table → Held → FailedTry → Table → Type 0
 IsFailed old held (failed.Again tries) new = WaitsAgain old held tries new
 IsFailed old held (failed.Exhausted job) new = IsExhausted old held job new
-IsFailed old held (failed.Gone why) new = Goes old held why new
+IsFailed old held (failed.Gone why) new = Goes old held why (has_hand (hand_of held) (hands_of old held.head.tenant)) new
 IsFailed old held failed.NotHeld new = IsNothing old held new
 
 -- a query's entry once it is stopped
@@ -303,6 +357,7 @@ pub record Stops (old : Table) (query : ℕ) (why : Stop) (e : EntryData) (hands
   pub entries : SetsEntry old query (Some (stopped why e)) new
   pub queues : AreLeft old e.tenant query hands new
   pub tries : tries_left_of new ≤ tries_left_of old
+  pub tried : KeepsTried old new
 
 abbrev pub IsStopped : Table → ℕ → Stop → Table → Type 0
 IsStopped old query why new =
@@ -327,6 +382,7 @@ pub record IsGathered (old : Table) (query : ℕ) (e : EntryData) (w : WorkData)
   pub entries : SetsEntry old query (Some (record e { work = Some (handed_out w) })) new
   pub queues : AreSame old.queues new.queues
   pub tries : tries_left_of new ≡ tries_left_of old
+  pub tried : KeepsTried old new
 
 abbrev pub IsCollectedOf : Table → ℕ → EntryData → Collected → Table → Type 0
 IsCollectedOf old query e (collected.Stopped why) new = (e.stop ≡ Some why) × IsSameTable old new
@@ -358,6 +414,7 @@ pub record Offers (old : Table) (query : ℕ) (e : EntryData) (new : Table) : Ty
   pub entries : SetsEntry old query (Some (record e { work = option_map offered e.work })) new
   pub queues : AreSame old.queues new.queues
   pub tries : tries_left_of new ≡ tries_left_of old
+  pub tried : KeepsTried old new
 
 abbrev pub IsOffered : Table → ℕ → Table → Type 0
 IsOffered old query new = MatchOption (entry_in old query) (IsSameTable old new) (λ e. Offers old query e new)

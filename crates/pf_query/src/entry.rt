@@ -4,7 +4,7 @@ ghost use Rattle.std.specs.HashMap.{get};
 ghost use Rattle.std.specs.Option.{option_map};
 ghost use Rattle.std.specs.Prelude.{◌≡◌, ℕ, ◌<◌, false, IfSome, OnErr, OnOk, Some, cond, length, nat_eq};
 ghost use Rattle.pf_model.specs.Lists.{Each};
-ghost use Rattle.pf_query.specs.Entries.{GathersAt, back_entry, given_entry, offered_entry, opened_entry, planned_entry, state_of, stop_after, stopped_entry, stored_entry, taken_entry, with_change};
+ghost use Rattle.pf_query.specs.Entries.{GathersAt, back_entry, exhausted_entry, given_entry, offered_entry, opened_entry, planned_entry, state_of, stop_after, stopped_entry, stored_entry, taken_entry, tried_entry, with_change};
 ghost use Rattle.pf_query.specs.Tables.{data_of, is_covered_in};
 ghost use Rattle.pf_query.specs.Works.{IsFilled};
 
@@ -17,8 +17,8 @@ use pf_extent::DoneCells;
 use pf_shard::Part;
 use std::collections::HashMap;
 
-/// A query's tenant, why it was stopped, if it was, what is kept of it once it is planned, and how many of its jobs wait and are
-/// in hand, which is kept until it is stopped.
+/// A query's tenant, why it was stopped, if it was, what is kept of it once it is planned, how many of its jobs wait and are in
+/// hand, which is kept until it is stopped, and how often its jobs failed, all together, up to 2^64 - 1.
 #[derive(Drop)]
 pub struct Entry {
     pub tenant: u32,
@@ -26,6 +26,7 @@ pub struct Entry {
     pub work: Option<Work>,
     pub queued: u32,
     pub in_hand: u32,
+    pub tried: u64,
 }
 
 /// Entries by their queries.
@@ -69,6 +70,7 @@ pub fn add(entries: &mut Entries, query: u64, tenant: u32) -> Result<(), OutOfMe
             work: None,
             queued: 0,
             in_hand: 0,
+            tried: 0,
         },
     )?;
     Ok(())
@@ -95,7 +97,7 @@ pub fn take(entries: &mut Entries, query: u64)
     }
 }
 
-/// Notes that a job of a query that was in hand waits.
+/// Notes that a job of a query that was in hand failed, and waits again.
 pub fn put_back(entries: &mut Entries, query: u64)
     requires { IfSome (get nat_eq entries.old query) (λ e. (0 < e.in_hand) × (e.queued < 4294967295)) }
     ensures { (q : ℕ) → get nat_eq entries.new q ≡ with_change query back_entry (get nat_eq entries.old) q }
@@ -103,6 +105,16 @@ pub fn put_back(entries: &mut Entries, query: u64)
     if let Some(entry) = entries.get_mut(&query) {
         entry.in_hand -= 1;
         entry.queued += 1;
+        entry.tried = entry.tried.saturating_add(1);
+    }
+}
+
+/// Notes that a job of a query failed.
+pub fn count_try(entries: &mut Entries, query: u64)
+    ensures { (q : ℕ) → get nat_eq entries.new q ≡ with_change query tried_entry (get nat_eq entries.old) q }
+{
+    if let Some(entry) = entries.get_mut(&query) {
+        entry.tried = entry.tried.saturating_add(1);
     }
 }
 
@@ -136,6 +148,16 @@ pub fn stop(entries: &mut Entries, query: u64, why: Stop)
 {
     if let Some(entry) = entries.get_mut(&query) {
         entry.stop = Some(stop_with(entry.stop, why));
+    }
+}
+
+/// Stops a query, since this job of it failed for the fifth time.
+pub fn exhaust(entries: &mut Entries, query: u64, job: u32)
+    ensures { (q : ℕ) → get nat_eq entries.new q ≡ with_change query (exhausted_entry job) (get nat_eq entries.old) q }
+{
+    if let Some(entry) = entries.get_mut(&query) {
+        entry.stop = Some(stop_with(entry.stop, Stop::Exhausted { job }));
+        entry.tried = entry.tried.saturating_add(1);
     }
 }
 

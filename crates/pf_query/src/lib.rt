@@ -16,7 +16,7 @@
 //!                           +------ fail -----+
 //! ```
 //!
-//!   Where it fails for the fifth time, its query is stopped. `stop`, `lack_job` and that let none of the query's jobs wait any
+//!   Where it fails for the fifth time, its query is stopped. `cancel`, `lack_query`, `lack_job` and that let none of its jobs wait any
 //!   more; one in hand goes by `finish`, `fail` or `lack_job`, and `close` takes out all.
 #![tactic(auto)]
 

@@ -8,7 +8,8 @@ ghost use Rattle.pf_journal.specs.Machine.{most_tenants};
 ghost use Rattle.pf_shard.specs.Lawful.{IsLawful, legs_data};
 ghost use Rattle.pf_query.specs.Entries.{state_of};
 ghost use Rattle.pf_extent.specs.Done.{steps_in};
-ghost use Rattle.pf_query.specs.Tables.{IsClosed, IsCollected, IsFailed, IsFinished, IsLacking, IsNew, IsOffered, IsOpened, IsPlannedOver, IsSameTable, IsStopped, IsTable, IsUnplanned, TakesFrom, entry_in, is_covered_in, progress_of};
+ghost use Rattle.pf_query.specs.Tables.{IsClosed, IsCollected, IsFailed, IsFinished, IsLacking, IsNew, IsOffered, IsOpened, IsPlannedOver, IsSameTable, IsStopped, IsTable, IsUnplanned, TakesFrom, entry_in, is_covered_in, last_tries, progress_of};
+ghost use Rattle.pf_query.specs.declared.stop.Stop.TheVariants.{Cancelled, Starved};
 
 use crate::answers::{Collected, FailedTry, Finished, PlanError, Planned, Progress};
 use crate::entry::{self, Entries};
@@ -149,7 +150,8 @@ impl Table {
         Finished::Stored
     }
 
-    /// Lets a job in hand wait again, last of its tenant's, since it failed. At its fifth failure its query is stopped.
+    /// Lets a job in hand wait again, last of its tenant's, since it failed. At its fifth failure its query is stopped. The try is
+    /// counted for the query, up to 2^64 - 1.
     pub fn fail(&mut self, held: Held) -> FailedTry
         requires { IsTable self.old }
         ensures failed { IsFailed self.old held result self.new }
@@ -160,7 +162,9 @@ impl Table {
             return FailedTry::NotHeld;
         };
         if let Some(why) = state.stop {
-            self.queues.release(&held);
+            if self.queues.release(&held) {
+                entry::count_try(&mut self.entries, query);
+            }
             return FailedTry::Gone { why };
         }
         if held.head.tries >= 4 {
@@ -188,7 +192,7 @@ impl Table {
         if !self.queues.release(&held) {
             return FailedTry::NotHeld;
         }
-        entry::stop(&mut self.entries, query, Stop::Exhausted { job });
+        entry::exhaust(&mut self.entries, query, job);
         self.queues.drop_waiting(state.tenant, query);
         FailedTry::Exhausted { job }
     }
@@ -208,10 +212,30 @@ impl Table {
         self.queues.drop_waiting(state.tenant, query);
     }
 
-    /// Stops a query, if it is outstanding: its jobs wait no more. A cancel is in place of another stop, and else the first stop
-    /// stays.
-    pub fn stop(&mut self, query: u64, why: Stop)
+    /// Cancels a query at this place of the journal, if it is outstanding: its jobs wait no more. A cancel is in place of another
+    /// stop.
+    pub fn cancel(&mut self, query: u64, place: u64)
         requires { IsTable self.old }
+        ensures stopped { IsStopped self.old query (Cancelled place) self.new }
+        ensures table { IsTable self.new }
+    {
+        self.stop(query, Stop::Cancelled { place });
+    }
+
+    /// Stops a query for want of memory, if it is outstanding and wasn't stopped before: its jobs wait no more.
+    pub fn lack_query(&mut self, query: u64)
+        requires { IsTable self.old }
+        ensures stopped { IsStopped self.old query Starved self.new }
+        ensures table { IsTable self.new }
+    {
+        self.stop(query, Stop::Starved);
+    }
+
+    /// Stops a query, if it is outstanding, but not by a job of it: its jobs wait no more. A cancel is in place of another stop, and
+    /// else the first stop stays.
+    fn stop(&mut self, query: u64, why: Stop)
+        requires table { IsTable self.old }
+        requires untried { last_tries (Some why) ≡ 0 }
         ensures stopped { IsStopped self.old query why self.new }
         ensures table { IsTable self.new }
     {
