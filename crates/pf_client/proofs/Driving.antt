@@ -1,5 +1,5 @@
 -- A client goes on by a line, and stops.
-use Rattle.std.proofs.Common.{◌≡◌, ℕ, zero, suc, ◌+◌, ◌<◌, ◌≤◌, ◌⊎◌, inl, inr, Bool, true, false, Option, Some, None, Result, Ok, Err, IfOk, OnOk, List, [], ◌∷◌, ◌++◌, drop, length, slice_get, take, refl, sym, ap, ◌∙◌, subst, append-nil, arith, nat_eq, cond}
+use Rattle.std.proofs.Common.{◌≡◌, ℕ, zero, suc, ◌+◌, ◌<◌, ◌≤◌, ◌⊎◌, inl, inr, Bool, true, false, Option, Some, None, Result, Ok, Err, IfOk, OnOk, List, [], ◌∷◌, ◌++◌, drop, length, slice_get, take, refl, sym, ap, ◌∙◌, subst, append-nil, append_assoc, arith, nat_eq, cond}
 use Rattle.std.proofs.lemmas.Bool.Decides.{nat_tests}
 use Rattle.std.proofs.lemmas.List.{length-append}
 use Rattle.std.specs.BTreeMap.{get}
@@ -85,8 +85,8 @@ count_entered journal n what = let e = ap (λ (m : Machine). m.count) (machine-s
 
 -- ---- one line
 
-module _ (known : Known) (lines : List Numbered) (told : List Told) (l : Numbered) (old new : Client) (r : LineRun)
-    (there : slice_get lines (length told) ≡ Some l) (follows : Follows (take (length told) lines) l) (h : HasTold known lines told at_end old)
+module _ (known : Known) (lines : List Numbered) (told : List Told) (sent : List ℕ) (l : Numbered) (old new : Client) (r : LineRun)
+    (there : slice_get lines (length told) ≡ Some l) (follows : Follows (take (length told) lines) l) (h : HasTold known lines told at_end sent old)
     (step : IsStep known (naming (own_of old.core) (last_first [] (ran_lines lines told)) (hands_last [] (ran_lines lines told)) l.line) old l r new) where
   own_new : own_of new.core ≡ own_with (own_of old.core) (machine_of old.core) l.number step.entered
   own_new = ap (λ (es : List Entry). own_moments 0 (moments es)) step.journal ∙ own_on old.core.journal l.number step.entered
@@ -97,16 +97,20 @@ module _ (known : Known) (lines : List Numbered) (told : List Told) (l : Numbere
   in_hand : hands_last [] (ran_lines lines told) ≡ hands_behind [] (ran_lines lines told)
   in_hand = same_hands [] (ran_lines lines told)
 
-  pub told_on : HasTold known lines (told ++ step.told ∷ []) at_end new
+  -- what a line says comes behind what was sent
+  behind_sent : (reply : List ℕ) → new.out.items ≡ old.out.items ++ reply → sent ++ new.out.items ≡ (sent ++ old.out.items) ++ reply
+  behind_sent reply e = ap (λ (bytes : List ℕ). sent ++ bytes) e ∙ sym (append_assoc sent old.out.items reply)
+
+  pub told_on : HasTold known lines (told ++ step.told ∷ []) at_end sent new
   told_on = record {
     woven = subst (λ (own : List Moment). Woven known own lines (going told step.told at_end)) (sym own_new)
         (woven_on known (own_of old.core) (machine_of old.core) lines told l step.told step.entered h.woven there follows.first follows.rising
         (subst (λ (hands : List Hand). IsMatched known (turn_by (naming (own_of old.core) (lines_behind [] (ran_lines lines told)) hands l.line step.told) l step.told (moment_with (machine_of old.core) l.number step.entered)) (moment_with (machine_of old.core) l.number step.entered)) in_hand
         (subst (λ (above : List Ran). IsMatched known (turn_by (naming (own_of old.core) above (hands_last [] (ran_lines lines told)) l.line step.told) l step.told (moment_with (machine_of old.core) l.number step.entered)) (moment_with (machine_of old.core) l.number step.entered)) behind step.matched))
         step.roomy);
-    said = text_on known (own_of old.core) (machine_of old.core) lines told l step.told step.entered old.out.items new.out.items h.woven there follows.rising h.said
-        (subst (λ (hands : List Hand). new.out.items ≡ old.out.items ++ reply_of known (turn_by (naming (own_of old.core) (lines_behind [] (ran_lines lines told)) hands l.line step.told) l step.told (moment_with (machine_of old.core) l.number step.entered))) in_hand
-        (subst (λ (above : List Ran). new.out.items ≡ old.out.items ++ reply_of known (turn_by (naming (own_of old.core) above (hands_last [] (ran_lines lines told)) l.line step.told) l step.told (moment_with (machine_of old.core) l.number step.entered))) behind step.said))
+    said = text_on known (own_of old.core) (machine_of old.core) lines told l step.told step.entered (sent ++ old.out.items) (sent ++ new.out.items) h.woven there follows.rising h.said
+        (behind_sent _ (subst (λ (hands : List Hand). new.out.items ≡ old.out.items ++ reply_of known (turn_by (naming (own_of old.core) (lines_behind [] (ran_lines lines told)) hands l.line step.told) l step.told (moment_with (machine_of old.core) l.number step.entered))) in_hand
+        (subst (λ (above : List Ran). new.out.items ≡ old.out.items ++ reply_of known (turn_by (naming (own_of old.core) above (hands_last [] (ran_lines lines told)) l.line step.told) l step.told (moment_with (machine_of old.core) l.number step.entered))) behind step.said)))
         ∙ ap (λ (own : List Moment). client_text known own 0 lines (going told step.told at_end)) (sym own_new);
     alone = subst (Each (λ e. e.client ≡ 0)) (sym step.journal) (each_by (λ e. e.client ≡ 0) old.core.journal l.number step.entered h.alone (λ what e. refl));
     tried = tried_next old.core new.core told step.told step.tried h.tried;
@@ -137,7 +141,7 @@ module _ (known : Known) (lines : List Numbered) (told : List Told) (l : Numbere
       → HaveSlots known (record { line = l; told = step.told } ∷ last_first [] (ran_lines lines told)) (own_with (own_of old.core) (machine_of old.core) l.number step.entered)
       (machine_of new.core).count (take (length told) lines ++ l ∷ []) new.slots
       → AreKept new.core new.slots → HaveHands old (hands_last [] (ran_lines lines told))
-      → Going known limits lines (length told + 1) new
+      → Going known limits lines (length told + 1) sent new
   goes_on on limited goes slots kept hands =
       let ends : stops_at l.line step.told ≡ None = subst (Ends old.core l.line step.told step.entered) on step.ends in
       let lf : last_first [] (ran_lines lines (told ++ step.told ∷ [])) ≡ record { line = l; told = step.told } ∷ last_first [] (ran_lines lines told) =
@@ -161,7 +165,7 @@ module _ (known : Known) (lines : List Numbered) (told : List Told) (l : Numbere
 
   -- the line stops the client
   stops_by : {limits : Limits} (why : Why) → stops_at l.line step.told ≡ Some why → Lacks known.limits new.core.journal 0 l.line why
-      → old.core.limits ≡ limits → Each (λ x. stops_at x.line.line x.told ≡ None) (ran_lines lines told) → HasRun known limits lines why new
+      → old.core.limits ≡ limits → Each (λ x. stops_at x.line.line x.told ≡ None) (ran_lines lines told) → HasRun known limits lines why sent new
   stops_by why stopped lacks limited goes =
       let on = told_on in
       let w = on.woven in
@@ -179,7 +183,7 @@ module _ (known : Known) (lines : List Numbered) (told : List Told) (l : Numbere
       }
 
   -- it met the full journal
-  pub stops_here : {limits : Limits} → r ≡ run.Full → old.core.limits ≡ limits → IsKnown known new.core → Each (λ x. stops_at x.line.line x.told ≡ None) (ran_lines lines told) → HasRun known limits lines at_full new
+  pub stops_here : {limits : Limits} → r ≡ run.Full → old.core.limits ≡ limits → IsKnown known new.core → Each (λ x. stops_at x.line.line x.told ≡ None) (ran_lines lines told) → HasRun known limits lines at_full sent new
   stops_here stopped limited kn goes =
       let ends : Ends old.core l.line step.told step.entered run.Full = subst (Ends old.core l.line step.told step.entered) stopped step.ends in
       let journal : new.core.journal ≡ old.core.journal =
@@ -195,7 +199,7 @@ module _ (known : Known) (lines : List Numbered) (told : List Told) (l : Numbere
       stops_by at_full ends.0 lacks limited goes
 
   -- it lacked memory
-  pub starves_here : {limits : Limits} → r ≡ run.Starved → old.core.limits ≡ limits → Each (λ x. stops_at x.line.line x.told ≡ None) (ran_lines lines told) → HasRun known limits lines at_memory new
+  pub starves_here : {limits : Limits} → r ≡ run.Starved → old.core.limits ≡ limits → Each (λ x. stops_at x.line.line x.told ≡ None) (ran_lines lines told) → HasRun known limits lines at_memory sent new
   starves_here stopped limited goes =
       let ends : Ends old.core l.line step.told step.entered run.Starved = subst (Ends old.core l.line step.told step.entered) stopped step.ends in
       stops_by at_memory ends tt limited goes
@@ -402,15 +406,15 @@ asked_all known above c count done slots have kept q o g =
 -- a line that names no query
 pub plain_goes : (loaded : Loaded) (old new : Client) (l : Numbered) (r : LineRun) → IsNotAnswer l.line → ((id : List ℕ) → IsAsk id (Some l.line) → ⊥)
     → ((known : Known) → IsTold known loaded → Runs known old l r new) → new.slots ≡ old.slots → GoesOn loaded old l r new
-plain_goes loaded old new l r quiet asks runs slots = λ limits lines n there follows going. by r refl limits lines n there follows going where
+plain_goes loaded old new l r quiet asks runs slots = λ limits lines n sent there follows going. by r refl limits lines n sent there follows going where
   empty : Told → Naming
   empty told = record { hands = []; asking = None; asked = None; cancelled = None; answered = None }
 
   before : (known : Known) → IsTold known loaded → IsKnown known new.core → IsKnown known old.core
   before known told kn = let s = runs known told empty kn in known_before known old.core new.core s.more s.limits s.grown kn
 
-  by : (x : LineRun) → x ≡ r → (limits : Limits) (lines : List Numbered) (n : ℕ) → slice_get lines n ≡ Some l → Follows (take n lines) l → IsGoing loaded limits lines n old → Goes loaded limits lines n x new
-  by run.On e limits lines n there follows going = λ known told kn.
+  by : (x : LineRun) → x ≡ r → (limits : Limits) (lines : List Numbered) (n : ℕ) (sent : List ℕ) → slice_get lines n ≡ Some l → Follows (take n lines) l → IsGoing loaded limits lines n sent old → Goes loaded limits lines n sent x new
+  by run.On e limits lines n sent there follows going = λ known told kn.
       let g = going known told (before known told kn) in
       let above = last_first [] (ran_lines lines g.told) in
       let at : slice_get lines (length g.told) ≡ Some l = subst (λ (i : ℕ). slice_get lines i ≡ Some l) (sym g.many) there in
@@ -419,38 +423,38 @@ plain_goes loaded old new l r quiet asks runs slots = λ limits lines n there fo
       let turn = turn_by (naming (own_of old.core) above (hands_last [] (ran_lines lines g.told)) l.line step.told) l step.told (moment_with (machine_of old.core) l.number step.entered) in
       let matched = matched_as known turn (machine_of old.core) l.number step.entered step.matched in
       let kept = slots_same known above (record { line = l; told = step.told }) (own_of old.core) (machine_of old.core) (take (length g.told) lines) l step.entered (machine_of new.core).count old.slots
-      behind.rising refl (grown known lines g.told l old new r at behind g.has_told step) asks
+      behind.rising refl (grown known lines g.told sent l old new r at behind g.has_told step) asks
       (λ k. leaves_all known turn l.line step.entered quiet matched (get nat_cmp old.slots k))
       (subst (λ (i : ℕ). HaveSlots known above (own_of old.core) (machine_of old.core).count (take i lines) old.slots) (sym g.many) g.slots) in
-      subst (λ (i : ℕ). Going known limits lines (i + 1) new) g.many
-      (goes_on known lines g.told l old new r at behind g.has_told step (sym e) g.limited g.goes
+      subst (λ (i : ℕ). Going known limits lines (i + 1) sent new) g.many
+      (goes_on known lines g.told sent l old new r at behind g.has_told step (sym e) g.limited g.goes
       (subst (λ (s : Slots). HaveSlots known (record { line = l; told = step.told } ∷ above) (own_with (own_of old.core) (machine_of old.core) l.number step.entered) (machine_of new.core).count (take (length g.told) lines ++ l ∷ []) s) (sym slots) kept)
       (kept_on old.core new.core old.slots new.slots l.number step.entered step.journal (no_ask known turn l.line step.entered asks matched) slots g.kept) g.hands)
-  by run.Full e limits lines n there follows going = λ known told kn.
+  by run.Full e limits lines n sent there follows going = λ known told kn.
       let g = going known told (before known told kn) in
       let at : slice_get lines (length g.told) ≡ Some l = subst (λ (i : ℕ). slice_get lines i ≡ Some l) (sym g.many) there in
       let behind : Follows (take (length g.told) lines) l = subst (λ (i : ℕ). Follows (take i lines) l) (sym g.many) follows in
       let step = runs known told (naming (own_of old.core) (last_first [] (ran_lines lines g.told)) (hands_last [] (ran_lines lines g.told)) l.line) kn in
-      stops_here known lines g.told l old new r at behind g.has_told step (sym e) g.limited kn g.goes
-  by run.Starved e limits lines n there follows going = λ known told kn.
+      stops_here known lines g.told sent l old new r at behind g.has_told step (sym e) g.limited kn g.goes
+  by run.Starved e limits lines n sent there follows going = λ known told kn.
       let g = going known told (before known told kn) in
       let at : slice_get lines (length g.told) ≡ Some l = subst (λ (i : ℕ). slice_get lines i ≡ Some l) (sym g.many) there in
       let behind : Follows (take (length g.told) lines) l = subst (λ (i : ℕ). Follows (take i lines) l) (sym g.many) follows in
       let step = runs known told (naming (own_of old.core) (last_first [] (ran_lines lines g.told)) (hands_last [] (ran_lines lines g.told)) l.line) kn in
-      starves_here known lines g.told l old new r at behind g.has_told step (sym e) g.limited g.goes
+      starves_here known lines g.told sent l old new r at behind g.has_told step (sym e) g.limited g.goes
 
 -- a line that asks
 pub ask_goes : (loaded : Loaded) (old new : Client) (l : Numbered) (r : LineRun) (id tenant : List ℕ) → AsksAs id tenant l.line → IsNotAnswer l.line → IsAsk id (Some l.line)
     → ((known : Known) → IsTold known loaded → AskRuns known old l r new) → GoesOn loaded old l r new
-ask_goes loaded old new l r id tenant own_it quiet asks runs = λ limits lines n there follows going. by r refl limits lines n there follows going where
+ask_goes loaded old new l r id tenant own_it quiet asks runs = λ limits lines n sent there follows going. by r refl limits lines n sent there follows going where
   empty : Told → Naming
   empty told = record { hands = []; asking = None; asked = None; cancelled = None; answered = None }
 
   before : (known : Known) → IsTold known loaded → IsKnown known new.core → IsKnown known old.core
   before known told kn = let s = (runs known told empty kn).step in known_before known old.core new.core s.more s.limits s.grown kn
 
-  by : (x : LineRun) → x ≡ r → (limits : Limits) (lines : List Numbered) (n : ℕ) → slice_get lines n ≡ Some l → Follows (take n lines) l → IsGoing loaded limits lines n old → Goes loaded limits lines n x new
-  by run.On e limits lines n there follows going = λ known told kn.
+  by : (x : LineRun) → x ≡ r → (limits : Limits) (lines : List Numbered) (n : ℕ) (sent : List ℕ) → slice_get lines n ≡ Some l → Follows (take n lines) l → IsGoing loaded limits lines n sent old → Goes loaded limits lines n sent x new
+  by run.On e limits lines n sent there follows going = λ known told kn.
       let g = going known told (before known told kn) in
       let above = last_first [] (ran_lines lines g.told) in
       let at : slice_get lines (length g.told) ≡ Some l = subst (λ (i : ℕ). slice_get lines i ≡ Some l) (sym g.many) there in
@@ -459,8 +463,8 @@ ask_goes loaded old new l r id tenant own_it quiet asks runs = λ limits lines n
       let asked : IsAskStep known names old l run.On new = subst (λ (y : LineRun). IsAskStep known names old l y new) (sym e) (runs known told names kn) in
       let step = asked.step in
       let turn = turn_by (names step.told) l step.told (moment_with (machine_of old.core) l.number step.entered) in
-      let low = own_low known lines g.told l old new run.On at behind g.has_told step in
-      let more = grown known lines g.told l old new run.On at behind g.has_told step in
+      let low = own_low known lines g.told sent l old new run.On at behind g.has_told step in
+      let more = grown known lines g.told sent l old new run.On at behind g.has_told step in
       let right = slot_new known above names l id tenant old.core new.core step.told step.entered asked.keeps.kept own_it asked.keeps.is step.journal g.has_told.alone low step.matched in
       let have : HaveSlots known above (own_of old.core) (machine_of old.core).count (take (length g.told) lines) old.slots =
       subst (λ (i : ℕ). HaveSlots known above (own_of old.core) (machine_of old.core).count (take i lines) old.slots) (sym g.many) g.slots in
@@ -468,22 +472,22 @@ ask_goes loaded old new l r id tenant own_it quiet asks runs = λ limits lines n
       behind.rising refl more id asks
       (λ k. leaves_all known turn l.line step.entered quiet (matched_as known turn (machine_of old.core) l.number step.entered step.matched) (get nat_cmp old.slots k))
       asked.keeps.slots right (fresh_slot known l old new step.told step.entered asked.keeps.kept asked.keeps.is step.journal) have in
-      subst (λ (i : ℕ). Going known limits lines (i + 1) new) g.many
-      (goes_on known lines g.told l old new run.On at behind g.has_told step refl g.limited g.goes kept
+      subst (λ (i : ℕ). Going known limits lines (i + 1) sent new) g.many
+      (goes_on known lines g.told sent l old new run.On at behind g.has_told step refl g.limited g.goes kept
       (kept_asked known l old new step.told step.entered asked.keeps.kept asked.keeps.is step.journal asked.keeps.slots
       (λ k s there. let o = have.only k s there in ask_below k l.number o.0 (take (length g.told) lines) behind.rising o.1) g.kept) g.hands)
-  by run.Full e limits lines n there follows going = λ known told kn.
+  by run.Full e limits lines n sent there follows going = λ known told kn.
       let g = going known told (before known told kn) in
       let at : slice_get lines (length g.told) ≡ Some l = subst (λ (i : ℕ). slice_get lines i ≡ Some l) (sym g.many) there in
       let behind : Follows (take (length g.told) lines) l = subst (λ (i : ℕ). Follows (take i lines) l) (sym g.many) follows in
       let step = (runs known told (naming (own_of old.core) (last_first [] (ran_lines lines g.told)) (hands_last [] (ran_lines lines g.told)) l.line) kn).step in
-      stops_here known lines g.told l old new r at behind g.has_told step (sym e) g.limited kn g.goes
-  by run.Starved e limits lines n there follows going = λ known told kn.
+      stops_here known lines g.told sent l old new r at behind g.has_told step (sym e) g.limited kn g.goes
+  by run.Starved e limits lines n sent there follows going = λ known told kn.
       let g = going known told (before known told kn) in
       let at : slice_get lines (length g.told) ≡ Some l = subst (λ (i : ℕ). slice_get lines i ≡ Some l) (sym g.many) there in
       let behind : Follows (take (length g.told) lines) l = subst (λ (i : ℕ). Follows (take i lines) l) (sym g.many) follows in
       let step = (runs known told (naming (own_of old.core) (last_first [] (ran_lines lines g.told)) (hands_last [] (ran_lines lines g.told)) l.line) kn).step in
-      starves_here known lines g.told l old new r at behind g.has_told step (sym e) g.limited g.goes
+      starves_here known lines g.told sent l old new r at behind g.has_told step (sym e) g.limited g.goes
 
 -- a line that leaves what is kept of asks
 pub quiet_goes : (loaded : Loaded) (old new : Client) (l : Numbered) → Grows old.core new.core → IsNotAnswer l.line → ((id : List ℕ) → IsAsk id (Some l.line) → ⊥)
@@ -491,7 +495,7 @@ pub quiet_goes : (loaded : Loaded) (old new : Client) (l : Numbered) → Grows o
     → HaveSlots known above (own_of old.core) (machine_of old.core).count done old.slots → AreKept old.core old.slots → HaveHands old hands → Follows done l
     → IsStep known (naming (own_of old.core) above hands l.line) old l run.On new)
     → new.slots ≡ old.slots → GoesOn loaded old l run.On new
-quiet_goes loaded old new l grows quiet asks runs slots = λ limits lines n there follows going known told kn.
+quiet_goes loaded old new l grows quiet asks runs slots = λ limits lines n sent there follows going known told kn.
     let g = going known told (known_before known old.core new.core grows.more grows.limits grows.names kn) in
     let above = last_first [] (ran_lines lines g.told) in
     let at : slice_get lines (length g.told) ≡ Some l = subst (λ (i : ℕ). slice_get lines i ≡ Some l) (sym g.many) there in
@@ -502,10 +506,10 @@ quiet_goes loaded old new l grows quiet asks runs slots = λ limits lines n ther
     let turn = turn_by (naming (own_of old.core) above (hands_last [] (ran_lines lines g.told)) l.line step.told) l step.told (moment_with (machine_of old.core) l.number step.entered) in
     let matched = matched_as known turn (machine_of old.core) l.number step.entered step.matched in
     let kept = slots_same known above (record { line = l; told = step.told }) (own_of old.core) (machine_of old.core) (take (length g.told) lines) l step.entered (machine_of new.core).count old.slots
-    behind.rising refl (grown known lines g.told l old new run.On at behind g.has_told step) asks
+    behind.rising refl (grown known lines g.told sent l old new run.On at behind g.has_told step) asks
     (λ j. leaves_all known turn l.line step.entered quiet matched (get nat_cmp old.slots j)) have in
-    subst (λ (i : ℕ). Going known limits lines (i + 1) new) g.many
-    (goes_on known lines g.told l old new run.On at behind g.has_told step refl g.limited g.goes
+    subst (λ (i : ℕ). Going known limits lines (i + 1) sent new) g.many
+    (goes_on known lines g.told sent l old new run.On at behind g.has_told step refl g.limited g.goes
     (subst (λ (s : Slots). HaveSlots known (record { line = l; told = step.told } ∷ above) (own_with (own_of old.core) (machine_of old.core) l.number step.entered) (machine_of new.core).count (take (length g.told) lines ++ l ∷ []) s) (sym slots) kept)
     (kept_on old.core new.core old.slots new.slots l.number step.entered step.journal (no_ask known turn l.line step.entered asks matched) slots g.kept) g.hands)
 
@@ -515,7 +519,7 @@ pub answer_goes : (loaded : Loaded) (old new : Client) (number k : ℕ) (id : Li
     → (get nat_cmp old.slots k ≡ None → ⊥) → HaveHands old hands
     → IsAnswerStep known (naming (own_of old.core) above hands (script.answer id k)) old (record { number = number; line = script.answer id k }) k new)
     → GoesOn loaded old (record { number = number; line = script.answer id k }) run.On new
-answer_goes loaded old new number k id grows runs = λ limits lines n there follows going known told kn.
+answer_goes loaded old new number k id grows runs = λ limits lines n sent there follows going known told kn.
     let l : Numbered = record { number = number; line = script.answer id k } in
     let g = going known told (known_before known old.core new.core grows.more grows.limits grows.names kn) in
     let above = last_first [] (ran_lines lines g.told) in
@@ -530,11 +534,11 @@ answer_goes loaded old new number k id grows runs = λ limits lines n there foll
     let step = answered.step in
     let turn = turn_by (naming (own_of old.core) above hands l.line step.told) l step.told (moment_with (machine_of old.core) l.number step.entered) in
     let matched = matched_as known turn (machine_of old.core) l.number step.entered step.matched in
-    let more = grown known lines g.told l old new run.On at behind g.has_told step in
+    let more = grown known lines g.told sent l old new run.On at behind g.has_told step in
     let kept = slots_by known above (record { line = l; told = step.told }) (own_of old.core) (machine_of old.core) (take (length g.told) lines) l k id step.entered (machine_of new.core).count old.slots new.slots
     answered.answered behind.rising refl more refl behind.names answered.closes answered.slots kept_it right have in
-    subst (λ (i : ℕ). Going known limits lines (i + 1) new) g.many
-    (goes_on known lines g.told l old new run.On at behind g.has_told step refl g.limited g.goes kept
+    subst (λ (i : ℕ). Going known limits lines (i + 1) sent new) g.many
+    (goes_on known lines g.told sent l old new run.On at behind g.has_told step refl g.limited g.goes kept
     (kept_answered old new number k step.entered answered.answered step.journal (no_ask known turn l.line step.entered (λ i a. a) matched) answered.closes answered.slots g.kept) g.hands)
 
 -- a call that ran such a line

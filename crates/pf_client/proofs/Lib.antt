@@ -14,6 +14,7 @@ pub mod Lists
 pub mod Onward
 pub mod Reports
 pub mod Runs
+pub mod Sending
 pub mod SlotLaws
 pub mod StepLines
 pub mod Steps
@@ -21,3 +22,4 @@ pub mod Tallying
 pub mod TextReads
 pub mod Texts
 pub mod Works
+pub mod Writing

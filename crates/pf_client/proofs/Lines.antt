@@ -1,5 +1,7 @@
 -- The lines of a script by their places, and the files that they name.
 use Rattle.std.proofs.Common.{◌≡◌, ℕ, zero, suc, ◌+◌, ◌<◌, ◌≤◌, Some, List, [], ◌∷◌, ◌++◌, get_or, length, map, take, drop, slice_get, refl, sym, ap, ◌∙◌, arith, subst, append-nil, append_assoc, inl, inr}
+use Rattle.std.proofs.lemmas.Option.{get_or_from_slice_get, slice_get_within}
+use Rattle.pf_journal.proofs.Ending.{NumbersRise}
 use Rattle.pf_journal.specs.Scripts.{Numbered}
 use Rattle.pf_model.specs.Lists.{Each}
 use Rattle.pf_script.specs.Lines.{AllFollow, Follows, numbered_of}
@@ -58,6 +60,11 @@ follows_get before (l ∷ ls) zero d p h = subst (λ (b : List Numbered). Follow
 follows_get before (l ∷ ls) (suc i) d p h =
     subst (λ (b : List Numbered). Follows b (get_or ls i d)) (append_assoc before (l ∷ []) (take i ls))
     (follows_get (before ++ l ∷ []) ls i d (omega (arith, p)) h.1)
+
+pub numbers_rise : (ls : List Numbered) → AllFollow [] ls → NumbersRise ls
+numbers_rise ls h = λ i l there.
+    let f = subst (λ (x : Numbered). Follows (take i ls) x) (get_or_from_slice_get ls i l l there) (follows_get [] ls i l (slice_get_within ls i l there) h) in
+    (f.first, f.rising)
 
 -- a number that is below every number above those before is below those of the lines behind
 above_all : (n : ℕ) (before ls : List Numbered) → AllFollow before ls → ((m : ℕ) → Each (λ b. b.number < m) before → n < m) → Each (λ x. n < x.number) ls

@@ -18,7 +18,7 @@ use Rattle.pf_journal.specs.Scripts.{Numbered}
 use Rattle.pf_journal.specs.Summaries.{Tally}
 use Rattle.pf_journal.specs.Turns.{own_moments, ran_lines}
 use Rattle.pf_journal.specs.Steps.{again, empty, exhausted, gone, lacked, not_held, stored}
-use Rattle.pf_journal.specs.Weave.{RunsTo, Weave, Woven, failed_answers, failed_in, failed_told}
+use Rattle.pf_journal.specs.Weave.{AreTried, RunsTo, Weave, Woven, failed_answers, failed_in, failed_told}
 use Rattle.pf_model.specs.Lists.{Each}
 use Rattle.pf_model.specs.Queries.{IsReading, Reading, refused}
 use Rattle.pf_script.specs.Lines.{lines_of}
@@ -32,7 +32,7 @@ use Rattle.pf_query.specs.declared.job.Hand.{Hand}
 use Rattle.pf_query.specs.declared.job.Held.{Held as HeldJob}
 use Rattle.pf_client.specs.Clients.{IsKnown}
 use Rattle.pf_client.specs.Replays.{HaveMetFull, Held}
-use Rattle.pf_client.specs.Drives.{IsReport, is_full, why_of}
+use Rattle.pf_client.specs.Drives.{IsReport, is_full, left_text, why_of}
 use Rattle.pf_client.specs.Files.{AreHeld}
 use Rattle.pf_client.specs.Summaries.{HaveEnded, IsSummary, why_by}
 use Rattle.pf_client.specs.Tallies.{IsCounted}
@@ -88,7 +88,7 @@ none_held (suc n) zero = refl
 none_held (suc n) (suc w) = none_held n w
 
 pub begins : (limits : Limits) (c : Client) → c.core ≡ started_core limits → IsEmpty c.slots → c.hands.items ≡ replicate 16 None
-    → c.out.items ≡ [] ++ line_text (codes "client" ∷ decimal 0 ∷ []) → (loaded : Loaded) (lines : List Numbered) → IsGoing loaded limits lines 0 c
+    → c.out.items ≡ [] ++ line_text (codes "client" ∷ decimal 0 ∷ []) → (loaded : Loaded) (lines : List Numbered) → IsGoing loaded limits lines 0 [] c
 begins limits c is bare hands said = λ loaded lines known told kn.
     let own : own_of c.core ≡ [] = ap own_of is in
     let journal : c.core.journal ≡ [] = ap (λ (d : CoreData). d.journal) is in
@@ -174,6 +174,14 @@ five_each : (c : CoreData) → AreCovered c → (sum c.failed ≡ 18446744073709
 five_each c (inl most) = inl most
 five_each c (inr more) = inr (omega (arith, more))
 
+pub tried_so_far : (c : Client) (lines : List Numbered) (told : List Told) (why : Why) → Stands c.core → AreCounted c.core told → length told ≤ length lines → length lines ≤ 18446744073709551615
+    → AreTried c.core.journal (record { clients = record { told = told; why = why } ∷ []; failed = c.core.failed })
+tried_so_far c lines told why stands counted few short = record {
+  actors = let many = stands.actors in omega (arith, many);
+  five = five_each c.core stands.covered;
+  shown = let n = all_shown c.core told lines counted few short in omega (arith, n);
+}
+
 -- ---- readings
 
 read_as : (text : List ℕ) (q : QueryRead) (r : Reading) → IsQueryRead text q → query_reading q ≡ Some r → IsReading text r
@@ -201,16 +209,16 @@ one_of x y zero h = (refl, some_is x y h)
 one_of x y (suc n) h = cc
 
 -- a core is known by its own limits and names
-itself : (c : CoreData) (held : Held) (loaded : Loaded) → IsKnown (record { limits = c.limits; names = c.names; files = held; readings = readings_in loaded.queries }) c
+pub itself : (c : CoreData) (held : Held) (loaded : Loaded) → IsKnown (record { limits = c.limits; names = c.names; files = held; readings = readings_in loaded.queries }) c
 itself c held loaded = record { limits = refl; more = []; names = sym (append-nil c.names) }
 
 -- a client that stopped, with its only script, is woven into its journal
-pub woven_alone : (limits : Limits) (loaded : Loaded) (lines : List Numbered) (why : Why) (c : Client) (held : Held)
+pub woven_alone : (limits : Limits) (loaded : Loaded) (lines : List Numbered) (why : Why) (sent : List ℕ) (c : Client) (held : Held)
     → AreHeld held loaded.files → AreReadAs loaded.queries → length lines ≤ 18446744073709551615 → Stands c.core
-    → (has : HasRun (record { limits = c.core.limits; names = c.core.names; files = held; readings = readings_in loaded.queries }) limits lines why c)
+    → (has : HasRun (record { limits = c.core.limits; names = c.core.names; files = held; readings = readings_in loaded.queries }) limits lines why sent c)
     → Weave (record { limits = c.core.limits; names = c.core.names; files = held; readings = readings_in loaded.queries }) c.core.journal (lines ∷ [])
     (record { clients = record { told = has.told; why = why } ∷ []; failed = c.core.failed })
-woven_alone limits loaded lines why c held are right short stands has =
+woven_alone limits loaded lines why sent c held are right short stands has =
     let known : Known = record { limits = c.core.limits; names = c.core.names; files = held; readings = readings_in loaded.queries } in
     let one : ToldClient = record { told = has.told; why = why } in
     record {
@@ -218,11 +226,7 @@ woven_alone limits loaded lines why c held are right short stands has =
       each = λ client ls d at_ls at_d. each_one known c lines one has.has_told.woven has.runs client ls d at_ls at_d;
       nobody_else = each_so _ _ (λ (e : Entry) (h : e.client ≡ 0). first_only e h) c.core.journal has.has_told.alone;
       read = λ words r e. all_read loaded.queries right words r e;
-      tried = record {
-        actors = let many = stands.actors in omega (arith, many);
-        five = five_each c.core stands.covered;
-        shown = let n = all_shown c.core has.told lines has.has_told.tried has.has_told.woven.few short in omega (arith, n);
-      };
+      tried = tried_so_far c lines has.told why stands has.has_told.tried has.has_told.woven.few short;
     } where
       first_only : (e : Entry) → e.client ≡ 0 → e.client < 1
       first_only e h = omega (arith, h)
@@ -238,25 +242,24 @@ woven_alone limits loaded lines why c held are right short stands has =
           (subst (λ (y : ToldClient). Woven known (own_of c.core) lines y × RunsTo known.limits c.core.journal 0 y.why (drop (length y.told) lines) (ran_lines lines y.told)) same_d (woven, runs))
       each_one known c lines one woven runs (suc n) ls d at_ls at_d = cc
 
-pub reported : (limits : Limits) (loaded : Loaded) (lines : List Numbered) (run : LineRun) (met : Bool) (c : Client) (text : List ℕ) (held : Held)
-    → AreHeld held loaded.files → AreReadAs loaded.queries → length lines ≤ 18446744073709551615 → Stands c.core → HasStopped loaded limits lines (why_of run) c
-    → text ≡ c.out.items ++ (journal_text c.core.names c.core.journal ++ actors_from 0 c.core.failed)
-    → met ≡ is_full run
-    → IsReport limits held lines met text
-reported limits loaded lines run met c text held are right short stands stopped whole full =
+pub reported : (limits : Limits) (loaded : Loaded) (lines : List Numbered) (run : LineRun) (met : Bool) (sent : List ℕ) (c : Client) (held : Held)
+    → AreHeld held loaded.files → AreReadAs loaded.queries → length lines ≤ 18446744073709551615 → Stands c.core → HasStopped loaded limits lines (why_of run) sent c
+    → met ≡ is_full run → IsReport limits held lines met (sent ++ left_text c)
+reported limits loaded lines run met sent c held are right short stands stopped full =
     let known : Known = record { limits = c.core.limits; names = c.core.names; files = held; readings = readings_in loaded.queries } in
     let has = stopped known (record { held = are; readings = refl }) (itself c.core held loaded) in
     let rest : Rest = record { clients = record { told = has.told; why = why_of run } ∷ []; failed = c.core.failed } in
-    let text_is : text ≡ report known c.core.journal (lines ∷ []) rest =
-    whole ∙ ap (λ (bytes : List ℕ). bytes ++ (journal_text c.core.names c.core.journal ++ actors_from 0 c.core.failed)) (has.has_told.said ∙ sym (append-nil _)) in
-    subst (λ (b : Bool). IsReport limits held lines b text) (sym full) (subst (λ (l : Limits). IsReport l held lines (is_full run) text) has.limited (record {
+    let behind : List ℕ = journal_text c.core.names c.core.journal ++ actors_from 0 c.core.failed in
+    let text_is : sent ++ left_text c ≡ report known c.core.journal (lines ∷ []) rest =
+    sym (append_assoc sent c.out.items behind) ∙ ap (λ (bytes : List ℕ). bytes ++ behind) (has.has_told.said ∙ sym (append-nil _)) in
+    subst (λ (b : Bool). IsReport limits held lines b (sent ++ left_text c)) (sym full) (subst (λ (l : Limits). IsReport l held lines (is_full run) (sent ++ left_text c)) has.limited (record {
       journal = c.core.journal;
       names = c.core.names;
       readings = readings_in loaded.queries;
       rest = rest;
       legal = stands.legal;
       named = stands.names;
-      woven = woven_alone limits loaded lines (why_of run) c held are right short stands has;
+      woven = woven_alone limits loaded lines (why_of run) sent c held are right short stands has;
       met = met_by run has.told;
       whole = text_is;
     }))
@@ -267,10 +270,10 @@ ended_by : (full : Bool) (told : List Told) → HaveEnded full (record { told = 
 ended_by false told = (refl, tt)
 ended_by true told = λ h. h.0 refl
 
-pub summarized : (limits : Limits) (loaded : Loaded) (lines : List Numbered) (full : Bool) (t : Tally) (c : Client) (held : Held)
-    → AreHeld held loaded.files → AreReadAs loaded.queries → length lines ≤ 18446744073709551615 → Stands c.core → HasStopped loaded limits lines (why_by full) c
+pub summarized : (limits : Limits) (loaded : Loaded) (lines : List Numbered) (full : Bool) (t : Tally) (sent : List ℕ) (c : Client) (held : Held)
+    → AreHeld held loaded.files → AreReadAs loaded.queries → length lines ≤ 18446744073709551615 → Stands c.core → HasStopped loaded limits lines (why_by full) sent c
     → IsCounted loaded t c → IsSummary limits held lines full t
-summarized limits loaded lines full t c held are right short stands stopped count =
+summarized limits loaded lines full t sent c held are right short stands stopped count =
     let known : Known = record { limits = c.core.limits; names = c.core.names; files = held; readings = readings_in loaded.queries } in
     let told : IsTold known loaded = record { held = are; readings = refl } in
     let has = stopped known told (itself c.core held loaded) in
@@ -281,7 +284,7 @@ summarized limits loaded lines full t c held are right short stands stopped coun
       rest = record { clients = record { told = has.told; why = why_by full } ∷ []; failed = c.core.failed };
       legal = stands.legal;
       named = stands.names;
-      woven = woven_alone limits loaded lines (why_by full) c held are right short stands has;
+      woven = woven_alone limits loaded lines (why_by full) sent c held are right short stands has;
       ended = ended_by full has.told;
       whole = sym (count known told (itself c.core held loaded));
     })

@@ -71,9 +71,9 @@ drop_past [] = refl
 drop_past (x ∷ xs) = drop_past xs
 
 -- a client that ran all its lines
-pub ends : (script : Script) (loaded : Loaded) (limits : Limits) (i : ℕ) (c : Client) → i ≡ length script.lines.items
-    → IsGoing loaded limits (lines_of script) i c → HasStopped loaded limits (lines_of script) at_end c
-ends script loaded limits i c e going known told kn =
+pub ends : (script : Script) (loaded : Loaded) (limits : Limits) (i : ℕ) (sent : List ℕ) (c : Client) → i ≡ length script.lines.items
+    → IsGoing loaded limits (lines_of script) i sent c → HasStopped loaded limits (lines_of script) at_end sent c
+ends script loaded limits i sent c e going known told kn =
     let g = going known told kn in
     let all : length g.told ≡ length (lines_of script) = g.many ∙ e ∙ sym (map_length script.lines.items) in
     let none : drop (length g.told) (lines_of script) ≡ [] = ap (λ (n : ℕ). drop n (lines_of script)) all ∙ drop_past (lines_of script) in

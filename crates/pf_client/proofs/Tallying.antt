@@ -141,7 +141,7 @@ empty told = record { hands = []; asking = None; asked = None; cancelled = None;
 
 pub plain_counts : (left : Loaded) (old new : Client) (l : Numbered) (r : LineRun) → ((known : Known) → IsTold known left → Runs known old l r new)
     → CountsNothing left old l new
-plain_counts left old new l r runs quiet t loaded part limits lines n there follows going before known told kn =
+plain_counts left old new l r runs quiet t loaded part limits lines n sent there follows going before known told kn =
     let step = runs known (part known told) empty kn in
     step_counts known empty old new l r quiet step ∙ before known told (known_before known old.core new.core step.more step.limits step.grown kn)
 
@@ -154,7 +154,7 @@ pub quiet_counts : (left : Loaded) (old new : Client) (l : Numbered) → Grows o
     → HaveSlots known above (own_of old.core) (machine_of old.core).count done old.slots → AreKept old.core old.slots → HaveHands old hands → Follows done l
     → IsStep known (naming (own_of old.core) above hands l.line) old l run.On new)
     → CountsNothing left old l new
-quiet_counts left old new l grows runs quiet t loaded part limits lines n there follows going before known told kn =
+quiet_counts left old new l grows runs quiet t loaded part limits lines n sent there follows going before known told kn =
     let kb = known_before known old.core new.core grows.more grows.limits grows.names kn in
     let g = going known told kb in
     let above = last_first [] (ran_lines lines g.told) in
@@ -166,7 +166,7 @@ quiet_counts left old new l grows runs quiet t loaded part limits lines n there 
 
 pub answer_counts : (left : Loaded) (old new : Client) (l : Numbered) (t t' : Tally) (a : Option Answered) → Grows old.core new.core
     → counted new.core ≡ with_answered (counted old.core) a → t' ≡ with_answered t a → Counts left old l t new t'
-answer_counts left old new l t t' a grows is same loaded part limits lines n there follows going before known told kn =
+answer_counts left old new l t t' a grows is same loaded part limits lines n sent there follows going before known told kn =
     is ∙ (ap (λ (x : Tally). with_answered x a) (before known told (known_before known old.core new.core grows.more grows.limits grows.names kn)) ∙ sym same)
 
 -- a line of the code that is no answer

@@ -1,9 +1,10 @@
 -- The run of a script: this project's own.
-use Rattle.std.specs.Prelude.{◌≡◌, ℕ, Bool, true, false, List, [], ◌∷◌, drop}
+use Rattle.std.specs.Prelude.{◌≡◌, ℕ, Bool, true, false, Option, List, [], ◌∷◌, ◌++◌, drop}
 use Rattle.pf_base.specs.declared.plain.Limits.{Limits}
+use Rattle.pf_core.specs.Cores.{Stands}
 use Rattle.pf_journal.specs.Legal.{AreNames, Legal}
 use Rattle.pf_journal.specs.Machine.{Entry}
-use Rattle.pf_journal.specs.Report.{report}
+use Rattle.pf_journal.specs.Report.{actors_from, journal_text, report}
 use Rattle.pf_journal.specs.Rest.{Rest, Why, at_end, at_full, at_memory}
 use Rattle.pf_journal.specs.Scripts.{Numbered}
 use Rattle.pf_journal.specs.Weave.{Weave}
@@ -13,7 +14,10 @@ use Rattle.pf_script.specs.Lines.{AllFollow, IsRead, lines_of}
 use Rattle.pf_script.specs.declared.script.Script.{Script}
 use Rattle.pf_client.specs.Replays.{HaveMetFull, Held}
 use Rattle.pf_client.specs.Files.{HaveLast, IsKept, NamesFile}
+use Rattle.pf_client.specs.Going.{IsGoing}
 use Rattle.pf_client.specs.Queries.{AreReadAs, IsKeptFor}
+use Rattle.pf_client.specs.Sent.{WritesFront}
+use Rattle.pf_client.specs.declared.client.Client.{Client}
 use Rattle.pf_client.specs.declared.client.LineRun.{LineRun}
 use Rattle.pf_client.specs.declared.client.LineRun.TheVariants.{On, Full, Starved}
 use Rattle.pf_client.specs.declared.loaded.Loaded.{Loaded}
@@ -49,3 +53,20 @@ pub record IsReport (limits : Limits) (held : Held) (lines : List Numbered) (ful
   pub woven : Weave (record { limits = limits; names = names; files = held; readings = readings }) journal (lines ∷ []) rest
   pub met : HaveMetFull full rest.clients
   pub whole : text ≡ report (record { limits = limits; names = names; files = held; readings = readings }) journal (lines ∷ []) rest
+
+-- the same, whether its client met the full journal or not
+abbrev pub IsAnyReport : Limits → Held → List Numbered → (text : List ℕ) → Type 0
+IsAnyReport limits held lines text = (full : Bool) × IsReport limits held lines full text
+
+-- what a client that stopped has still to say: what it holds, the journal and the actors' failed tries
+abbrev pub left_text : Client → List ℕ
+left_text c = c.out.items ++ (journal_text c.core.names c.core.journal ++ actors_from 0 c.core.failed)
+
+-- a client broke off on its way, and of what it had said a front was written
+pub record BreaksOff (loaded : Loaded) (limits : Limits) (lines : List Numbered) (old new : Option (List ℕ)) : Type 0 where
+  pub n : ℕ
+  pub sent : List ℕ
+  pub client : Client
+  pub going : IsGoing loaded limits lines n sent client
+  pub stands : Stands client.core
+  pub front : WritesFront old new (sent ++ client.out.items)

@@ -1,5 +1,5 @@
 -- A client on its way through its script: this project's own.
-use Rattle.std.specs.Prelude.{◌≡◌, ℕ, ◌+◌, ◌≤◌, ◌⊎◌, Some, None, List, [], ◌∷◌, drop, length, slice_get, sum, take}
+use Rattle.std.specs.Prelude.{◌≡◌, ℕ, ◌+◌, ◌≤◌, ◌⊎◌, Some, None, List, [], ◌∷◌, ◌++◌, drop, length, slice_get, sum, take}
 use Rattle.pf_base.specs.declared.plain.Limits.{Limits}
 use Rattle.pf_core.specs.Cores.{CoreData, machine_of}
 use Rattle.pf_journal.specs.Legal.{Moment, moments}
@@ -44,48 +44,48 @@ hands_last hands (r ∷ rs) = hands_last (hands_after r.line.line r.told hands) 
 abbrev pub AreCounted : CoreData → List Told → Type 0
 AreCounted c told = (18446744073709551615 ≤ sum c.failed) ⊎ (failed_told told ≤ sum c.failed)
 
--- what was told of lines: all are woven, and their replies were said
-pub record HasTold (known : Known) (lines : List Numbered) (told : List Told) (why : Why) (c : Client) : Type 0 where
+-- what was told of lines: all are woven, and their replies were said: what was sent of them, and what the client holds
+pub record HasTold (known : Known) (lines : List Numbered) (told : List Told) (why : Why) (sent : List ℕ) (c : Client) : Type 0 where
   pub woven : Woven known (own_of c.core) lines (record { told = told; why = why })
-  pub said : c.out.items ≡ client_text known (own_of c.core) 0 lines (record { told = told; why = why })
+  pub said : sent ++ c.out.items ≡ client_text known (own_of c.core) 0 lines (record { told = told; why = why })
   pub alone : Each (λ e. e.client ≡ 0) c.core.journal
   pub tried : AreCounted c.core told
 
 -- a client ran so many lines, and none stopped it
-pub record Going (known : Known) (limits : Limits) (lines : List Numbered) (n : ℕ) (c : Client) : Type 0 where
+pub record Going (known : Known) (limits : Limits) (lines : List Numbered) (n : ℕ) (sent : List ℕ) (c : Client) : Type 0 where
   pub limited : c.core.limits ≡ limits
   pub told : List Told
   pub many : length told ≡ n
-  pub has_told : HasTold known lines told at_end c
+  pub has_told : HasTold known lines told at_end sent c
   pub goes : Each (λ r. stops_at r.line.line r.told ≡ None) (ran_lines lines told)
   pub slots : HaveSlots known (last_first [] (ran_lines lines told)) (own_of c.core) (machine_of c.core).count (take n lines) c.slots
   pub kept : AreKept c.core c.slots
   pub hands : HaveHands c (hands_last [] (ran_lines lines told))
 
 -- a client ran its lines, and stopped
-pub record HasRun (known : Known) (limits : Limits) (lines : List Numbered) (why : Why) (c : Client) : Type 0 where
+pub record HasRun (known : Known) (limits : Limits) (lines : List Numbered) (why : Why) (sent : List ℕ) (c : Client) : Type 0 where
   pub limited : c.core.limits ≡ limits
   pub told : List Told
-  pub has_told : HasTold known lines told why c
+  pub has_told : HasTold known lines told why sent c
   pub runs : RunsTo known.limits c.core.journal 0 why (drop (length told) lines) (ran_lines lines told)
 
 -- the same, wherever what files hold is told and whatever names stand behind those of the core
-abbrev pub IsGoing : Loaded → Limits → List Numbered → ℕ → Client → Type 0
-IsGoing loaded limits lines n c = (known : Known) → IsTold known loaded → IsKnown known c.core → Going known limits lines n c
+abbrev pub IsGoing : Loaded → Limits → List Numbered → ℕ → (sent : List ℕ) → Client → Type 0
+IsGoing loaded limits lines n sent c = (known : Known) → IsTold known loaded → IsKnown known c.core → Going known limits lines n sent c
 
-abbrev pub HasStopped : Loaded → Limits → List Numbered → Why → Client → Type 0
-HasStopped loaded limits lines why c = (known : Known) → IsTold known loaded → IsKnown known c.core → HasRun known limits lines why c
+abbrev pub HasStopped : Loaded → Limits → List Numbered → Why → (sent : List ℕ) → Client → Type 0
+HasStopped loaded limits lines why sent c = (known : Known) → IsTold known loaded → IsKnown known c.core → HasRun known limits lines why sent c
 
 -- a further line was run, or met the full journal, or lacked memory
-abbrev pub Goes : Loaded → Limits → List Numbered → ℕ → LineRun → Client → Type 0
-Goes loaded limits lines n On new = IsGoing loaded limits lines (n + 1) new
-Goes loaded limits lines n Full new = HasStopped loaded limits lines at_full new
-Goes loaded limits lines n Starved new = HasStopped loaded limits lines at_memory new
+abbrev pub Goes : Loaded → Limits → List Numbered → ℕ → (sent : List ℕ) → LineRun → Client → Type 0
+Goes loaded limits lines n sent On new = IsGoing loaded limits lines (n + 1) sent new
+Goes loaded limits lines n sent Full new = HasStopped loaded limits lines at_full sent new
+Goes loaded limits lines n sent Starved new = HasStopped loaded limits lines at_memory sent new
 
 abbrev pub GoesOn : Loaded → Client → Numbered → LineRun → Client → Type 0
 GoesOn loaded old l run new =
-    (limits : Limits) (lines : List Numbered) (n : ℕ) → slice_get lines n ≡ Some l → Follows (take n lines) l → IsGoing loaded limits lines n old
-    → Goes loaded limits lines n run new
+    (limits : Limits) (lines : List Numbered) (n : ℕ) (sent : List ℕ) → slice_get lines n ≡ Some l → Follows (take n lines) l
+    → IsGoing loaded limits lines n sent old → Goes loaded limits lines n sent run new
 
 -- the same with what is left of what was loaded first
 abbrev pub GoesOnWith : (left : Loaded) → Client → Numbered → LineRun → Client → Type 0

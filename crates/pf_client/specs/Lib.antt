@@ -6,5 +6,7 @@ pub mod Going
 pub mod Hands
 pub mod Queries
 pub mod Replays
+pub mod Sent
 pub mod Summaries
 pub mod Tallies
+pub mod Written

@@ -33,8 +33,8 @@ IsCounted loaded t c = (known : Known) → IsTold known loaded → IsKnown known
 -- a further line of a client that was going made the one tally the other, with what is left of what was loaded first
 abbrev pub Counts : (left : Loaded) → Client → Numbered → Tally → Client → Tally → Type 0
 Counts left old l before new after =
-    (loaded : Loaded) → IsPart loaded left → (limits : Limits) (lines : List Numbered) (n : ℕ) → slice_get lines n ≡ Some l
-    → Follows (take n lines) l → IsGoing loaded limits lines n old → IsCounted loaded before old → IsCounted loaded after new
+    (loaded : Loaded) → IsPart loaded left → (limits : Limits) (lines : List Numbered) (n : ℕ) (sent : List ℕ) → slice_get lines n ≡ Some l
+    → Follows (take n lines) l → IsGoing loaded limits lines n sent old → IsCounted loaded before old → IsCounted loaded after new
 
 -- a line that answers nothing leaves what was counted
 abbrev pub AnswersNothing : Line → Type 0

@@ -51,7 +51,7 @@ use std::alloc::Global;
 use std::sync::Arc;
 
 /// A client: the core that it works on, whether its script has step lines, what became of its asks by line, the job that each of
-/// 16 workers has in its hand, and its part of the report so far.
+/// 16 workers has in its hand, and what it holds of its part of the report.
 #[derive(Drop)]
 pub struct Client {
     pub alloc: Global,

@@ -1,25 +1,29 @@
 //! The run of a script.
 
-ghost use Rattle.std.specs.Prelude.{◌≡◌, ◌≤◌, ◌++◌, ℕ, IfOk, List, None, length, replicate};
+ghost use Rattle.std.specs.Prelude.{◌≡◌, ◌≢◌, ◌≤◌, ℕ, Err, IfOk, List, None, OnErr, OnOk, [], length, replicate};
 ghost use Rattle.pf_base.specs.declared.plain.Limits.{Limits as LimitsData};
 ghost use Rattle.pf_core.specs.Cores.{AreLimits, Stands};
-ghost use Rattle.pf_journal.specs.Report.{actors_from, journal_text};
+ghost use Rattle.pf_io.specs.Outside.{Grows, Rose};
 ghost use Rattle.pf_journal.specs.Scripts.{Numbered};
 ghost use Rattle.pf_journal.specs.Summaries.{nothing_counted};
 ghost use Rattle.pf_script.specs.Lines.{lines_of};
-ghost use Rattle.pf_client.specs.Drives.{CanRun, IsReport, is_full, why_of};
+ghost use Rattle.pf_client.specs.Drives.{BreaksOff, CanRun, IsAnyReport, IsReport, is_full, left_text, why_of};
 ghost use Rattle.pf_client.specs.Files.{AreHeld};
 ghost use Rattle.pf_client.specs.Going.{HasStopped, IsGoing};
 ghost use Rattle.pf_client.specs.Hands.{HoldsJobs};
 ghost use Rattle.pf_client.specs.Tallies.{IsCounted};
+ghost use Rattle.pf_client.specs.Sent.{WritesFront, WritesTo};
+ghost use Rattle.pf_client.specs.Written.{Begins, Writes, WritesPart};
 ghost use Rattle.pf_client.specs.declared.loaded.Loaded.{Loaded as LoadedData};
+ghost use Rattle.pf_client.specs.declared.pieces.ReportError.{ReportError};
 
 use crate::client::{Client, LineRun};
-use crate::journal::push_journal;
+use crate::journal::write_journal;
 use crate::loaded::Loaded;
+use crate::pieces::{ReportError, hand_on, write_held};
 use pf_base::{Limits, OutOfMemory};
 use pf_core::Core;
-use pf_io::{Gate, Hop};
+use pf_io::{Gate, Hop, Sink};
 use pf_query::Held;
 use pf_report::{push_actors, push_client};
 use pf_script::Script;
@@ -40,7 +44,7 @@ fn no_hands(alloc: Global) -> Result<Vec<Option<Held>>, OutOfMemory>
 /// A client that has run no line of a script that has step lines, or has none.
 pub(crate) fn client_of(alloc: Global, limits: Limits, stepped: bool) -> Result<Client, OutOfMemory>
     requires limits { AreLimits limits }
-    ensures going { IfOk result (λ c. (loaded : LoadedData) (lines : List Numbered) → IsGoing loaded limits lines 0 c) }
+    ensures going { IfOk result (λ c. (loaded : LoadedData) (lines : List Numbered) → IsGoing loaded limits lines 0 [] c) }
     ensures holds { IfOk result HoldsJobs }
     ensures counted { IfOk result (λ c. (loaded : LoadedData) → IsCounted loaded nothing_counted c) }
 {
@@ -58,21 +62,29 @@ pub(crate) fn client_of(alloc: Global, limits: Limits, stepped: bool) -> Result<
     })
 }
 
-/// Runs the lines of a script, up to the one that stops the client: how the last line ran. Each file is let go behind the
-/// last line that names it.
-fn run_lines<H: Hop, G: Gate>(
+/// Runs the lines of a script, up to the one that stops the client, and writes what it says in pieces: how the last line ran.
+/// Each file is let go behind the last line that names it.
+fn run_lines<O: Sink, H: Hop, G: Gate>(
     client: &mut Client,
     script: &Script,
     loaded: &mut Loaded,
     hops: &mut [H],
     gate: &G,
-) -> Result<LineRun, OutOfMemory>
+    out: &mut O,
+) -> Result<LineRun, ReportError>
     requires can_run { CanRun script.now 0 loaded.old }
     requires actors { length hops.old ≡ 32 }
     requires holds { HoldsJobs client.old }
-    ensures { IfOk result (λ r. (limits : LimitsData) → IsGoing loaded.old limits (lines_of script.now) 0 client.old → HasStopped loaded.old limits (lines_of script.now) (why_of r) client.new) }
+    ensures stopped { IfOk result (λ r. (limits : LimitsData) → IsGoing loaded.old limits (lines_of script.now) 0 [] client.old
+        → (sent : List ℕ) × (Grows (O.told out.old) (O.told out.new) sent × HasStopped loaded.old limits (lines_of script.now) (why_of r) sent client.new)) }
+    ensures broken { OnErr result ((limits : LimitsData) → IsGoing loaded.old limits (lines_of script.now) 0 [] client.old
+        → BreaksOff loaded.old limits (lines_of script.now) (O.told out.old) (O.told out.new)) }
+    ensures fault { result ≡ Err ReportError.WriteFault → Rose (O.faults out.old) (O.faults out.new) }
+    ensures steady { result ≢ Err ReportError.WriteFault → O.faults out.new ≡ O.faults out.old }
 {
     for line in &script.lines {
+        let _entries = client.core.journal();
+        hand_on(&mut client.out, out)?;
         match client.run_line(loaded, line, hops, gate)? {
             LineRun::On => {}
             LineRun::Full => return Ok(LineRun::Full),
@@ -92,13 +104,6 @@ fn is_full(stopped: LineRun) -> bool
     }
 }
 
-/// What a run prints, and whether the client met the full journal.
-#[derive(Drop)]
-pub struct Report {
-    pub text: Vec<u8>,
-    pub full: bool,
-}
-
 /// The failed tries of each of the 32 actors.
 fn failures(alloc: Global, core: &Core) -> Result<Vec<u64>, OutOfMemory>
     ensures { IfOk result (λ failed. Stands core.now → failed.items ≡ core.now.failed) }
@@ -110,42 +115,50 @@ fn failures(alloc: Global, core: &Core) -> Result<Vec<u64>, OutOfMemory>
     Ok(failed)
 }
 
-/// The report of a client that stopped.
-fn report_of(client: Client) -> Result<Vec<u8>, OutOfMemory>
-    ensures text { IfOk result (λ t. Stands client.core → t.items ≡ client.out.items ++ (journal_text client.core.names client.core.journal ++ actors_from 0 client.core.failed)) }
-    ensures stands { IfOk result (λ _. Stands client.core) }
+/// Writes what a client that stopped has still to say.
+fn write_rest<O: Sink>(client: Client, out: &mut O) -> Result<(), ReportError>
+    ensures stands { Stands client.core }
+    ensures written { OnOk result (WritesTo (O.told out.old) (O.told out.new) (left_text client) []) }
+    ensures begun { OnErr result (WritesFront (O.told out.old) (O.told out.new) (left_text client)) }
+    ensures fault { result ≡ Err ReportError.WriteFault → Rose (O.faults out.old) (O.faults out.new) }
+    ensures steady { result ≢ Err ReportError.WriteFault → O.faults out.new ≡ O.faults out.old }
 {
     let Client {
         alloc,
         core,
-        mut out,
+        out: mut held,
         ..
     } = client;
-    push_journal(&mut out, &core)?;
     let _entries = core.journal();
+    write_journal(&mut held, &core, out)?;
     let failed = failures(alloc, &core)?;
-    push_actors(&mut out, &failed)?;
-    Ok(out)
+    push_actors(&mut held, &failed)?;
+    write_held(held.as_slice(), out)
 }
 
-/// Runs a script over what the files that it names hold: the report.
-pub fn run_script<H: Hop, G: Gate>(
+/// Runs a script over what the files that it names hold, and writes the report as it runs, in pieces: whether the client met
+/// the full journal. After an `Err` a front of a report was written, or nothing.
+pub fn run_script<O: Sink, H: Hop, G: Gate>(
     alloc: Global,
     limits: Limits,
     script: &Script,
     mut loaded: Loaded,
     hops: &mut [H],
     gate: &G,
-) -> Result<Report, OutOfMemory>
+    out: &mut O,
+) -> Result<bool, ReportError>
     requires limits { AreLimits limits }
     requires actors { length hops.old ≡ 32 }
     requires can_run { CanRun script.now 0 loaded }
-    ensures { IfOk result (λ r. (held : List ℕ → List ℕ) → AreHeld held loaded.files → IsReport limits held (lines_of script.now) r.full r.text.items) }
+    ensures written { IfOk result (λ full. (held : List ℕ → List ℕ) → AreHeld held loaded.files → Writes (IsReport limits held (lines_of script.now) full) (O.told out.old) (O.told out.new)) }
+    ensures begun { result ≡ Err ReportError.OutOfMemory → (held : List ℕ → List ℕ) → AreHeld held loaded.files → Begins (IsAnyReport limits held (lines_of script.now)) (O.told out.old) (O.told out.new) }
+    ensures broken { result ≡ Err ReportError.WriteFault → (held : List ℕ → List ℕ) → AreHeld held loaded.files → WritesPart (IsAnyReport limits held (lines_of script.now)) (O.told out.old) (O.told out.new) }
+    ensures fault { result ≡ Err ReportError.WriteFault → Rose (O.faults out.old) (O.faults out.new) }
+    ensures steady { result ≢ Err ReportError.WriteFault → O.faults out.new ≡ O.faults out.old }
 {
     let _lines = script.lines.len();
     let mut client = client_of(alloc, limits, script.is_stepped())?;
-    let stopped = run_lines(&mut client, script, &mut loaded, hops, gate)?;
-    let full = is_full(stopped);
-    let text = report_of(client)?;
-    Ok(Report { text, full })
+    let stopped = run_lines(&mut client, script, &mut loaded, hops, gate, out)?;
+    write_rest(client, out)?;
+    Ok(is_full(stopped))
 }

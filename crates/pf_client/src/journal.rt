@@ -1,12 +1,17 @@
 //! The journal's part of the report.
 
-ghost use Rattle.std.specs.Prelude.{◌≡◌, ◌++◌, OnOk, map};
+ghost use Rattle.std.specs.Prelude.{◌≡◌, ◌≢◌, ◌++◌, Err, OnErr, OnOk, map};
 ghost use Rattle.pf_journal.specs.Report.{entries_from, entry_text, journal_text, name_of, what_words};
 ghost use Rattle.pf_core.specs.Entries.{entry_of, what_of};
 ghost use Rattle.pf_report.specs.Entries.{entry_words};
+ghost use Rattle.pf_io.specs.Outside.{Rose};
+ghost use Rattle.pf_client.specs.Sent.{WritesFront, WritesTo};
+ghost use Rattle.pf_client.specs.declared.pieces.ReportError.{ReportError};
 
+use crate::pieces::{ReportError, hand_on};
 use pf_base::{OutOfMemory, Tenant};
 use pf_core::{Core, Entry, What};
+use pf_io::Sink;
 use pf_report::{EntryWords, push_entry, push_journal_head};
 
 /// The name of a tenant's number.
@@ -84,24 +89,39 @@ fn push_one(
     push_entry(out, place, entry.by, &words)
 }
 
-/// Appends the lines of entries, the first of which stands at place 0.
-fn push_entries(out: &mut Vec<u8>, names: &[Tenant], entries: &[Entry]) -> Result<(), OutOfMemory>
-    ensures { OnOk result (out.new.items ≡ out.old.items ++ entries_from names.now 0 (map entry_of entries.now)) }
+/// Adds the lines of entries, the first of which stands at place 0, to what is held, and writes it in pieces.
+fn write_entries<O: Sink>(
+    held: &mut Vec<u8>,
+    names: &[Tenant],
+    entries: &[Entry],
+    out: &mut O,
+) -> Result<(), ReportError>
+    ensures written { OnOk result (WritesTo (O.told out.old) (O.told out.new) (held.old.items ++ entries_from names.now 0 (map entry_of entries.now)) held.new.items) }
+    ensures begun { OnErr result (WritesFront (O.told out.old) (O.told out.new) (held.old.items ++ entries_from names.now 0 (map entry_of entries.now))) }
+    ensures fault { result ≡ Err ReportError.WriteFault → Rose (O.faults out.old) (O.faults out.new) }
+    ensures steady { result ≢ Err ReportError.WriteFault → O.faults out.new ≡ O.faults out.old }
 {
     let mut place = 0;
     for entry in entries {
-        push_one(out, names, place, entry)?;
+        push_one(held, names, place, entry)?;
+        hand_on(held, out)?;
         place += 1;
     }
     Ok(())
 }
 
-/// Appends the journal's part of the report.
-pub fn push_journal(out: &mut Vec<u8>, core: &Core) -> Result<(), OutOfMemory>
-    ensures { OnOk result (out.new.items ≡ out.old.items ++ journal_text core.now.names core.now.journal) }
+/// Adds the journal's part of the report to what is held, and writes it in pieces.
+pub(crate) fn write_journal<O: Sink>(
+    held: &mut Vec<u8>,
+    core: &Core,
+    out: &mut O,
+) -> Result<(), ReportError>
+    ensures written { OnOk result (WritesTo (O.told out.old) (O.told out.new) (held.old.items ++ journal_text core.now.names core.now.journal) held.new.items) }
+    ensures begun { OnErr result (WritesFront (O.told out.old) (O.told out.new) (held.old.items ++ journal_text core.now.names core.now.journal)) }
+    ensures fault { result ≡ Err ReportError.WriteFault → Rose (O.faults out.old) (O.faults out.new) }
+    ensures steady { result ≢ Err ReportError.WriteFault → O.faults out.new ≡ O.faults out.old }
 {
     let entries = core.journal();
-    push_journal_head(out, entries.len() as u64)?;
-    push_entries(out, core.names(), entries)?;
-    Ok(())
+    push_journal_head(held, entries.len() as u64)?;
+    write_entries(held, core.names(), entries, out)
 }

@@ -1,6 +1,6 @@
 //! The run of a session, whose answers are counted.
 
-ghost use Rattle.std.specs.Prelude.{◌≡◌, ℕ, IfOk, List, OnOk, count_by, length};
+ghost use Rattle.std.specs.Prelude.{◌≡◌, ℕ, IfOk, List, OnOk, [], count_by, length};
 ghost use Rattle.pf_base.specs.declared.plain.Limits.{Limits as LimitsData};
 ghost use Rattle.pf_core.specs.Cores.{AreLimits};
 ghost use Rattle.pf_journal.specs.Summaries.{asks, is_ask, nothing_counted};
@@ -69,8 +69,8 @@ struct Ended {
     tally: Tally,
 }
 
-/// Runs the lines of a session's script, up to the one that meets the full journal, and counts the answers. A line that lacks
-/// memory for its samples or its deletion ends the run with that error.
+/// Runs the lines of a session's script, up to the one that meets the full journal, and counts the answers. What the client says
+/// is not kept. A line that lacks memory for its samples or its deletion ends the run with that error.
 fn run_lines_counted<H: Hop, G: Gate>(
     client: &mut Client,
     script: &Script,
@@ -81,8 +81,8 @@ fn run_lines_counted<H: Hop, G: Gate>(
     requires can_run { CanRun script.now 0 loaded.old }
     requires actors { length hops.old ≡ 32 }
     requires holds { HoldsJobs client.old }
-    ensures { IfOk result (λ e. (limits : LimitsData) → IsGoing loaded.old limits (lines_of script.now) 0 client.old → IsCounted loaded.old nothing_counted client.old
-        → HasStopped loaded.old limits (lines_of script.now) (why_by e.full) client.new × IsCounted loaded.old e.tally client.new) }
+    ensures { IfOk result (λ e. (limits : LimitsData) → IsGoing loaded.old limits (lines_of script.now) 0 [] client.old → IsCounted loaded.old nothing_counted client.old
+        → ((sent : List ℕ) × HasStopped loaded.old limits (lines_of script.now) (why_by e.full) sent client.new) × IsCounted loaded.old e.tally client.new) }
 {
     let mut tally = Tally::nothing();
     for line in &script.lines {
@@ -91,6 +91,7 @@ fn run_lines_counted<H: Hop, G: Gate>(
             LineRun::Full => return Ok(Ended { full: true, tally }),
             LineRun::Starved => return Err(OutOfMemory),
         }
+        client.out.clear();
     }
     Ok(Ended { full: false, tally })
 }

@@ -1,5 +1,5 @@
 -- What the steps of a replay give is what a run may print.
-use Rattle.std.proofs.Common.{◌≡◌, ℕ, ◌<◌, ◌≤◌, inl, inr, Bool, true, false, cond, nat_le, Option, Some, None, Result, Ok, Err, List, [], ◌∷◌, refl, arith, sym, ap, ◌∙◌, append-nil, length, take, subst}
+use Rattle.std.proofs.Common.{◌≡◌, ℕ, ◌<◌, ◌≤◌, inl, inr, Bool, true, false, cond, nat_le, Option, Some, None, Result, Ok, Err, List, [], ◌∷◌, refl, arith, sym, ap, ◌∙◌, length, take, subst}
 use Rattle.std.specs.BTreeMap.{get_by_text}
 use Rattle.std.proofs.lemmas.Bool.Decides.{nat_tests}
 use Rattle.pf_base.specs.declared.plain.Limits.{Limits}
@@ -8,10 +8,10 @@ use Rattle.pf_model.specs.Exposition.{file_lines}
 use Rattle.pf_journal.specs.Scripts.{Numbered, lines_from, most_bytes, script_of}
 use Rattle.pf_script.specs.Lines.{AllFollow}
 use Rattle.pf_client.specs.Replays.{Agree, HasFailed, Held, Reaches, files_of}
-use Rattle.pf_top.specs.Correct.{AllRead, Correct, EndsWell, FilesSeen, IsOutput, Outside, Reported, needed, needed_by, script_files}
-use Rattle.pf_client.specs.Drives.{IsReport}
+use Rattle.pf_top.specs.Correct.{AllRead, Correct, EndsWell, FilesSeen, IsOutput, IsReported, Outside, Reported, needed, needed_by, script_files}
+use Rattle.pf_client.specs.Drives.{IsAnyReport, IsReport}
 use Rattle.pf_client.specs.Files.{AreHeld, AreLoaded, Contents, HasContent, IsKept, LetsGo, NamesFile, TellsContent}
-use Rattle.pf_top.specs.Outputs.{IsPrinted, IsReplay, IsRun, IsScriptOutput, IsWordsOutput}
+use Rattle.pf_top.specs.Outputs.{IsPrinted, IsReplay, IsReplayReport, IsReportOutput, IsRun, IsScriptOutput, IsWordsOutput, Prints}
 use Rattle.pf_top.specs.Refusals.{refused_read, refused_script}
 use Rattle.pf_top.specs.Words.{Replay, evaluation_words, limits_with, replay_words}
 use Rattle.std.specs.declared.vec.Vec.{Vec}
@@ -22,6 +22,36 @@ use Rattle.pf_client.proofs.Holding.{holding, holding_bytes, holding_none, holdi
 use Rattle.pf_client.proofs.Gone.{left_held, left_there}
 use Rattle.pf_client.proofs.Lines.{all_first, last_behind}
 use Rattle.pf_client.proofs.Texts.{each_file, failed_since, read_there}
+use Rattle.pf_client.proofs.Writing.{part_written, writes_all, writes_front, writes_none, writes_then}
+use Rattle.pf_client.specs.Sent.{WritesTo}
+use Rattle.pf_client.specs.Written.{Begins, Writes, WritesPart}
+use Rattle.pf_io.proofs.Growing.{grows_more}
+use Rattle.pf_model.specs.Lists.{Each}
+
+-- ---- what is written
+
+-- all is left of what nothing was written of
+pub prints_whole : (IsText : List ℕ → Type 0) (told : Option (List ℕ)) (text : List ℕ) → IsText text → Prints IsText told told text
+prints_whole IsText told text is = (text, (is, writes_none told text))
+
+pub prints_map : (P Q : List ℕ → Type 0) (old new : Option (List ℕ)) (left : List ℕ) → ((text : List ℕ) → P text → Q text) → Prints P old new left → Prints Q old new left
+prints_map P Q old new left f p = (p.0, (f p.0 p.1.0, p.1.1))
+
+pub part_map : (P Q : List ℕ → Type 0) (old new : Option (List ℕ)) → ((text : List ℕ) → P text → Q text) → WritesPart P old new → WritesPart Q old new
+part_map P Q old new f p = (p.0, (f p.0 p.1.0, p.1.1))
+
+pub begins_map : (P Q : List ℕ → Type 0) (old new : Option (List ℕ)) → ((text : List ℕ) → P text → Q text) → Begins P old new → Begins Q old new
+begins_map P Q old new f (inl none) = inl none
+begins_map P Q old new f (inr p) = inr (part_map P Q old new f p)
+
+-- what was left was written, or a front of it
+pub whole_on : (a b c : Option (List ℕ)) (text left : List ℕ) → WritesTo a b text left → Grows b c left → Grows a c text
+whole_on a b c text left w g = subst (Grows a c) (sym w.whole) (grows_more a b c w.sent left w.grown g)
+
+pub front_on : (a b c : Option (List ℕ)) (text left : List ℕ) → WritesTo a b text left → (n : ℕ) × (n ≤ length left) × Grows b c (take n left) → (n : ℕ) × Grows a c (take n text)
+front_on a b c text left w f =
+    let g = writes_front b c left f in
+    part_written a c text g.0 (writes_then a b c text left g.0 w g.1)
 
 -- ---- once the script is read
 
@@ -31,24 +61,34 @@ script_held : (held : Held) (kept : Contents) (script : List ℕ) (bytes : Vec �
 script_held held kept script bytes h has = (h script (record { content = Bytes bytes; last = has.last }) has.there).0
 
 -- what a run gives, over one reading of each file
-pub replayed : (limits : Limits) (files : FilesSeen) (script : List ℕ) (bytes : Vec ℕ Global) (lines : List Numbered) (first kept left : Contents) (status : ℕ) (text : List ℕ)
-    → AreLoaded files.told files.lost first lines kept → get_by_text first script ≡ Some (record { content = Bytes bytes; last = 0 }) → files.after ≡ files.before
-    → LetsGo kept script 0 left → ((held : Held) → AreHeld held left → IsRun limits held lines status text)
-    → IsReplay limits files script bytes.items lines status text
-replayed limits files script bytes lines first kept left status text loaded at_hand steady go run =
-    let h = holding files.told kept loaded.held in
-    record {
-      held = h.0;
-      agree = h.1.0;
-      same = script_held h.0 kept script bytes h.1.1 (loaded.still script (record { content = Bytes bytes; last = 0 }) at_hand);
-      output = inl (
-        record {
-          there = each_file (λ name. files.lost name ≡ false) lines (read_there files.told files.lost first kept lines loaded);
-          steady = steady;
-        },
-        run h.0 (left_held h.0 kept script 0 left go h.1.1),
-      );
-    }
+module _ (limits : Limits) (files : FilesSeen) (script : List ℕ) (bytes : Vec ℕ Global) (lines : List Numbered) (first kept left : Contents) (old new : Option (List ℕ))
+    (loaded : AreLoaded files.told files.lost first lines kept) (at_hand : get_by_text first script ≡ Some (record { content = Bytes bytes; last = 0 })) (steady : files.after ≡ files.before)
+    (go : LetsGo kept script 0 left) where
+  reading : (held : Held) × (Agree files.told held × AreHeld held kept)
+  reading = holding files.told kept loaded.held
+
+  same : reading.0 script ≡ bytes.items
+  same = script_held reading.0 kept script bytes reading.1.1 (loaded.still script (record { content = Bytes bytes; last = 0 }) at_hand)
+
+  all : AllRead files (files_of lines)
+  all = record { there = each_file (λ name. files.lost name ≡ false) lines (read_there files.told files.lost first kept lines loaded); steady = steady }
+
+  are_held : AreHeld reading.0 left
+  are_held = left_held reading.0 kept script 0 left go reading.1.1
+
+  pub replayed : (status : ℕ) (rest : List ℕ) → ((held : Held) → AreHeld held left → Prints (IsRun limits held lines status) old new rest)
+      → Prints (IsReplay limits files script bytes.items lines status) old new rest
+  replayed status rest run = prints_map (IsRun limits reading.0 lines status) (IsReplay limits files script bytes.items lines status) old new rest
+      (λ text r. record { held = reading.0; agree = reading.1.0; same = same; output = inl (all, r) }) (run reading.0 are_held)
+
+  begun_text : (text : List ℕ) → IsAnyReport limits reading.0 lines text → IsReplayReport limits files script bytes.items lines text
+  begun_text text r = record { held = reading.0; agree = reading.1.0; same = same; all = all; begun = r }
+
+  pub replay_begun : ((held : Held) → AreHeld held left → Begins (IsAnyReport limits held lines) old new) → Begins (IsReplayReport limits files script bytes.items lines) old new
+  replay_begun run = begins_map (IsAnyReport limits reading.0 lines) (IsReplayReport limits files script bytes.items lines) old new begun_text (run reading.0 are_held)
+
+  pub replay_broken : ((held : Held) → AreHeld held left → WritesPart (IsAnyReport limits held lines) old new) → WritesPart (IsReplayReport limits files script bytes.items lines) old new
+  replay_broken run = part_map (IsAnyReport limits reading.0 lines) (IsReplayReport limits files script bytes.items lines) old new begun_text (run reading.0 are_held)
 
 -- the files that lines name are left where the script is let go
 pub left_files : (told : List ℕ → Option (List ℕ)) (lost : List ℕ → Bool) (first : Contents) (lines : List Numbered) (kept : Contents) (script : List ℕ) (left : Contents)
@@ -67,10 +107,15 @@ replay_failed limits files script bytes name given lines status text holds reach
     record { held = h.0; agree = h.1.0; same = h.1.1; output = inr (p.0, (name, (reached, (fault, p.1 ∙ ap refused_read e)))) }
 
 -- what a run gives, once the script and the files are read, by its report
-pub run_ended : (limits : Limits) (held : Held) (lines : List Numbered) (full : Bool) (status : ℕ) (text : List ℕ)
+run_ended : (limits : Limits) (held : Held) (lines : List Numbered) (full : Bool) (status : ℕ) (text : List ℕ)
     → status ≡ cond full 8 0 → IsReport limits held lines full text → IsRun limits held lines status text
 run_ended limits held lines false status text is r = inl (is, r)
 run_ended limits held lines true status text is r = inr (is, r)
+
+pub run_printed : (limits : Limits) (held : Held) (lines : List Numbered) (full : Bool) (status : ℕ) (rest : List ℕ) (old new : Option (List ℕ))
+    → status ≡ cond full 8 0 → rest ≡ [] → Writes (IsReport limits held lines full) old new → Prints (IsRun limits held lines status) old new rest
+run_printed limits held lines full status rest old new is none w =
+    (w.0, (run_ended limits held lines full status w.0 is w.1.0, subst (WritesTo old new w.0) (sym none) (writes_all old new w.0 w.1.1)))
 
 -- ---- by the words
 
@@ -109,6 +154,11 @@ module _ (held : Held) (words : List (List ℕ)) (replay : Replay) (is : replay_
     met = r.met;
     whole = r.whole;
   }
+
+  begun_by : (limits : Limits) (files : FilesSeen) (lines : List Numbered) (text : List ℕ)
+      → script_of true (held replay.script) ≡ Ok lines → AllRead files (needed held words)
+      → IsAnyReport (limits_with limits replay) held lines text → IsReported limits files held words text
+  begun_by limits files lines text read a (full, r) = (full, reported_by limits files lines full text read a r)
 
   -- what comes once the script is read is what comes by the words
   module _ (limits : Limits) (files : FilesSeen) (lines : List Numbered) (status : ℕ) (text : List ℕ)
@@ -185,6 +235,27 @@ words_output limits chosen old resure relost again middle words replay bytes giv
           (subst (λ (l : Limits). IsScriptOutput l old r.held lines status text) by_words (seen_since chosen old resure middle r.held lines status text sure m r.output));
     }
 
+pub begun_output : (limits chosen : Limits) (old : FilesSeen) (resure relost : List ℕ → Bool) (again : List ℕ → Option (List ℕ)) (middle : ℕ) (words : List (List ℕ)) (replay : Replay) (bytes given : List ℕ) (lines : List Numbered) (text : List ℕ)
+    → replay_words words ≡ Some replay → chosen ≡ limits_with limits replay → given ≡ bytes → script_of true given ≡ Ok lines → old.lost replay.script ≡ false
+    → ((other : List ℕ) → again other ≡ old.told other) → ((other : List ℕ) → relost other ≡ old.lost other) → middle ≡ old.before
+    → IsReplayReport chosen (record { told = again; sure = resure; lost = relost; before = middle; after = old.after; failed = old.failed }) replay.script bytes lines text
+    → IsReportOutput limits old words text
+begun_output limits chosen old resure relost again middle words replay bytes given lines text word by_words e read found told lost m r =
+    let all_told : again ≡ old.told = λ i other. told other i in
+    let all_lost : relost ≡ old.lost = λ i other. lost other i in
+    let is_read : script_of true (r.held replay.script) ≡ Ok lines = ap (script_of true) (r.same ∙ sym e) ∙ read in
+    let all : AllRead old (files_of lines) = record {
+      there = subst (λ (l : List ℕ → Bool). Each (λ name. l name ≡ false) (files_of lines)) all_lost r.all.there;
+      steady = r.all.steady ∙ m;
+    } in
+    record {
+      held = r.held;
+      agree = subst (λ (t : List ℕ → Option (List ℕ)). Agree t r.held) all_told r.agree;
+      begun = begun_by r.held words replay word limits old lines text is_read
+          (all_read r.held words replay word old (files_of lines) (needed_lines r.held words replay word lines is_read) found all)
+          (subst (λ (l : Limits). IsAnyReport l r.held lines text) by_words r.begun);
+    }
+
 -- a script that is refused
 pub refused_output : (limits : Limits) (files : FilesSeen) (words : List (List ℕ)) (replay : Replay) (bytes given : List ℕ) (line printed status : ℕ) (text : List ℕ)
     → replay_words words ≡ Some replay → Holds (files.told replay.script) bytes → given ≡ bytes → script_of true given ≡ Err line
@@ -241,35 +312,34 @@ bytes_told told content bytes is h = subst (TellsContent told) is h
 
 -- ---- the claim
 
--- nothing more was written
-grows_none : (told : Option (List ℕ)) → Grows told told []
-grows_none None = tt
-grows_none (Some bytes) = ap Some (sym (append-nil bytes))
-
 ends_otherwise : (status : ℕ) → (status ≡ 0 → ⊥) → (status ≡ 3 → ⊥) → (status ≡ 8 → ⊥) → (status ≡ 9 → ⊥) → EndsWell status → ⊥
 ends_otherwise status a b c d (inl e) = a e
 ends_otherwise status a b c d (inr (inl e)) = b e
 ends_otherwise status a b c d (inr (inr (inl e))) = c e
 ends_otherwise status a b c d (inr (inr (inr e))) = d e
 
--- memory ran out before anything was written
-pub starved_run : (limits : Limits) (o : Outside) (words : List (List ℕ)) → o.new ≡ o.old → o.out_after ≡ o.out_before → Correct limits o words 6
-starved_run limits o words same out_steady =
-    let h = holding_none o.files.told in
-    record {
-      held = h.0;
-      agree = h.1;
-      ended = λ e. absurd (omega (arith, e));
-      refused = λ e. absurd (omega (arith, e));
-      unread = λ e. absurd (omega (arith, e));
-      unwritten = λ e. absurd (omega (arith, e));
-      starved = λ _. subst (λ (t : Option (List ℕ)). Grows o.old t []) (sym same) (grows_none o.old);
-      filled = λ e. absurd (omega (arith, e));
-      unbuilt = λ e. absurd (omega (arith, e));
-      steady = λ e. absurd (ends_otherwise 6 (λ a. omega (arith, a)) (λ a. omega (arith, a)) (λ a. omega (arith, a)) (λ a. omega (arith, a)) e);
-      taken = λ _. out_steady;
-      known = inr (inr (inr (inr (inl refl))));
-    }
+-- memory ran out before anything was written, or behind a front of a report
+starved_by : (limits : Limits) (o : Outside) (words : List (List ℕ)) (held : Held) → Agree o.files.told held → Begins (IsReported limits o.files held words) o.old o.new
+    → o.out_after ≡ o.out_before → Correct limits o words 6
+starved_by limits o words held agree begun out_steady = record {
+  held = held;
+  agree = agree;
+  ended = λ e. absurd (omega (arith, e));
+  refused = λ e. absurd (omega (arith, e));
+  unread = λ e. absurd (omega (arith, e));
+  unwritten = λ e. absurd (omega (arith, e));
+  starved = λ _. begun;
+  filled = λ e. absurd (omega (arith, e));
+  unbuilt = λ e. absurd (omega (arith, e));
+  steady = λ e. absurd (ends_otherwise 6 (λ a. omega (arith, a)) (λ a. omega (arith, a)) (λ a. omega (arith, a)) (λ a. omega (arith, a)) e);
+  taken = λ _. out_steady;
+  known = inr (inr (inr (inr (inl refl))));
+}
+
+pub starved_run : (limits : Limits) (o : Outside) (words : List (List ℕ)) → Begins (IsReportOutput limits o.files words) o.old o.new → o.out_after ≡ o.out_before
+    → Correct limits o words 6
+starved_run limits o words (inl none) out_steady = let h = holding_none o.files.told in starved_by limits o words h.0 h.1 (inl none) out_steady
+starved_run limits o words (inr (text, (b, front))) out_steady = starved_by limits o words b.held b.agree (inr (text, (b.begun, front))) out_steady
 
 -- all was written
 module _ (limits : Limits) (o : Outside) (words : List (List ℕ)) (status : ℕ) (text : List ℕ) (held : Held) (agree : Agree o.files.told held)
@@ -366,26 +436,15 @@ may_print limits files held words status text (inr (inr (inr (inl p)))) = inr (i
 may_print limits files held words status text (inr (inr (inr (inr p)))) = inr (inr (inr (inl p.1)))
 
 -- a front was written
-pub unwritten_run : (limits : Limits) (o : Outside) (words : List (List ℕ)) (status : ℕ) (text given : List ℕ)
-    → IsWordsOutput limits o.files words status text → given ≡ text
-    → Rose o.out_before o.out_after → (n : ℕ) → Grows o.old o.new (take n given)
-    → Correct limits o words 5
-unwritten_run limits o words status text given output same rose n part = record {
-  held = output.held;
-  agree = output.agree;
+unwritten_by : (limits : Limits) (o : Outside) (words : List (List ℕ)) (held : Held) → Agree o.files.told held → Rose o.out_before o.out_after
+    → WritesPart (IsOutput limits o.files held words) o.old o.new → Correct limits o words 5
+unwritten_by limits o words held agree rose part = record {
+  held = held;
+  agree = agree;
   ended = λ e. absurd (omega (arith, e));
   refused = λ e. absurd (omega (arith, e));
   unread = λ e. absurd (omega (arith, e));
-  unwritten = λ _. (
-    rose,
-    (
-      text,
-      (
-        may_print limits o.files output.held words status text output.printed,
-        (n, subst (λ (t : List ℕ). Grows o.old o.new (take n t)) same part),
-      ),
-    ),
-  );
+  unwritten = λ _. (rose, part);
   starved = λ e. absurd (omega (arith, e));
   filled = λ e. absurd (omega (arith, e));
   unbuilt = λ e. absurd (omega (arith, e));
@@ -393,3 +452,13 @@ unwritten_run limits o words status text given output same rose n part = record 
   taken = λ d. absurd (d refl);
   known = inr (inr (inr (inl refl)));
 }
+
+pub unwritten_run : (limits : Limits) (o : Outside) (words : List (List ℕ)) (status : ℕ) (text : List ℕ)
+    → IsWordsOutput limits o.files words status text → Rose o.out_before o.out_after → (n : ℕ) × Grows o.old o.new (take n text) → Correct limits o words 5
+unwritten_run limits o words status text output rose front =
+    unwritten_by limits o words output.held output.agree rose (text, (may_print limits o.files output.held words status text output.printed, front))
+
+pub broken_run : (limits : Limits) (o : Outside) (words : List (List ℕ)) → WritesPart (IsReportOutput limits o.files words) o.old o.new → Rose o.out_before o.out_after
+    → Correct limits o words 5
+broken_run limits o words (text, (b, front)) rose =
+    unwritten_by limits o words b.held b.agree rose (text, (inl b.begun, front))

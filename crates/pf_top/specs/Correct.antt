@@ -4,7 +4,7 @@ use Rattle.pf_base.specs.Batches.{BatchData}
 use Rattle.pf_base.specs.Grids.{grid_of}
 use Rattle.pf_base.specs.declared.plain.Limits.{Limits}
 use Rattle.pf_gen.specs.Sessions.{session}
-use Rattle.pf_io.specs.Outside.{Rose, Grows}
+use Rattle.pf_io.specs.Outside.{Rose}
 use Rattle.pf_model.specs.Lists.{Each}
 use Rattle.pf_model.specs.Log.{batch_samples}
 use Rattle.pf_model.specs.Queries.{IsReading, Reading, Readings}
@@ -20,6 +20,7 @@ use Rattle.pf_journal.specs.Summaries.{asks, summary_text, tally_of}
 use Rattle.pf_journal.specs.Weave.{Weave}
 use Rattle.pf_client.specs.Replays.{Agree, HasFailed, HaveMetFull, Held, Reaches, files_of}
 use Rattle.pf_client.specs.Summaries.{HaveEnded}
+use Rattle.pf_client.specs.Written.{Begins, Writes, WritesPart}
 use Rattle.pf_top.specs.Pages.{page_in}
 use Rattle.pf_top.specs.Refusals.{refused_file, refused_not_built, refused_read, refused_script}
 use Rattle.pf_top.specs.Words.{Evaluation, Replay, evaluation_words, limits_with, load_words, replay_words}
@@ -91,6 +92,10 @@ pub record Reported (limits : Limits) (files : FilesSeen) (held : Held) (words :
   pub woven : Weave (record { limits = limits_with limits replay; names = names; files = held; readings = readings }) journal scripts rest
   pub met : HaveMetFull full rest.clients
   pub whole : text ≡ report (record { limits = limits_with limits replay; names = names; files = held; readings = readings }) journal scripts rest
+
+-- the same, whether a client met the full journal or not
+abbrev pub IsReported : Limits → FilesSeen → Held → List (List ℕ) → List ℕ → Type 0
+IsReported limits files held words text = (full : Bool) × Reported limits files held words full text
 
 -- text is what the evaluation of a query prints over the samples of one file
 pub record Evaluated (files : FilesSeen) (held : Held) (words : List (List ℕ)) (text : List ℕ) : Type 0 where
@@ -178,17 +183,10 @@ pub record Unbuilt (files : FilesSeen) (held : Held) (words : List (List ℕ)) (
 -- what a run may print
 abbrev pub IsOutput : Limits → FilesSeen → Held → List (List ℕ) → List ℕ → Type 0
 IsOutput limits files held words text =
-    ((full : Bool) × Reported limits files held words full text)
+    IsReported limits files held words text
     ⊎ (((full : Bool) × Summarized limits files held words full text)
     ⊎ (Evaluated files held words text
     ⊎ (Refused files held words text ⊎ (Unread files held words text ⊎ Unbuilt files held words text))))
-
--- a text of this kind was written whole, or a front of one
-abbrev pub Writes : (List ℕ → Type 0) → Option (List ℕ) → Option (List ℕ) → Type 0
-Writes IsText old new = (text : List ℕ) × (IsText text × Grows old new text)
-
-abbrev pub WritesPart : (List ℕ → Type 0) → Option (List ℕ) → Option (List ℕ) → Type 0
-WritesPart IsText old new = (text : List ℕ) × (IsText text × ((n : ℕ) × Grows old new (take n text)))
 
 -- ---- the claim
 
@@ -209,8 +207,8 @@ pub record Correct (limits : Limits) (o : Outside) (words : List (List ℕ)) (st
   pub unread : status ≡ 4 → Writes (Unread o.files held words) o.old o.new
   -- 5: the output's count of faults rose, behind a front of what was to be written
   pub unwritten : status ≡ 5 → Rose o.out_before o.out_after × WritesPart (IsOutput limits o.files held words) o.old o.new
-  -- 6: memory ran out, and nothing was written
-  pub starved : status ≡ 6 → Grows o.old o.new []
+  -- 6: memory ran out, and nothing was written, or a front of a report
+  pub starved : status ≡ 6 → Begins (IsReported limits o.files held words) o.old o.new
   -- 8: the report or the sums of a session were written, and a client met the full journal
   pub filled : status ≡ 8 → Writes (Filled limits o.files held words) o.old o.new
   -- 9: a form that is not built

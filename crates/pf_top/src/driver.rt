@@ -1,18 +1,21 @@
 //! The call that does all that the program does.
 
-ghost use Rattle.std.specs.Prelude.{◌≡◌, ◌≢◌, ◌≤◌, ℕ, List, [], IfOk, None, false, length, true, vec_len};
+ghost use Rattle.std.specs.Prelude.{◌≡◌, ◌≢◌, ◌≤◌, ℕ, Err, List, [], IfOk, None, false, length, true, vec_len};
 ghost use Rattle.pf_block.specs.Snaps.{are_timed};
 ghost use Rattle.pf_core.specs.Cores.{AreLimits};
 ghost use Rattle.pf_model.specs.Lists.{Each};
 ghost use Rattle.pf_script.specs.Lines.{AllFollow, IsRead, lines_of};
+ghost use Rattle.pf_client.specs.Drives.{IsAnyReport};
 ghost use Rattle.pf_client.specs.Replays.{Held};
+ghost use Rattle.pf_client.specs.Written.{Begins, WritesPart};
+ghost use Rattle.pf_client.specs.declared.pieces.ReportError.{ReportError};
 ghost use Rattle.pf_top.specs.Correct.{Correct, FilesSeen, Outside};
-ghost use Rattle.pf_io.specs.Outside.{Holds};
+ghost use Rattle.pf_io.specs.Outside.{Holds, Rose};
 ghost use Rattle.pf_journal.specs.Scripts.{most_bytes};
 ghost use Rattle.pf_report.specs.Replies.{fault_of};
 ghost use Rattle.pf_top.specs.Evaluations.{IsBatchOutput, IsFileOutput, IsNamedOutput, evaluation_in};
 ghost use Rattle.pf_client.specs.Files.{AreHeld, HaveLast, HoldsContent, IsKept, IsShort, NamesFile};
-ghost use Rattle.pf_top.specs.Outputs.{IsReplay, IsRun, IsWordsOutput, default_limits};
+ghost use Rattle.pf_top.specs.Outputs.{IsReplay, IsReplayReport, IsReportOutput, IsRun, IsWordsOutput, Prints, default_limits};
 ghost use Rattle.pf_top.specs.Refusals.{refused_file, refused_line, refused_not_built, refused_read, refused_script};
 ghost use Rattle.pf_top.specs.Words.{evaluation_words, replay_words};
 
@@ -21,8 +24,8 @@ use crate::session::run_seed;
 use crate::words::{Evaluation, evaluation_words, limits_with, load_words, replay_words};
 use pf_base::{Batch, Limits, OutOfMemory, Text};
 use pf_client::{
-    Content, Contents, FileRead, LoadError, Loaded, let_go, load_all, only, read_content,
-    read_file, read_queries, run_script,
+    Content, Contents, FileRead, LoadError, Loaded, ReportError, let_go, load_all, only,
+    read_content, read_file, read_queries, run_script,
 };
 use pf_io::{Doors, Files, Gate, Hop, ReadError, Sink, put_all};
 use pf_report::{FileFault, Word, push_line};
@@ -44,7 +47,7 @@ pub const DEFAULT_LIMITS: Limits = Limits {
     journal: 4_000_000,
 };
 
-/// What a run prints, with its status.
+/// What a run has still to print, with its status: of a report nothing, which is written as its script runs.
 #[derive(Drop)]
 pub(crate) struct Output {
     pub status: u8,
@@ -92,35 +95,40 @@ pub(crate) fn script_refused(alloc: Global, line: u32) -> Result<Output, OutOfMe
 }
 
 /// Reads the queries of a script whose files are read, and runs it.
-fn run_loaded<H: Hop, G: Gate>(
+fn run_loaded<O: Sink, H: Hop, G: Gate>(
     alloc: Global,
     limits: Limits,
     script: &Script,
     files: Contents,
     hops: &mut [H],
     gate: &G,
-) -> Result<Output, OutOfMemory>
+    out: &mut O,
+) -> Result<Output, ReportError>
     requires limits { AreLimits limits }
     requires actors { length hops.old ≡ 32 }
     requires there { (name : List ℕ) → NamesFile (lines_of script.now) name → IsKept files name }
     requires lasts { HaveLast (lines_of script.now) files }
     requires read { Each IsRead script.now.lines.items }
     requires following { AllFollow [] (lines_of script.now) }
-    ensures { IfOk result (λ o. (held : Held) → AreHeld held files → IsRun limits held (lines_of script.now) o.status o.text.items) }
+    ensures printed { IfOk result (λ o. (held : Held) → AreHeld held files → Prints (IsRun limits held (lines_of script.now) o.status) (O.told out.old) (O.told out.new) o.text.items) }
+    ensures begun { result ≡ Err ReportError.OutOfMemory → (held : Held) → AreHeld held files → Begins (IsAnyReport limits held (lines_of script.now)) (O.told out.old) (O.told out.new) }
+    ensures broken { result ≡ Err ReportError.WriteFault → (held : Held) → AreHeld held files → WritesPart (IsAnyReport limits held (lines_of script.now)) (O.told out.old) (O.told out.new) }
+    ensures fault { result ≡ Err ReportError.WriteFault → Rose (O.faults out.old) (O.faults out.new) }
+    ensures taken { result ≢ Err ReportError.WriteFault → O.faults out.new ≡ O.faults out.old }
 {
     let queries = read_queries(alloc, script)?;
     let loaded = Loaded { files, queries };
-    let report = run_script(alloc, limits, script, loaded, hops, gate)?;
-    let status = if report.full { 8 } else { 0 };
+    let full = run_script(alloc, limits, script, loaded, hops, gate, out)?;
+    let status = if full { 8 } else { 0 };
     Ok(Output {
         status,
-        text: report.text,
+        text: Vec::new(alloc),
     })
 }
 
 /// Reads the other files that a script names, and then its queries, and runs it. These are its own name and bytes, which
 /// are not read again, and are let go before it runs, unless a line names them.
-fn replay_script<F: Files, H: Hop, G: Gate>(
+fn replay_script<F: Files, O: Sink, H: Hop, G: Gate>(
     alloc: Global,
     limits: Limits,
     files: &mut F,
@@ -129,7 +137,8 @@ fn replay_script<F: Files, H: Hop, G: Gate>(
     bytes: Vec<u8>,
     hops: &mut [H],
     gate: &G,
-) -> Result<Output, OutOfMemory>
+    out: &mut O,
+) -> Result<Output, ReportError>
     requires limits { AreLimits limits }
     requires actors { length hops.old ≡ 32 }
     requires read { Each IsRead script.now.lines.items }
@@ -138,20 +147,26 @@ fn replay_script<F: Files, H: Hop, G: Gate>(
     requires short { length bytes.items ≤ most_bytes }
     requires there { F.lost files.old name.now ≡ false }
     ensures output { let seen : FilesSeen = record { told = F.told files.old; sure = F.sure files.old; lost = F.lost files.old; before = F.faults files.old; after = F.faults files.new; failed = F.failed files.new } in
-        IfOk result (λ o. IsReplay limits seen name.now bytes.items (lines_of script.now) o.status o.text.items) }
+        IfOk result (λ o. Prints (IsReplay limits seen name.now bytes.items (lines_of script.now) o.status) (O.told out.old) (O.told out.new) o.text.items) }
+    ensures begun { let seen : FilesSeen = record { told = F.told files.old; sure = F.sure files.old; lost = F.lost files.old; before = F.faults files.old; after = F.faults files.new; failed = F.failed files.new } in
+        result ≡ Err ReportError.OutOfMemory → Begins (IsReplayReport limits seen name.now bytes.items (lines_of script.now)) (O.told out.old) (O.told out.new) }
+    ensures broken { let seen : FilesSeen = record { told = F.told files.old; sure = F.sure files.old; lost = F.lost files.old; before = F.faults files.old; after = F.faults files.new; failed = F.failed files.new } in
+        result ≡ Err ReportError.WriteFault → WritesPart (IsReplayReport limits seen name.now bytes.items (lines_of script.now)) (O.told out.old) (O.told out.new) }
+    ensures fault { result ≡ Err ReportError.WriteFault → Rose (O.faults out.old) (O.faults out.new) }
+    ensures taken { result ≢ Err ReportError.WriteFault → O.faults out.new ≡ O.faults out.old }
     ensures steady { IfOk result (λ o. o.status ≢ 4 → F.faults files.new ≡ F.faults files.old) }
     ensures counted { F.faults files.old ≤ F.faults files.new }
 {
     let Ok(mut contents) = only(alloc, name, Content::Bytes(bytes)) else {
-        return Err(OutOfMemory);
+        return Err(ReportError::OutOfMemory);
     };
     match load_all(alloc, files, &mut contents, script) {
         Ok(()) => {
             let_go(&mut contents, name, 0);
-            run_loaded(alloc, limits, script, contents, hops, gate)
+            run_loaded(alloc, limits, script, contents, hops, gate, out)
         }
-        Err(LoadError::Unread { name: missing }) => unread(alloc, missing.as_str()),
-        Err(LoadError::OutOfMemory) => Err(OutOfMemory),
+        Err(LoadError::Unread { name: missing }) => Ok(unread(alloc, missing.as_str())?),
+        Err(LoadError::OutOfMemory) => Err(ReportError::OutOfMemory),
     }
 }
 
@@ -272,30 +287,37 @@ fn evaluate_words<F: Files, H: Hop, G: Gate>(
 }
 
 /// Reads the script that the words name and replays it, evaluates what they name, or runs their session.
-fn run_words<F: Files, H: Hop, G: Gate>(
+fn run_words<F: Files, O: Sink, H: Hop, G: Gate>(
     alloc: Global,
     limits: Limits,
     words: &[Text],
     files: &mut F,
     hops: &mut [H],
     gate: &G,
-) -> Result<Output, OutOfMemory>
+    out: &mut O,
+) -> Result<Output, ReportError>
     requires limits { AreLimits limits }
     requires actors { length hops.old ≡ 32 }
     ensures output { let seen : FilesSeen = record { told = F.told files.old; sure = F.sure files.old; lost = F.lost files.old; before = F.faults files.old; after = F.faults files.new; failed = F.failed files.new } in
-        IfOk result (λ o. IsWordsOutput limits seen words.now o.status o.text.items) }
+        IfOk result (λ o. Prints (IsWordsOutput limits seen words.now o.status) (O.told out.old) (O.told out.new) o.text.items) }
+    ensures begun { let seen : FilesSeen = record { told = F.told files.old; sure = F.sure files.old; lost = F.lost files.old; before = F.faults files.old; after = F.faults files.new; failed = F.failed files.new } in
+        result ≡ Err ReportError.OutOfMemory → Begins (IsReportOutput limits seen words.now) (O.told out.old) (O.told out.new) }
+    ensures broken { let seen : FilesSeen = record { told = F.told files.old; sure = F.sure files.old; lost = F.lost files.old; before = F.faults files.old; after = F.faults files.new; failed = F.failed files.new } in
+        result ≡ Err ReportError.WriteFault → WritesPart (IsReportOutput limits seen words.now) (O.told out.old) (O.told out.new) }
+    ensures fault { result ≡ Err ReportError.WriteFault → Rose (O.faults out.old) (O.faults out.new) }
+    ensures taken { result ≢ Err ReportError.WriteFault → O.faults out.new ≡ O.faults out.old }
     ensures steady { IfOk result (λ o. o.status ≢ 4 → F.faults files.new ≡ F.faults files.old) }
     ensures counted { F.faults files.old ≤ F.faults files.new }
     ensures untouched { replay_words words.now ≡ None → evaluation_words words.now ≡ None → files.new ≡ files.old }
 {
     let Some(replay) = replay_words(words) else {
-        return evaluate_words(alloc, limits, words, files, hops, gate);
+        return Ok(evaluate_words(alloc, limits, words, files, hops, gate)?);
     };
     let bytes = match read_file(alloc, files, replay.script) {
         Ok(Content::Bytes(bytes)) => bytes,
-        Ok(Content::TooLong) => return script_refused(alloc, 0),
-        Err(ReadError::Failed) => return unread(alloc, replay.script),
-        Err(_) => return Err(OutOfMemory),
+        Ok(Content::TooLong) => return Ok(script_refused(alloc, 0)?),
+        Err(ReadError::Failed) => return Ok(unread(alloc, replay.script)?),
+        Err(_) => return Err(ReportError::OutOfMemory),
     };
     match read_script(alloc, bytes.as_slice(), true) {
         Ok(script) => {
@@ -309,10 +331,11 @@ fn run_words<F: Files, H: Hop, G: Gate>(
                 bytes,
                 hops,
                 gate,
+                out,
             )
         }
-        Err(ScriptError::Line { line }) => script_refused(alloc, line),
-        Err(ScriptError::OutOfMemory) => Err(OutOfMemory),
+        Err(ScriptError::Line { line }) => Ok(script_refused(alloc, line)?),
+        Err(ScriptError::OutOfMemory) => Err(ReportError::OutOfMemory),
     }
 }
 
@@ -334,8 +357,10 @@ pub fn run_within<F: Files, O: Sink, H: Hop + Drop, G: Gate>(
         Correct limits outside words.now result }
     ensures untouched { replay_words words.now ≡ None → evaluation_words words.now ≡ None → files.new ≡ files.old }
 {
-    let Ok(output) = run_words(alloc, limits, words, files, hops.as_mut_slice(), gate) else {
-        return 6;
+    let output = match run_words(alloc, limits, words, files, hops.as_mut_slice(), gate, out) {
+        Ok(output) => output,
+        Err(ReportError::WriteFault) => return 5,
+        Err(ReportError::OutOfMemory) => return 6,
     };
     match put_all(out, output.text.as_slice()) {
         Ok(()) => return output.status,

@@ -1,17 +1,17 @@
-use Rattle.pf_base.specs.declared.plain.Limits.{Limits}
-use Rattle.pf_script.specs.Lines.{lines_of}
-use Rattle.pf_client.specs.Drives.{CanRun}
 use Rattle.std.specs.Prelude.{◌≡◌, length}
-use Rattle.pf_client.specs.Going.{IsGoing}
+use Rattle.pf_script.specs.Lines.{lines_of}
+use Rattle.pf_client.proofs.Sending.{Sends}
+use Rattle.pf_client.specs.Drives.{CanRun}
 use Rattle.pf_client.specs.Hands.{HoldsJobs}
 use Rattle.pf_client.specs.Queries.{IsPart}
 use Rattle.pf_client.proofs.drive.run_lines.Given as goal
 
 abbrev pub invariant-loop-line : goal.invariant-loop-line
 invariant-loop-line g l = record {
-  going : (limits : Limits) → IsGoing l.fn.loaded limits (lines_of l.script) 0 l.fn.client → IsGoing l.fn.loaded limits (lines_of l.script) l.line-index l.client;
+  sends : Sends (g.O.Sink.told l.fn.out) (g.O.Sink.told l.out) l.fn.loaded (lines_of l.script) l.fn.client l.line-index l.client;
   can_run : CanRun l.script l.line-index l.loaded;
   part : IsPart l.fn.loaded l.loaded;
   holds : HoldsJobs l.client;
   actors : length l.hops ≡ 32;
+  steady : g.O.Sink.faults l.out ≡ g.O.Sink.faults l.fn.out;
 }

@@ -1,4 +1,4 @@
-use Rattle.std.specs.Prelude.{◌≡◌, length}
+use Rattle.std.specs.Prelude.{◌≡◌, [], ℕ, List, length}
 use Rattle.pf_base.specs.declared.plain.Limits.{Limits}
 use Rattle.pf_journal.specs.Summaries.{nothing_counted}
 use Rattle.pf_script.specs.Lines.{lines_of}
@@ -11,8 +11,8 @@ use Rattle.pf_client.proofs.session.run_lines_counted.Given as goal
 
 abbrev pub invariant-loop-line : goal.invariant-loop-line
 invariant-loop-line g l = record {
-  going : (limits : Limits) → IsGoing l.fn.loaded limits (lines_of l.script) 0 l.fn.client → IsGoing l.fn.loaded limits (lines_of l.script) l.line-index l.client;
-  counted : (limits : Limits) → IsGoing l.fn.loaded limits (lines_of l.script) 0 l.fn.client → IsCounted l.fn.loaded nothing_counted l.fn.client → IsCounted l.fn.loaded l.tally l.client;
+  going : (limits : Limits) → IsGoing l.fn.loaded limits (lines_of l.script) 0 [] l.fn.client → (sent : List ℕ) × IsGoing l.fn.loaded limits (lines_of l.script) l.line-index sent l.client;
+  counted : (limits : Limits) → IsGoing l.fn.loaded limits (lines_of l.script) 0 [] l.fn.client → IsCounted l.fn.loaded nothing_counted l.fn.client → IsCounted l.fn.loaded l.tally l.client;
   can_run : CanRun l.script l.line-index l.loaded;
   part : IsPart l.fn.loaded l.loaded;
   holds : HoldsJobs l.client;
