@@ -169,13 +169,13 @@ asked_query known above own k q h =
     subst (λ (m : Option Moment). HasQuery (what_of m)) (sym h.there) (subst (λ (w : What). HasQuery (Some w)) (sym h.is) tt)
 
 -- an open query that is not cancelled has no cancel
-pub uncancelled_by : (known : Known) (above : List Ran) (c : CoreData) (k q : ℕ) → Legal c.limits c.names c.journal → Each (λ (e : Entry). e.client ≡ 0) c.journal → (h : IsAskAt known above (own_of c) k q)
-    → (o : Open) → open_at q (machine_of c).queries ≡ Some o → o.cancelled ≡ None → cancel_of (Some h.asked) (own_of c) ≡ None
-uncancelled_by known above c k q legal alone h o there un = by (cancel_of (Some h.asked) (own_of c)) refl where
-  law : IsOpenIn c (own_of c) h.asked h.tenant q
-  law = open_in known above c k q c.limits c.names legal alone h
+pub uncancelled_by : (client : ℕ) (known : Known) (above : List Ran) (c : CoreData) (k q : ℕ) → Legal c.limits c.names c.journal → Each (λ (e : Entry). e.client ≡ client) c.journal → (h : IsAskAt known above (own_of client c) k q)
+    → (o : Open) → open_at q (machine_of c).queries ≡ Some o → o.cancelled ≡ None → cancel_of (Some h.asked) (own_of client c) ≡ None
+uncancelled_by client known above c k q legal alone h o there un = by (cancel_of (Some h.asked) (own_of client c)) refl where
+  law : IsOpenIn c (own_of client c) h.asked h.tenant q
+  law = open_in client known above c k q c.limits c.names legal alone h
 
-  by : (m : Option Moment) → cancel_of (Some h.asked) (own_of c) ≡ m → cancel_of (Some h.asked) (own_of c) ≡ None
+  by : (m : Option Moment) → cancel_of (Some h.asked) (own_of client c) ≡ m → cancel_of (Some h.asked) (own_of client c) ≡ None
   by None e = e
   by (Some y) e =
       let found = law.is_open in
@@ -204,11 +204,11 @@ said_as number id c code word text e f g =
 
 module _ (known : Known) (above : List Ran) (hands : List Hand) (old new : Client) (held : new.hands ≡ old.hands) (number : ℕ) (id : List ℕ) (k : ℕ) where
   -- an open query is answered
-  pub step_answered : (by : By) (q : ℕ) (reply : Reply) (o : Open) (a : Asked) (b : Body) → IsKnown known new.core → (h : IsAskAt known above (own_of old.core) k q)
-      → IsReplied old.core by q reply new.core → Stands new.core → by.client ≡ 0 → by.line ≡ number
+  pub step_answered : (by : By) (q : ℕ) (reply : Reply) (o : Open) (a : Asked) (b : Body) → IsKnown known new.core → (h : IsAskAt known above (own_of old.client old.core) k q)
+      → IsReplied old.core by q reply new.core → Stands new.core → by.client ≡ old.client → by.line ≡ number
       → open_at q (machine_of old.core).queries ≡ Some o → o.asked ≡ a → b ≡ outcome_body a.instant a.kind reply.outcome
       → new.out.items ≡ old.out.items ++ answered number id (decimal reply.code) reply.cached reply.evaluated (text_of b)
-      → IsQueryAnswer known (naming (own_of old.core) above hands (script.answer id k)) old (record { number = number; line = script.answer id k }) q true new
+      → IsQueryAnswer known (naming (own_of old.client old.core) above hands (script.answer id k)) old (record { number = number; line = script.answer id k }) q true new
   step_answered by q reply o a b kn h r stands client line there asked made said =
       let found = r.is_open in
       let one : r.opened ≡ o = cc in
@@ -218,7 +218,7 @@ module _ (known : Known) (above : List Ran) (hands : List Hand) (old new : Clien
       let code : code_in b ≡ reply.code = ap code_in (sym b_is) ∙ outcome_code r.opened.asked.instant r.opened.asked.kind reply.outcome ∙ sym r.is.coded in
       let what : What = answer q reply.code reply.cached reply.evaluated in
       let entered : Enters old.core by what new.core = entered_after old.core r.middle new.core by what r.works.history r.entered in
-      let of_ask : IsOfAsk (moment_of k (own_of old.core)) q = subst (λ (m : Option Moment). IsOfAsk m q) (sym h.there) (sym h.place) in
+      let of_ask : IsOfAsk (moment_of k (own_of old.client old.core)) q = subst (λ (m : Option Moment). IsOfAsk m q) (sym h.there) (sym h.place) in
       let limits : known.limits ≡ old.core.limits = kn.limits ∙ entered.limits in
       let text : body_of known.limits (told_with b) reply.code (open_at q (machine_of old.core).queries) ≡ text_of b =
       rw found (rw limits (rw (sym code) is.text)) in
@@ -229,7 +229,7 @@ module _ (known : Known) (above : List Ran) (hands : List Hand) (old new : Clien
       let closed_failed = ap (λ (fs : List ℕ). sum fs) r.closed.failed in
       record {
         step =
-            step_entered known (naming (own_of old.core) above hands (script.answer id k)) old new by (record { number = number; line = script.answer id k })
+            step_entered known (naming (own_of old.client old.core) above hands (script.answer id k)) old new by (record { number = number; line = script.answer id k })
             (told_with b) what kn entered client line of_ask beside
             (room_before old.core new.core by what entered stands) (goes_with b)
             (tries_on old.core new.core (told_with b) (omega (arith, more, closed_failed)) (untried b))
@@ -280,10 +280,10 @@ module _ (known : Known) (above : List Ran) (hands : List Hand) (old new : Clien
             grind (arith, nat_tests, late, low, up, one_up)
 
   -- an open query waits for jobs in workers' hands
-  pub step_waiting : (q jobs : ℕ) → Each (λ (e : Entry). e.client ≡ 0) old.core.journal → Stands new.core → HaveHands old hands → (h : IsAskAt known above (own_of old.core) k q)
+  pub step_waiting : (q jobs : ℕ) → Each (λ (e : Entry). e.client ≡ old.client) old.core.journal → Stands new.core → HaveHands old hands → (h : IsAskAt known above (own_of old.client old.core) k q)
       → IsInHands old.core q jobs new.core
       → new.out.items ≡ old.out.items ++ reply_line number (codes "answer") id (codes "waiting" ∷ decimal jobs ∷ [])
-      → IsQueryAnswer known (naming (own_of old.core) above hands (script.answer id k)) old (record { number = number; line = script.answer id k }) q false new
+      → IsQueryAnswer known (naming (own_of old.client old.core) above hands (script.answer id k)) old (record { number = number; line = script.answer id k }) q false new
   step_waiting q jobs alone stands have h w said =
       let there : open_at q (machine_of old.core).queries ≡ Some w.whole.opened =
       subst (λ (es : List Entry). open_at q (machine_after started es).queries ≡ Some w.whole.opened) w.works.history.journal w.whole.is_open in
@@ -291,19 +291,19 @@ module _ (known : Known) (above : List Ran) (hands : List Hand) (old new : Clien
       subst (λ (l : Limits). Legal l old.core.names old.core.journal) w.works.history.limits
       (subst (λ (ns : List (List ℕ)). Legal new.core.limits ns old.core.journal) w.works.history.names
       (subst (λ (es : List Entry). Legal new.core.limits new.core.names es) w.works.history.journal stands.legal)) in
-      let uncancelled = uncancelled_by known above old.core k q stood alone h w.whole.opened there w.whole.cancelled_at in
+      let uncancelled = uncancelled_by old.client known above old.core k q stood alone h w.whole.opened there w.whole.cancelled_at in
       let counted : jobs ≡ hands_on (place_of h.asked) hands =
       w.jobs_are ∙ ap (hands_with q) (w.works.hands w.whole.opened.tenant)
       ∙ sym (counted_in_hand old hands w.whole.opened.tenant q have (inl (w.whole.opened, (there, refl)))) ∙ ap (λ (i : ℕ). hands_on i hands) (sym h.place) in
       record {
         step =
-            step_worked known (naming (own_of old.core) above hands (script.answer id k)) old new (record { number = number; line = script.answer id k }) (waiting jobs)
+            step_worked known (naming (own_of old.client old.core) above hands (script.answer id k)) old new (record { number = number; line = script.answer id k }) (waiting jobs)
             w.works.history refl
             (record {
               opened = record {
-                query = asked_query known above (own_of old.core) k q h;
-                unanswered = ap (λ (m : Option Moment). answer_of m (own_of old.core)) h.there ∙ h.unanswered;
-                uncancelled = ap (λ (m : Option Moment). cancel_of m (own_of old.core)) h.there ∙ uncancelled;
+                query = asked_query known above (own_of old.client old.core) k q h;
+                unanswered = ap (λ (m : Option Moment). answer_of m (own_of old.client old.core)) h.there ∙ h.unanswered;
+                uncancelled = ap (λ (m : Option Moment). cancel_of m (own_of old.client old.core)) h.there ∙ uncancelled;
               };
               counted = counted ∙ sym (ap (λ (m : Option Moment). hands_of m hands) h.there);
               some = w.some;
@@ -315,27 +315,27 @@ module _ (known : Known) (above : List Ran) (hands : List Hand) (old new : Clien
       }
 
   -- the answer of an ask that was refused
-  pub step_unanswered : (s : Slot) (b : Body) → new.core ≡ old.core → SlotRight known above (own_of old.core) k (Some s)
+  pub step_unanswered : (s : Slot) (b : Body) → new.core ≡ old.core → SlotRight known above (own_of old.client old.core) k (Some s)
       → ((q : ℕ) → s ≡ slot.Asked q → ⊥) → IsRefusedBody s b
       → new.out.items ≡ old.out.items ++ unanswered number id (decimal (code_in b)) (text_of b)
-      → IsUnanswered known (naming (own_of old.core) above hands (script.answer id k)) old (record { number = number; line = script.answer id k }) new
+      → IsUnanswered known (naming (own_of old.client old.core) above hands (script.answer id k)) old (record { number = number; line = script.answer id k }) new
   step_unanswered s b same right shut is said = record {
     none = refl;
     step =
-        step_stayed known (naming (own_of old.core) above hands (script.answer id k)) old new (record { number = number; line = script.answer id k }) nothing same refl refl
+        step_stayed known (naming (own_of old.client old.core) above hands (script.answer id k)) old new (record { number = number; line = script.answer id k }) nothing same refl refl
         (no_query s right shut) (keeps_same old new (ap (λ v. v.items) held) same)
         (said ∙ ap (λ (bytes : List ℕ). old.out.items ++ bytes) (sym (reply_is s b right shut is)));
   } where
-    no_query : (x : Slot) → SlotRight known above (own_of old.core) k (Some x) → ((q : ℕ) → x ≡ slot.Asked q → ⊥) → HasNoQuery (what_of (moment_of k (own_of old.core)))
+    no_query : (x : Slot) → SlotRight known above (own_of old.client old.core) k (Some x) → ((q : ℕ) → x ≡ slot.Asked q → ⊥) → HasNoQuery (what_of (moment_of k (own_of old.client old.core)))
     no_query (slot.Asked q) r n = absurd (n q refl)
     no_query (slot.BadGrid e) r n = subst (λ (m : Option Moment). HasNoQuery (what_of m)) (sym r.none) tt
     no_query (slot.BadQuery e) r n = subst (λ (m : Option Moment). HasNoQuery (what_of m)) (sym r.none) tt
-    no_query slot.Full r n = no_query_full (what_of (moment_of k (own_of old.core))) r
-    no_query slot.TooManyTenants r n = no_query_stranger (what_of (moment_of k (own_of old.core))) r
+    no_query slot.Full r n = no_query_full (what_of (moment_of k (own_of old.client old.core))) r
+    no_query slot.TooManyTenants r n = no_query_stranger (what_of (moment_of k (own_of old.client old.core))) r
     no_query slot.NoMemory r n = subst (λ (m : Option Moment). HasNoQuery (what_of m)) (sym r.none) tt
 
-    reply_is : (x : Slot) (c : Body) → SlotRight known above (own_of old.core) k (Some x) → ((q : ℕ) → x ≡ slot.Asked q → ⊥) → IsRefusedBody x c
-        → refused_reply known number id (ran_at k above) (what_of (moment_of k (own_of old.core))) ≡ unanswered number id (decimal (code_in c)) (text_of c)
+    reply_is : (x : Slot) (c : Body) → SlotRight known above (own_of old.client old.core) k (Some x) → ((q : ℕ) → x ≡ slot.Asked q → ⊥) → IsRefusedBody x c
+        → refused_reply known number id (ran_at k above) (what_of (moment_of k (own_of old.client old.core))) ≡ unanswered number id (decimal (code_in c)) (text_of c)
     reply_is (slot.Asked q) c r n i = absurd (n q refl)
     reply_is (slot.BadGrid e) c r n i =
         ap (λ (m : Option Moment). refused_reply known number id (ran_at k above) (what_of m)) r.none
@@ -346,9 +346,9 @@ module _ (known : Known) (above : List Ran) (hands : List Hand) (old new : Clien
         ∙ reply_unasked known number id (ran_at k above) r.ran (words_of_error e) r.there r.told r.text
         ∙ sym (said_as number id c 400 (codes "400") (refused_body (words_of_error e)) i.0 code_400 i.1)
     reply_is slot.Full c r n i =
-        reply_full known number id (ran_at k above) (what_of (moment_of k (own_of old.core))) r ∙ sym (said_as number id c 429 (codes "429") full_body i.0 code_429 i.1)
+        reply_full known number id (ran_at k above) (what_of (moment_of k (own_of old.client old.core))) r ∙ sym (said_as number id c 429 (codes "429") full_body i.0 code_429 i.1)
     reply_is slot.TooManyTenants c r n i =
-        reply_stranger known number id (ran_at k above) (what_of (moment_of k (own_of old.core))) r ∙ sym (said_as number id c 503 (codes "503") tenants_body i.0 code_503 i.1)
+        reply_stranger known number id (ran_at k above) (what_of (moment_of k (own_of old.client old.core))) r ∙ sym (said_as number id c 503 (codes "503") tenants_body i.0 code_503 i.1)
     reply_is slot.NoMemory c r n i =
         ap (λ (m : Option Moment). refused_reply known number id (ran_at k above) (what_of m)) r.none
         ∙ reply_starved known number id (ran_at k above) r.ran r.there r.told
@@ -357,11 +357,11 @@ module _ (known : Known) (above : List Ran) (hands : List Hand) (old new : Clien
   -- and where there is no memory for it
   pub step_unanswered_starved : new.core ≡ old.core
       → new.out.items ≡ old.out.items ++ unanswered number id (decimal 507) memory_body
-      → IsUnanswered known (naming (own_of old.core) above hands (script.answer id k)) old (record { number = number; line = script.answer id k }) new
+      → IsUnanswered known (naming (own_of old.client old.core) above hands (script.answer id k)) old (record { number = number; line = script.answer id k }) new
   step_unanswered_starved same said = record {
     none = refl;
     step =
-        step_stayed known (naming (own_of old.core) above hands (script.answer id k)) old new (record { number = number; line = script.answer id k }) no_memory same refl refl
+        step_stayed known (naming (own_of old.client old.core) above hands (script.answer id k)) old new (record { number = number; line = script.answer id k }) no_memory same refl refl
         tt (keeps_same old new (ap (λ v. v.items) held) same)
         (said ∙ ap (λ (x : List ℕ). old.out.items ++ unanswered number id x memory_body) code_507);
   }
@@ -432,7 +432,7 @@ grows_replied old new by q reply r =
     let what : What = answer q reply.code reply.cached reply.evaluated in
     let queries : open_at q (machine_of r.middle).queries ≡ Some r.opened =
     subst (λ (es : List Entry). open_at q (machine_after started es).queries ≡ Some r.opened) (sym r.works.history.journal) r.is_open in
-    grows_on old r.middle new (grows_works old r.middle r.works) (grows_entered r.middle new by what r.entered (closed_idle r.middle new q r.opened queries r.closed))
+    grows_on old r.middle new (grows_works old r.middle r.works) (grows_entered r.middle new by what r.entered (λ client below. closed_idle r.middle new q r.opened queries r.closed client))
 
 pub grows_waits : (old new : CoreData) (q jobs : ℕ) → IsInHands old q jobs new → Grows old new
 grows_waits old new q jobs w = grows_works old new w.works

@@ -116,39 +116,39 @@ unanswered_by : (o p : Open) (c a : Option Moment) → opened_by o c a ≡ Some 
 unanswered_by o p c None e = refl
 unanswered_by o p c (Some y) e = cc
 
-here_of : (own : List Moment) (m : Machine) (n : ℕ) (what : What) → Each (λ x. x.entry.line < n) own
-    → moment_of n (own ++ moment_by m n what ∷ []) ≡ Some (moment_by m n what)
-here_of own m n what low = last_with _ own (moment_by m n what) (unmade own n low) (grind (arith, nat_tests))
+here_of : (own : List Moment) (m : Machine) (client n : ℕ) (what : What) → Each (λ x. x.entry.line < n) own
+    → moment_of n (own ++ moment_by m client n what ∷ []) ≡ Some (moment_by m client n what)
+here_of own m client n what low = last_with _ own (moment_by m client n what) (unmade own n low) (grind (arith, nat_tests))
 
 -- a query that was opened now has no answer
-unanswered_now : (old new : CoreData) (n u : ℕ) (a : Asked) (pin generation : ℕ) (floor : Option ℕ) (q : ℕ) (o : Open)
-    → Stands new → new.journal ≡ old.journal ++ entry_by n (ask u a pin generation floor) ∷ []
-    → Each (λ (e : Entry). e.client ≡ 0) old.journal → Each (λ x. x.entry.line < n) (own_of old)
+unanswered_now : (old new : CoreData) (client n u : ℕ) (a : Asked) (pin generation : ℕ) (floor : Option ℕ) (q : ℕ) (o : Open)
+    → Stands new → new.journal ≡ old.journal ++ entry_by client n (ask u a pin generation floor) ∷ []
+    → Each (λ (e : Entry). e.client ≡ client) old.journal → Each (λ x. x.entry.line < n) (own_of client old)
     → q ≡ (machine_of old).count → open_at q (machine_of new).queries ≡ Some o
-    → answer_of (Some (moment_by (machine_of old) n (ask u a pin generation floor))) (own_of old ++ moment_by (machine_of old) n (ask u a pin generation floor) ∷ []) ≡ None
-unanswered_now old new n u a pin generation floor q o s journal alone low place is_open =
+    → answer_of (Some (moment_by (machine_of old) client n (ask u a pin generation floor))) (own_of client old ++ moment_by (machine_of old) client n (ask u a pin generation floor) ∷ []) ≡ None
+unanswered_now old new client n u a pin generation floor q o s journal alone low place is_open =
     let what = ask u a pin generation floor in
-    let x : Moment = moment_by (machine_of old) n what in
-    let own' : own_moments 0 (moments new.journal) ≡ own_of old ++ x ∷ [] =
-    ap (λ (es : List Entry). own_moments 0 (moments es)) journal ∙ own_on old.journal n (Some what) in
-    let alone' : Each (λ (e : Entry). e.client ≡ 0) new.journal =
-    subst (Each (λ (e : Entry). e.client ≡ 0)) (sym journal) (each_snoc _ old.journal (entry_by n what) alone refl) in
-    let all : own_of old ++ x ∷ [] ≡ moments new.journal = sym own' ∙ all_own 0 started new.journal alone' in
-    let among : IsAmong x (moments new.journal) = subst (IsAmong x) all (found_among _ (own_of old ++ x ∷ []) x (here_of (own_of old) (machine_of old) n what low)) in
+    let x : Moment = moment_by (machine_of old) client n what in
+    let own' : own_moments client (moments new.journal) ≡ own_of client old ++ x ∷ [] =
+    ap (λ (es : List Entry). own_moments client (moments es)) journal ∙ own_on old.journal client n (Some what) in
+    let alone' : Each (λ (e : Entry). e.client ≡ client) new.journal =
+    subst (Each (λ (e : Entry). e.client ≡ client)) (sym journal) (each_snoc _ old.journal (entry_by client n what) alone refl) in
+    let all : own_of client old ++ x ∷ [] ≡ moments new.journal = sym own' ∙ all_own client started new.journal alone' in
+    let among : IsAmong x (moments new.journal) = subst (IsAmong x) all (found_among _ (own_of client old ++ x ∷ []) x (here_of (own_of client old) (machine_of old) client n what low)) in
     let law = opened new.limits new.names new.journal x s.legal among u a pin generation floor refl in
     let there : open_at (place_of x) (machine_of new).queries ≡ Some o = subst (λ (i : ℕ). open_at i (machine_of new).queries ≡ Some o) place is_open in
     ap (answer_of (Some x)) all ∙ unanswered_by (asked_at x u a) o (cancel_of (Some x) (moments new.journal)) (answer_of (Some x) (moments new.journal)) (sym law ∙ there)
 
 -- what is kept of an ask is right
-pub slot_new : (known : Known) (above : List Ran) (n : Told → Naming) (l : Numbered) (id tenant : List ℕ) (old new : CoreData) (told : Told) (entered : Option What) (kept : Slot)
+pub slot_new : (client : ℕ) (known : Known) (above : List Ran) (n : Told → Naming) (l : Numbered) (id tenant : List ℕ) (old new : CoreData) (told : Told) (entered : Option What) (kept : Slot)
     → AsksAs id tenant l.line → IsSlot known l.line old new told entered kept
-    → new.journal ≡ old.journal ++ entries_by l.number entered
-    → Each (λ (e : Entry). e.client ≡ 0) old.journal → Each (λ x. x.entry.line < l.number) (own_of old)
-    → IsMatched known (turn_by (n told) l told (moment_with (machine_of old) l.number entered)) (moment_with (machine_of old) l.number entered)
-    → SlotRight known (record { line = l; told = told } ∷ above) (own_with (own_of old) (machine_of old) l.number entered) l.number (Some kept)
-slot_new known above n l id tenant old new told (Some (ask u a pin generation floor)) (slot.Asked q) own_it is journal alone low matched = record {
-  asked = moment_by (machine_of old) l.number (ask u a pin generation floor);
-  there = here_of (own_of old) (machine_of old) l.number (ask u a pin generation floor) low;
+    → new.journal ≡ old.journal ++ entries_by client l.number entered
+    → Each (λ (e : Entry). e.client ≡ client) old.journal → Each (λ x. x.entry.line < l.number) (own_of client old)
+    → IsMatched known (turn_by (n told) l told (moment_with (machine_of old) client l.number entered)) (moment_with (machine_of old) client l.number entered)
+    → SlotRight known (record { line = l; told = told } ∷ above) (own_with (own_of client old) (machine_of old) client l.number entered) l.number (Some kept)
+slot_new client known above n l id tenant old new told (Some (ask u a pin generation floor)) (slot.Asked q) own_it is journal alone low matched = record {
+  asked = moment_by (machine_of old) client l.number (ask u a pin generation floor);
+  there = here_of (own_of client old) (machine_of old) client l.number (ask u a pin generation floor) low;
   place = sym is.place;
   tenant = u;
   wanted = a;
@@ -156,46 +156,46 @@ slot_new known above n l id tenant old new told (Some (ask u a pin generation fl
   generation = generation;
   floor = floor;
   is = refl;
-  named = named_as known (turn_by (n told) l told (Some (moment_by (machine_of old) l.number (ask u a pin generation floor)))) id tenant l.line u a pin generation floor own_it matched.0
+  named = named_as known (turn_by (n told) l told (Some (moment_by (machine_of old) client l.number (ask u a pin generation floor)))) id tenant l.line u a pin generation floor own_it matched.0
       ∙ ap Some (sym (ap asker_of (ran_here l.number above (record { line = l; told = told }) refl) ∙ asker_named id tenant l.number l.line told own_it));
-  unanswered = unanswered_now old new l.number u a pin generation floor q is.opened is.stands journal alone low is.place is.is_open;
+  unanswered = unanswered_now old new client l.number u a pin generation floor q is.opened is.stands journal alone low is.place is.is_open;
 }
-slot_new known above n l id tenant old new told (Some (append u b vs e)) (slot.Asked q) own_it is journal alone low matched = absurd is.by_ask
-slot_new known above n l id tenant old new told (Some (delete u ms from to g e)) (slot.Asked q) own_it is journal alone low matched = absurd is.by_ask
-slot_new known above n l id tenant old new told (Some (full u k)) (slot.Asked q) own_it is journal alone low matched = absurd is.by_ask
-slot_new known above n l id tenant old new told (Some (no_tenant name)) (slot.Asked q) own_it is journal alone low matched = absurd is.by_ask
-slot_new known above n l id tenant old new told (Some (cancel k)) (slot.Asked q) own_it is journal alone low matched = absurd is.by_ask
-slot_new known above n l id tenant old new told (Some (answer k code c e)) (slot.Asked q) own_it is journal alone low matched = absurd is.by_ask
-slot_new known above n l id tenant old new told None (slot.Asked q) own_it is journal alone low matched = absurd is.by_ask
-slot_new known above n l id tenant old new told None (slot.BadGrid e) own_it is journal alone low matched = record {
-  none = unmade (own_of old) l.number low;
+slot_new client known above n l id tenant old new told (Some (append u b vs e)) (slot.Asked q) own_it is journal alone low matched = absurd is.by_ask
+slot_new client known above n l id tenant old new told (Some (delete u ms from to g e)) (slot.Asked q) own_it is journal alone low matched = absurd is.by_ask
+slot_new client known above n l id tenant old new told (Some (full u k)) (slot.Asked q) own_it is journal alone low matched = absurd is.by_ask
+slot_new client known above n l id tenant old new told (Some (no_tenant name)) (slot.Asked q) own_it is journal alone low matched = absurd is.by_ask
+slot_new client known above n l id tenant old new told (Some (cancel k)) (slot.Asked q) own_it is journal alone low matched = absurd is.by_ask
+slot_new client known above n l id tenant old new told (Some (answer k code c e)) (slot.Asked q) own_it is journal alone low matched = absurd is.by_ask
+slot_new client known above n l id tenant old new told None (slot.Asked q) own_it is journal alone low matched = absurd is.by_ask
+slot_new client known above n l id tenant old new told None (slot.BadGrid e) own_it is journal alone low matched = record {
+  none = unmade (own_of client old) l.number low;
   ran = record { line = l; told = told };
   there = ran_here l.number above (record { line = l; told = told }) refl;
   told = is.1.0;
   text = is.1.1;
 }
-slot_new known above n l id tenant old new told (Some what) (slot.BadGrid e) own_it is journal alone low matched = let none = is.0 in cc
-slot_new known above n l id tenant old new told None (slot.BadQuery e) own_it is journal alone low matched = record {
-  none = unmade (own_of old) l.number low;
+slot_new client known above n l id tenant old new told (Some what) (slot.BadGrid e) own_it is journal alone low matched = let none = is.0 in cc
+slot_new client known above n l id tenant old new told None (slot.BadQuery e) own_it is journal alone low matched = record {
+  none = unmade (own_of client old) l.number low;
   ran = record { line = l; told = told };
   there = ran_here l.number above (record { line = l; told = told }) refl;
   told = is.1.0;
   text = is.1.1;
 }
-slot_new known above n l id tenant old new told (Some what) (slot.BadQuery e) own_it is journal alone low matched = let none = is.0 in cc
-slot_new known above n l id tenant old new told None slot.Full own_it is journal alone low matched = absurd is
-slot_new known above n l id tenant old new told (Some what) slot.Full own_it is journal alone low matched =
-    rw (here_of (own_of old) (machine_of old) l.number what low) is
-slot_new known above n l id tenant old new told None slot.TooManyTenants own_it is journal alone low matched = absurd is
-slot_new known above n l id tenant old new told (Some what) slot.TooManyTenants own_it is journal alone low matched =
-    rw (here_of (own_of old) (machine_of old) l.number what low) is
-slot_new known above n l id tenant old new told None slot.NoMemory own_it is journal alone low matched = record {
-  none = unmade (own_of old) l.number low;
+slot_new client known above n l id tenant old new told (Some what) (slot.BadQuery e) own_it is journal alone low matched = let none = is.0 in cc
+slot_new client known above n l id tenant old new told None slot.Full own_it is journal alone low matched = absurd is
+slot_new client known above n l id tenant old new told (Some what) slot.Full own_it is journal alone low matched =
+    rw (here_of (own_of client old) (machine_of old) client l.number what low) is
+slot_new client known above n l id tenant old new told None slot.TooManyTenants own_it is journal alone low matched = absurd is
+slot_new client known above n l id tenant old new told (Some what) slot.TooManyTenants own_it is journal alone low matched =
+    rw (here_of (own_of client old) (machine_of old) client l.number what low) is
+slot_new client known above n l id tenant old new told None slot.NoMemory own_it is journal alone low matched = record {
+  none = unmade (own_of client old) l.number low;
   ran = record { line = l; told = told };
   there = ran_here l.number above (record { line = l; told = told }) refl;
   told = is.1;
 }
-slot_new known above n l id tenant old new told (Some what) slot.NoMemory own_it is journal alone low matched = let none = is.0 in cc
+slot_new client known above n l id tenant old new told (Some what) slot.NoMemory own_it is journal alone low matched = let none = is.0 in cc
 
 -- ---- steps
 
@@ -212,7 +212,7 @@ module _ (known : Known) (n : Told → Naming) (old new : Client) (held : new.ha
   -- a query was opened, and maybe planned
   pub step_asked : (by : By) (a : Asked) (place : ℕ) (pin : PinData) (mid : CoreData) → IsKnown known new.core → AsksAt old.core by tenant a place pin mid → AreBegun old.core place mid
       → WorksOn mid new.core → Stands new.core
-      → by.client ≡ 0 → by.line ≡ number → wanted_by known line ≡ Some (Ok a)
+      → by.client ≡ old.client → by.line ≡ number → wanted_by known line ≡ Some (Ok a)
       → new.out.items ≡ old.out.items ++ reply_line number (codes "ask") id (codes "pin" ∷ decimal pin.number ∷ codes "place" ∷ decimal place ∷ [])
       → ((k : ℕ) → get nat_cmp new.slots k ≡ cond (nat_eq number k) (Some (slot.Asked place)) (get nat_cmp old.slots k))
       → IsAskStep known n old (record { number = number; line = line }) run.On new
@@ -228,7 +228,7 @@ module _ (known : Known) (n : Told → Naming) (old new : Client) (held : new.ha
       let more = works.failed in
       let begun_failed = ap (λ (fs : List ℕ). sum fs) begun.0.failed in
       let tried : CountsTries old.core nothing new.core = tries_on old.core new.core nothing (omega (arith, more, begun_failed)) refl in
-      let said' : new.out.items ≡ old.out.items ++ ask_reply number id nothing (Some (moment_by (machine_of old.core) number what)) =
+      let said' : new.out.items ≡ old.out.items ++ ask_reply number id nothing (Some (moment_by (machine_of old.core) old.client number what)) =
       said ∙ ap (λ (p : ℕ). old.out.items ++ reply_line number (codes "ask") id (codes "pin" ∷ decimal pin.number ∷ codes "place" ∷ decimal p ∷ [])) e.here in
       ask_line (λ (x : Line). wanted_by known x ≡ Some (Ok a) → IsAskStep known n old (record { number = number; line = x }) run.On new) id tenant line own_it
       (λ start end step query w. record {
@@ -253,7 +253,7 @@ module _ (known : Known) (n : Told → Naming) (old new : Client) (held : new.ha
   -- the tenant had as many open queries as it may
   pub step_filled : (by : By) (a : Asked) (outstanding : ℕ) → IsKnown known new.core → HasRoomFor old.core 3
       → EntersFor old.core by tenant (λ u. full u outstanding) new.core → AreSameWork old.core new.core
-      → by.client ≡ 0 → by.line ≡ number → wanted_by known line ≡ Some (Ok a)
+      → by.client ≡ old.client → by.line ≡ number → wanted_by known line ≡ Some (Ok a)
       → new.out.items ≡ old.out.items ++ reply_line number (codes "ask") id (refused_words (decimal 429))
       → ((k : ℕ) → get nat_cmp new.slots k ≡ cond (nat_eq number k) (Some slot.Full) (get nat_cmp old.slots k))
       → IsAskStep known n old (record { number = number; line = line }) run.On new
@@ -274,7 +274,7 @@ module _ (known : Known) (n : Told → Naming) (old new : Client) (held : new.ha
 
   -- as many tenants are known as may be
   pub step_stranger : (by : By) (a : Asked) → IsKnown known new.core → HasRoomFor old.core 3 → Enters old.core by (no_tenant tenant) new.core → AreSameWork old.core new.core
-      → by.client ≡ 0 → by.line ≡ number → wanted_by known line ≡ Some (Ok a)
+      → by.client ≡ old.client → by.line ≡ number → wanted_by known line ≡ Some (Ok a)
       → new.out.items ≡ old.out.items ++ reply_line number (codes "ask") id (refused_words (decimal 503))
       → ((k : ℕ) → get nat_cmp new.slots k ≡ cond (nat_eq number k) (Some slot.TooManyTenants) (get nat_cmp old.slots k))
       → IsAskStep known n old (record { number = number; line = line }) run.On new

@@ -77,7 +77,7 @@ cancelled_hands old new q o there left u = by (nat_eq u o.tenant) refl where
 
 pub grows_cancelled : (old new : CoreData) (by : By) (q : ℕ) (tenant : List ℕ) → IsOwned old q tenant None → Enters old by (cancel q) new → AreCancelled old q Done new → Grows old new
 grows_cancelled old new by q tenant owned e left =
-    grows_entered old new by (cancel q) e (λ idle u. subst (Each (λ (x : JobHand). x.actor ≡ 0 → ⊥)) (sym (cancelled_hands old new q owned.opened owned.is_open left u)) (idle u))
+    grows_entered old new by (cancel q) e (λ client below idle u. subst (Each (λ (x : JobHand). x.actor ≡ client → ⊥)) (sym (cancelled_hands old new q owned.opened owned.is_open left u)) (idle u))
 
 unfound_open : (tenant owner : List ℕ) (m : Option Moment) (x : Moment) (w : What) (answered c : Option Moment) → m ≡ Some x → answered ≡ None → w ≡ x.entry.what → HasQuery (Some w)
     → unfound_words tenant owner (what_of m) answered c ≡ uncancelled_words tenant owner c
@@ -101,21 +101,21 @@ other_words tenant owner (Some y) differ = elim (bool_cases (bytes_eq tenant own
 already_words : (tenant owner : List ℕ) (c : Option Moment) (y : Moment) → c ≡ Some y → tenant ≡ owner → uncancelled_words tenant owner c ≡ codes "already" ∷ decimal (place_of y) ∷ []
 already_words tenant owner c y e same = rw e (rw ((bytes_eq-Decides tenant owner).1 same) refl)
 
-module _ (known : Known) (above : List Ran) (hands : List Hand) (old new : Client) (held : new.hands ≡ old.hands) (number : ℕ) (id : List ℕ) (k q : ℕ) (h : IsAskAt known above (own_of old.core) k q) where
+module _ (known : Known) (above : List Ran) (hands : List Hand) (old new : Client) (held : new.hands ≡ old.hands) (number : ℕ) (id : List ℕ) (k q : ℕ) (h : IsAskAt known above (own_of old.client old.core) k q) where
   abbrev asker : List ℕ
   asker = asker_of (ran_at k above)
 
-  of_ask : IsOfAsk (moment_of k (own_of old.core)) q
+  of_ask : IsOfAsk (moment_of k (own_of old.client old.core)) q
   of_ask = subst (λ (m : Option Moment). IsOfAsk m q) (sym h.there) (sym h.place)
 
   is_query : HasQuery (Some h.asked.entry.what)
   is_query = subst (λ (w : What). HasQuery (Some w)) (sym h.is) tt
 
-  none_answered : answer_of (moment_of k (own_of old.core)) (own_of old.core) ≡ None
-  none_answered = ap (λ (m : Option Moment). answer_of m (own_of old.core)) h.there ∙ h.unanswered
+  none_answered : answer_of (moment_of k (own_of old.client old.core)) (own_of old.client old.core) ≡ None
+  none_answered = ap (λ (m : Option Moment). answer_of m (own_of old.client old.core)) h.there ∙ h.unanswered
 
   -- the name of the tenant of the open query is the one that the ask names
-  owner_named : (o : Open) (name : List ℕ) → IsKnown known old.core → IsOpenIn old.core (own_of old.core) h.asked h.tenant q
+  owner_named : (o : Open) (name : List ℕ) → IsKnown known old.core → IsOpenIn old.core (own_of old.client old.core) h.asked h.tenant q
       → open_at q (machine_of old.core).queries ≡ Some o → slice_get old.core.names o.tenant ≡ Some name → name ≡ asker
   owner_named o name kn law found named =
       let is_open = law.is_open in
@@ -127,50 +127,50 @@ module _ (known : Known) (above : List Ran) (hands : List Hand) (old new : Clien
       cc
 
   module _ (tenant : List ℕ) where
-    pub step_cancelled : (by : By) → IsKnown known new.core → Each (λ (e : Entry). e.client ≡ 0) old.core.journal → IsOwned old.core q tenant None → Enters old.core by (cancel q) new.core → Stands new.core
-        → AreCancelled old.core q Done new.core → by.client ≡ 0 → by.line ≡ number
+    pub step_cancelled : (by : By) → IsKnown known new.core → Each (λ (e : Entry). e.client ≡ old.client) old.core.journal → IsOwned old.core q tenant None → Enters old.core by (cancel q) new.core → Stands new.core
+        → AreCancelled old.core q Done new.core → by.client ≡ old.client → by.line ≡ number
         → new.out.items ≡ old.out.items ++ reply_line number (codes "cancel") id (codes "done" ∷ [])
-        → IsStep known (naming (own_of old.core) above hands (script.cancel id k tenant)) old (record { number = number; line = script.cancel id k tenant }) run.On new
+        → IsStep known (naming (own_of old.client old.core) above hands (script.cancel id k tenant)) old (record { number = number; line = script.cancel id k tenant }) run.On new
     step_cancelled by kn alone owned e stands left client line said =
         let before = known_before known old.core new.core e.more e.limits e.grown kn in
-        let named : tenant ≡ asker = owner_named owned.opened tenant before (open_in known above old.core k q old.core.limits new.core.names (legal_before old.core new.core by (cancel q) e stands) alone h) owned.is_open owned.named in
-        step_entered known (naming (own_of old.core) above hands (script.cancel id k tenant)) old new by (record { number = number; line = script.cancel id k tenant }) nothing (cancel q) kn e client line
+        let named : tenant ≡ asker = owner_named owned.opened tenant before (open_in old.client known above old.core k q old.core.limits new.core.names (legal_before old.core new.core by (cancel q) e stands) alone h) owned.is_open owned.named in
+        step_entered known (naming (own_of old.client old.core) above hands (script.cancel id k tenant)) old new by (record { number = number; line = script.cancel id k tenant }) nothing (cancel q) kn e client line
         (of_ask, named) refl (room_before old.core new.core by (cancel q) e stands) refl
         (tries_same old.core new.core nothing left.1.0 refl) (keeps_hands old new (ap (λ v. v.items) held) (cancelled_hands old.core new.core q owned.opened owned.is_open left)) said
 
     -- a query of another tenant
-    pub step_others : (owner : ℕ) → IsKnown known new.core → Each (λ (e : Entry). e.client ≡ 0) old.core.journal → IsOthers old.core q tenant owner → new.core ≡ old.core → Stands new.core
+    pub step_others : (owner : ℕ) → IsKnown known new.core → Each (λ (e : Entry). e.client ≡ old.client) old.core.journal → IsOthers old.core q tenant owner → new.core ≡ old.core → Stands new.core
         → ((name : List ℕ) → slice_get old.core.names owner ≡ Some name → new.out.items ≡ old.out.items ++ reply_line number (codes "cancel") id (codes "other" ∷ codes "tenant" ∷ name ∷ []))
-        → IsStep known (naming (own_of old.core) above hands (script.cancel id k tenant)) old (record { number = number; line = script.cancel id k tenant }) run.On new
+        → IsStep known (naming (own_of old.client old.core) above hands (script.cancel id k tenant)) old (record { number = number; line = script.cancel id k tenant }) run.On new
     step_others owner kn alone others left stands said =
         let before : IsKnown known old.core = subst (IsKnown known) left kn in
         let stood : Stands old.core = subst Stands left stands in
-        let law = open_in known above old.core k q old.core.limits old.core.names stood.legal alone h in
+        let law = open_in old.client known above old.core k q old.core.limits old.core.names stood.legal alone h in
         let named : others.name ≡ asker = owner_named others.opened others.name before law others.is_open
         (subst (λ (u : ℕ). slice_get old.core.names u ≡ Some others.name) (sym others.owned) others.named) in
         let differ : asker ≡ tenant → ⊥ = λ e. others.other (named ∙ e) in
-        step_stayed known (naming (own_of old.core) above hands (script.cancel id k tenant)) old new (record { number = number; line = script.cancel id k tenant }) nothing left refl refl
+        step_stayed known (naming (own_of old.client old.core) above hands (script.cancel id k tenant)) old new (record { number = number; line = script.cancel id k tenant }) nothing left refl refl
         (λ p. differ (sym p.1)) (keeps_same old new (ap (λ v. v.items) held) left)
         (said others.name others.named
         ∙ ap (λ (name : List ℕ). old.out.items ++ reply_line number (codes "cancel") id (codes "other" ∷ codes "tenant" ∷ name ∷ [])) named
         ∙ ap (λ (words : List (List ℕ)). old.out.items ++ reply_line number (codes "cancel") id words)
-        (sym (unfound_open tenant asker (moment_of k (own_of old.core)) h.asked h.asked.entry.what (answer_of (moment_of k (own_of old.core)) (own_of old.core))
-        (cancel_of (moment_of k (own_of old.core)) (own_of old.core)) h.there none_answered refl is_query
-        ∙ other_words tenant asker (cancel_of (moment_of k (own_of old.core)) (own_of old.core)) differ)))
+        (sym (unfound_open tenant asker (moment_of k (own_of old.client old.core)) h.asked h.asked.entry.what (answer_of (moment_of k (own_of old.client old.core)) (own_of old.client old.core))
+        (cancel_of (moment_of k (own_of old.client old.core)) (own_of old.client old.core)) h.there none_answered refl is_query
+        ∙ other_words tenant asker (cancel_of (moment_of k (own_of old.client old.core)) (own_of old.client old.core)) differ)))
 
     -- a query that was cancelled before
-    pub step_again : (place : ℕ) → IsKnown known new.core → Each (λ (e : Entry). e.client ≡ 0) old.core.journal → IsOwned old.core q tenant (Some place) → new.core ≡ old.core → Stands new.core
+    pub step_again : (place : ℕ) → IsKnown known new.core → Each (λ (e : Entry). e.client ≡ old.client) old.core.journal → IsOwned old.core q tenant (Some place) → new.core ≡ old.core → Stands new.core
         → new.out.items ≡ old.out.items ++ reply_line number (codes "cancel") id (codes "already" ∷ decimal place ∷ [])
-        → IsStep known (naming (own_of old.core) above hands (script.cancel id k tenant)) old (record { number = number; line = script.cancel id k tenant }) run.On new
-    step_again place kn alone owned left stands said = by (cancel_of (Some h.asked) (own_of old.core)) refl where
+        → IsStep known (naming (own_of old.client old.core) above hands (script.cancel id k tenant)) old (record { number = number; line = script.cancel id k tenant }) run.On new
+    step_again place kn alone owned left stands said = by (cancel_of (Some h.asked) (own_of old.client old.core)) refl where
       stood : Stands old.core
       stood = subst Stands left stands
 
       before : IsKnown known old.core
       before = subst (IsKnown known) left kn
 
-      law : IsOpenIn old.core (own_of old.core) h.asked h.tenant q
-      law = open_in known above old.core k q old.core.limits old.core.names stood.legal alone h
+      law : IsOpenIn old.core (own_of old.client old.core) h.asked h.tenant q
+      law = open_in old.client known above old.core k q old.core.limits old.core.names stood.legal alone h
 
       named : tenant ≡ asker
       named = owner_named owned.opened tenant before law owned.is_open owned.named
@@ -178,8 +178,8 @@ module _ (known : Known) (above : List Ran) (hands : List Hand) (old new : Clien
       one : law.open_query ≡ owned.opened
       one = let a = law.is_open in let b = owned.is_open in cc
 
-      by : (c : Option Moment) → cancel_of (Some h.asked) (own_of old.core) ≡ c
-          → IsStep known (naming (own_of old.core) above hands (script.cancel id k tenant)) old (record { number = number; line = script.cancel id k tenant }) run.On new
+      by : (c : Option Moment) → cancel_of (Some h.asked) (own_of old.client old.core) ≡ c
+          → IsStep known (naming (own_of old.client old.core) above hands (script.cancel id k tenant)) old (record { number = number; line = script.cancel id k tenant }) run.On new
       by None e =
           let none : owned.opened.cancelled ≡ None = subst (λ (o : Open). o.cancelled ≡ None) one (law.uncancelled e) in
           let some = owned.cancelled_at in
@@ -190,21 +190,21 @@ module _ (known : Known) (above : List Ran) (hands : List Hand) (old new : Clien
           let some = owned.cancelled_at in
           let both : Some place ≡ Some (place_of y) = sym some ∙ at_y in
           let place_is : place ≡ place_of y = cc in
-          let found : cancel_of (moment_of k (own_of old.core)) (own_of old.core) ≡ Some y = ap (λ (m : Option Moment). cancel_of m (own_of old.core)) h.there ∙ e in
-          step_stayed known (naming (own_of old.core) above hands (script.cancel id k tenant)) old new (record { number = number; line = script.cancel id k tenant }) nothing left refl refl
+          let found : cancel_of (moment_of k (own_of old.client old.core)) (own_of old.client old.core) ≡ Some y = ap (λ (m : Option Moment). cancel_of m (own_of old.client old.core)) h.there ∙ e in
+          step_stayed known (naming (own_of old.client old.core) above hands (script.cancel id k tenant)) old new (record { number = number; line = script.cancel id k tenant }) nothing left refl refl
           (λ p. let un = p.0.uncancelled in let bad : None ≡ Some y = sym un ∙ found in cc) (keeps_same old new (ap (λ v. v.items) held) left)
           (said
           ∙ ap (λ (i : ℕ). old.out.items ++ reply_line number (codes "cancel") id (codes "already" ∷ decimal i ∷ [])) place_is
           ∙ ap (λ (words : List (List ℕ)). old.out.items ++ reply_line number (codes "cancel") id words)
-          (sym (unfound_open tenant asker (moment_of k (own_of old.core)) h.asked h.asked.entry.what (answer_of (moment_of k (own_of old.core)) (own_of old.core))
-          (cancel_of (moment_of k (own_of old.core)) (own_of old.core)) h.there none_answered refl is_query
-          ∙ already_words tenant asker (cancel_of (moment_of k (own_of old.core)) (own_of old.core)) y found named)))
+          (sym (unfound_open tenant asker (moment_of k (own_of old.client old.core)) h.asked h.asked.entry.what (answer_of (moment_of k (own_of old.client old.core)) (own_of old.client old.core))
+          (cancel_of (moment_of k (own_of old.client old.core)) (own_of old.client old.core)) h.there none_answered refl is_query
+          ∙ already_words tenant asker (cancel_of (moment_of k (own_of old.client old.core)) (own_of old.client old.core)) y found named)))
 
 -- a query that no line answered is open
-pub absent : (known : Known) (above : List Ran) (c : CoreData) (k q : ℕ) → IsAskAt known above (own_of c) k q → Each (λ (e : Entry). e.client ≡ 0) c.journal → Stands c
+pub absent : (client : ℕ) (known : Known) (above : List Ran) (c : CoreData) (k q : ℕ) → IsAskAt known above (own_of client c) k q → Each (λ (e : Entry). e.client ≡ client) c.journal → Stands c
     → open_at q (machine_of c).queries ≡ None → ⊥
-absent known above c k q h alone s none =
-    let law = open_in known above c k q c.limits c.names s.legal alone h in
+absent client known above c k q h alone s none =
+    let law = open_in client known above c k q c.limits c.names s.legal alone h in
     let there = law.is_open in
     let bad : None ≡ Some law.open_query = sym none ∙ there in
     cc
@@ -233,11 +233,11 @@ unfound_shut tenant owner (Some (answer k d x y)) a c h = refl
 unfound_shut tenant owner None a c h = refl
 
 pub step_unfound : (known : Known) (above : List Ran) (hands : List Hand) (old new : Client) (number : ℕ) (id : List ℕ) (k : ℕ) (tenant : List ℕ) (s : Option Slot)
-    → new.core ≡ old.core → new.hands ≡ old.hands → IsNoQuery s → SlotRight known above (own_of old.core) k s
+    → new.core ≡ old.core → new.hands ≡ old.hands → IsNoQuery s → SlotRight known above (own_of old.client old.core) k s
     → new.out.items ≡ old.out.items ++ reply_line number (codes "cancel") id not_outstanding_words
-    → IsStep known (naming (own_of old.core) above hands (script.cancel id k tenant)) old (record { number = number; line = script.cancel id k tenant }) run.On new
+    → IsStep known (naming (own_of old.client old.core) above hands (script.cancel id k tenant)) old (record { number = number; line = script.cancel id k tenant }) run.On new
 step_unfound known above hands old new number id k tenant s same held vacant right said =
-    let own = own_of old.core in
+    let own = own_of old.client old.core in
     let shut = shut_right known above own k s vacant right in
     step_stayed known (naming own above hands (script.cancel id k tenant)) old new (record { number = number; line = script.cancel id k tenant }) nothing same refl refl
     (λ p. shut p.0.query p.0.unanswered) (keeps_same old new (ap (λ v. v.items) held) same)

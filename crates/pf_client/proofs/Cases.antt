@@ -9,6 +9,10 @@ pub if_ok_map : {A E : Type 0} (P Q : A → Type 0) (r : Result A E) → ((x : A
 if_ok_map P Q (Ok x) f h = f x h
 if_ok_map P Q (Err e) f h = tt
 
+pub if_ok_two : {A E : Type 0} (P : Type 0) (Q R : A → Type 0) (r : Result A E) → ((x : A) → P → Q x → R x) → OnOk r P → IfOk r Q → IfOk r R
+if_ok_two P Q R (Ok x) f p h = f x p h
+if_ok_two P Q R (Err e) f p h = tt
+
 pub on_ok_all : {A E : Type 0} (P : Type 0) (r : Result A E) → P → OnOk r P
 on_ok_all P (Ok x) p = p
 on_ok_all P (Err e) p = tt

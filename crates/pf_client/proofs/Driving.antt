@@ -69,27 +69,30 @@ drop_all : {X : Type 0} (xs : List X) → drop (length xs) xs ≡ []
 drop_all [] = refl
 drop_all (x ∷ xs) = drop_all xs
 
-each_by : (P : Entry → Type 0) (journal : List Entry) (n : ℕ) (entered : Option What) → Each P journal
-    → ((what : What) → entered ≡ Some what → P (entry_by n what)) → Each P (journal ++ entries_by n entered)
-each_by P journal n None h f = subst (Each P) (sym (append-nil journal)) h
-each_by P journal n (Some what) h f = each_snoc P journal (entry_by n what) h (f what refl)
+each_by : (P : Entry → Type 0) (journal : List Entry) (client n : ℕ) (entered : Option What) → Each P journal
+    → ((what : What) → entered ≡ Some what → P (entry_by client n what)) → Each P (journal ++ entries_by client n entered)
+each_by P journal client n None h f = subst (Each P) (sym (append-nil journal)) h
+each_by P journal client n (Some what) h f = each_snoc P journal (entry_by client n what) h (f what refl)
 
 -- ---- the machine behind a line
 
-count_on : (journal : List Entry) (n : ℕ) (entered : Option What) → (machine_after started journal).count ≤ (machine_after started (journal ++ entries_by n entered)).count
-count_on journal n None = let e = ap (λ (es : List Entry). (machine_after started es).count) (append-nil journal) in omega (arith, e)
-count_on journal n (Some what) = let e = ap (λ (m : Machine). m.count) (machine-snoc started journal (entry_by n what)) in omega (arith, e)
+count_on : (journal : List Entry) (client n : ℕ) (entered : Option What) → (machine_after started journal).count ≤ (machine_after started (journal ++ entries_by client n entered)).count
+count_on journal client n None = let e = ap (λ (es : List Entry). (machine_after started es).count) (append-nil journal) in omega (arith, e)
+count_on journal client n (Some what) = let e = ap (λ (m : Machine). m.count) (machine-snoc started journal (entry_by client n what)) in omega (arith, e)
 
-count_entered : (journal : List Entry) (n : ℕ) (what : What) → (machine_after started journal).count < (machine_after started (journal ++ entry_by n what ∷ [])).count
-count_entered journal n what = let e = ap (λ (m : Machine). m.count) (machine-snoc started journal (entry_by n what)) in omega (arith, e)
+count_entered : (journal : List Entry) (client n : ℕ) (what : What) → (machine_after started journal).count < (machine_after started (journal ++ entry_by client n what ∷ [])).count
+count_entered journal client n what = let e = ap (λ (m : Machine). m.count) (machine-snoc started journal (entry_by client n what)) in omega (arith, e)
 
 -- ---- one line
 
 module _ (known : Known) (lines : List Numbered) (told : List Told) (sent : List ℕ) (l : Numbered) (old new : Client) (r : LineRun)
     (there : slice_get lines (length told) ≡ Some l) (follows : Follows (take (length told) lines) l) (h : HasTold known lines told at_end sent old)
-    (step : IsStep known (naming (own_of old.core) (last_first [] (ran_lines lines told)) (hands_last [] (ran_lines lines told)) l.line) old l r new) where
-  own_new : own_of new.core ≡ own_with (own_of old.core) (machine_of old.core) l.number step.entered
-  own_new = ap (λ (es : List Entry). own_moments 0 (moments es)) step.journal ∙ own_on old.core.journal l.number step.entered
+    (step : IsStep known (naming (own_of old.client old.core) (last_first [] (ran_lines lines told)) (hands_last [] (ran_lines lines told)) l.line) old l r new)
+    (same_client : new.client ≡ old.client) where
+  own_new : own_of new.client new.core ≡ own_with (own_of old.client old.core) (machine_of old.core) old.client l.number step.entered
+  own_new =
+      ap (λ (i : ℕ). own_of i new.core) same_client ∙ ap (λ (es : List Entry). own_moments old.client (moments es)) step.journal
+      ∙ own_on old.core.journal old.client l.number step.entered
 
   behind : last_first [] (ran_lines lines told) ≡ lines_behind [] (ran_lines lines told)
   behind = same_behind [] (ran_lines lines told)
@@ -104,24 +107,26 @@ module _ (known : Known) (lines : List Numbered) (told : List Told) (sent : List
   pub told_on : HasTold known lines (told ++ step.told ∷ []) at_end sent new
   told_on = record {
     woven = subst (λ (own : List Moment). Woven known own lines (going told step.told at_end)) (sym own_new)
-        (woven_on known (own_of old.core) (machine_of old.core) lines told l step.told step.entered h.woven there follows.first follows.rising
-        (subst (λ (hands : List Hand). IsMatched known (turn_by (naming (own_of old.core) (lines_behind [] (ran_lines lines told)) hands l.line step.told) l step.told (moment_with (machine_of old.core) l.number step.entered)) (moment_with (machine_of old.core) l.number step.entered)) in_hand
-        (subst (λ (above : List Ran). IsMatched known (turn_by (naming (own_of old.core) above (hands_last [] (ran_lines lines told)) l.line step.told) l step.told (moment_with (machine_of old.core) l.number step.entered)) (moment_with (machine_of old.core) l.number step.entered)) behind step.matched))
+        (woven_on known (own_of old.client old.core) (machine_of old.core) old.client lines told l step.told step.entered h.woven there follows.first follows.rising
+        (subst (λ (hands : List Hand). IsMatched known (turn_by (naming (own_of old.client old.core) (lines_behind [] (ran_lines lines told)) hands l.line step.told) l step.told (moment_with (machine_of old.core) old.client l.number step.entered)) (moment_with (machine_of old.core) old.client l.number step.entered)) in_hand
+        (subst (λ (above : List Ran). IsMatched known (turn_by (naming (own_of old.client old.core) above (hands_last [] (ran_lines lines told)) l.line step.told) l step.told (moment_with (machine_of old.core) old.client l.number step.entered)) (moment_with (machine_of old.core) old.client l.number step.entered)) behind step.matched))
         step.roomy);
-    said = text_on known (own_of old.core) (machine_of old.core) lines told l step.told step.entered (sent ++ old.out.items) (sent ++ new.out.items) h.woven there follows.rising h.said
-        (behind_sent _ (subst (λ (hands : List Hand). new.out.items ≡ old.out.items ++ reply_of known (turn_by (naming (own_of old.core) (lines_behind [] (ran_lines lines told)) hands l.line step.told) l step.told (moment_with (machine_of old.core) l.number step.entered))) in_hand
-        (subst (λ (above : List Ran). new.out.items ≡ old.out.items ++ reply_of known (turn_by (naming (own_of old.core) above (hands_last [] (ran_lines lines told)) l.line step.told) l step.told (moment_with (machine_of old.core) l.number step.entered))) behind step.said)))
-        ∙ ap (λ (own : List Moment). client_text known own 0 lines (going told step.told at_end)) (sym own_new);
-    alone = subst (Each (λ e. e.client ≡ 0)) (sym step.journal) (each_by (λ e. e.client ≡ 0) old.core.journal l.number step.entered h.alone (λ what e. refl));
+    said = text_on known (own_of old.client old.core) (machine_of old.core) old.client lines told l step.told step.entered (sent ++ old.out.items) (sent ++ new.out.items) h.woven there follows.rising h.said
+        (behind_sent _ (subst (λ (hands : List Hand). new.out.items ≡ old.out.items ++ reply_of known (turn_by (naming (own_of old.client old.core) (lines_behind [] (ran_lines lines told)) hands l.line step.told) l step.told (moment_with (machine_of old.core) old.client l.number step.entered))) in_hand
+        (subst (λ (above : List Ran). new.out.items ≡ old.out.items ++ reply_of known (turn_by (naming (own_of old.client old.core) above (hands_last [] (ran_lines lines told)) l.line step.told) l step.told (moment_with (machine_of old.core) old.client l.number step.entered))) behind step.said)))
+        ∙ ap (λ (own : List Moment). client_text known own old.client lines (going told step.told at_end)) (sym own_new)
+        ∙ ap (λ (i : ℕ). client_text known (own_of new.client new.core) i lines (going told step.told at_end)) (sym same_client);
+    alone = subst (λ (i : ℕ). Each (λ e. e.client ≡ i) new.core.journal) (sym same_client)
+        (subst (Each (λ e. e.client ≡ old.client)) (sym step.journal) (each_by (λ e. e.client ≡ old.client) old.core.journal old.client l.number step.entered h.alone (λ what e. refl)));
     tried = tried_next old.core new.core told step.told step.tried h.tried;
   }
 
-  own_low : Each (λ x. x.entry.line < l.number) (own_of old.core)
-  own_low = own_below (own_of old.core) (take (length told) lines) l.number follows.rising h.woven.lined
+  own_low : Each (λ x. x.entry.line < l.number) (own_of old.client old.core)
+  own_low = own_below (own_of old.client old.core) (take (length told) lines) l.number follows.rising h.woven.lined
 
   grown : (machine_of old.core).count ≤ (machine_of new.core).count
   grown =
-      let more = count_on old.core.journal l.number step.entered in
+      let more = count_on old.core.journal old.client l.number step.entered in
       let e = ap (λ (es : List Entry). (machine_after started es).count) step.journal in
       omega (arith, more, e)
 
@@ -134,11 +139,11 @@ module _ (known : Known) (lines : List Numbered) (told : List Told) (sent : List
   hands_on : HaveHands old (hands_last [] (ran_lines lines told)) → HaveHands new (hands_last [] (ran_lines lines (told ++ step.told ∷ [])))
   hands_on have =
       subst (HaveHands new) (sym (ap (hands_last []) ran_on ∙ hands_last-snoc [] (ran_lines lines told) (record { line = l; told = step.told })))
-      (hands_next l.line step.told old new (hands_last [] (ran_lines lines told)) (live_before old.core new.core l.number step.entered step.journal) step.hands have)
+      (hands_next l.line step.told old new (hands_last [] (ran_lines lines told)) (live_before old.core new.core old.client l.number step.entered step.journal) step.hands have)
 
   -- the client goes on
   pub goes_on : {limits : Limits} → r ≡ run.On → old.core.limits ≡ limits → Each (λ x. stops_at x.line.line x.told ≡ None) (ran_lines lines told)
-      → HaveSlots known (record { line = l; told = step.told } ∷ last_first [] (ran_lines lines told)) (own_with (own_of old.core) (machine_of old.core) l.number step.entered)
+      → HaveSlots known (record { line = l; told = step.told } ∷ last_first [] (ran_lines lines told)) (own_with (own_of old.client old.core) (machine_of old.core) old.client l.number step.entered)
       (machine_of new.core).count (take (length told) lines ++ l ∷ []) new.slots
       → AreKept new.core new.slots → HaveHands old (hands_last [] (ran_lines lines told))
       → Going known limits lines (length told + 1) sent new
@@ -154,9 +159,9 @@ module _ (known : Known) (lines : List Numbered) (told : List Told) (sent : List
         many = many_more;
         has_told = told_on;
         goes = subst (Each (λ x. stops_at x.line.line x.told ≡ None)) (sym ran_on) (each_snoc _ (ran_lines lines told) (record { line = l; told = step.told }) goes ends);
-        slots = subst (λ (above : List Ran). HaveSlots known above (own_of new.core) (machine_of new.core).count (take (length told + 1) lines) new.slots) (sym lf)
+        slots = subst (λ (above : List Ran). HaveSlots known above (own_of new.client new.core) (machine_of new.core).count (take (length told + 1) lines) new.slots) (sym lf)
             (subst (λ (own : List Moment). HaveSlots known (record { line = l; told = step.told } ∷ last_first [] (ran_lines lines told)) own (machine_of new.core).count (take (length told + 1) lines) new.slots) (sym own_new)
-            (subst (λ (done : List Numbered). HaveSlots known (record { line = l; told = step.told } ∷ last_first [] (ran_lines lines told)) (own_with (own_of old.core) (machine_of old.core) l.number step.entered) (machine_of new.core).count done new.slots) (sym more) slots));
+            (subst (λ (done : List Numbered). HaveSlots known (record { line = l; told = step.told } ∷ last_first [] (ran_lines lines told)) (own_with (own_of old.client old.core) (machine_of old.core) old.client l.number step.entered) (machine_of new.core).count done new.slots) (sym more) slots));
         kept = kept;
         hands = hands_on hands;
       } where
@@ -164,7 +169,7 @@ module _ (known : Known) (lines : List Numbered) (told : List Told) (sent : List
         add_one n = omega arith
 
   -- the line stops the client
-  stops_by : {limits : Limits} (why : Why) → stops_at l.line step.told ≡ Some why → Lacks known.limits new.core.journal 0 l.line why
+  stops_by : {limits : Limits} (why : Why) → stops_at l.line step.told ≡ Some why → Lacks known.limits new.core.journal new.client l.line why
       → old.core.limits ≡ limits → Each (λ x. stops_at x.line.line x.told ≡ None) (ran_lines lines told) → HasRun known limits lines why sent new
   stops_by why stopped lacks limited goes =
       let on = told_on in
@@ -178,8 +183,8 @@ module _ (known : Known) (lines : List Numbered) (told : List Told) (sent : List
           alone = on.alone;
           tried = on.tried;
         };
-        runs = subst (RunsTo known.limits new.core.journal 0 why (drop (length (told ++ step.told ∷ [])) lines)) (sym ran_on)
-            (runs_to_stop known.limits new.core.journal 0 why (drop (length (told ++ step.told ∷ [])) lines) (ran_lines lines told) (record { line = l; told = step.told }) goes stopped lacks);
+        runs = subst (RunsTo known.limits new.core.journal new.client why (drop (length (told ++ step.told ∷ [])) lines)) (sym ran_on)
+            (runs_to_stop known.limits new.core.journal new.client why (drop (length (told ++ step.told ∷ [])) lines) (ran_lines lines told) (record { line = l; told = step.told }) goes stopped lacks);
       }
 
   -- it met the full journal
@@ -187,12 +192,12 @@ module _ (known : Known) (lines : List Numbered) (told : List Told) (sent : List
   stops_here stopped limited kn goes =
       let ends : Ends old.core l.line step.told step.entered run.Full = subst (Ends old.core l.line step.told step.entered) stopped step.ends in
       let journal : new.core.journal ≡ old.core.journal =
-      step.journal ∙ ap (λ (w : Option What). old.core.journal ++ entries_by l.number w) ends.1.0 ∙ append-nil old.core.journal in
+      step.journal ∙ ap (λ (w : Option What). old.core.journal ++ entries_by old.client l.number w) ends.1.0 ∙ append-nil old.core.journal in
       let same : known.limits ≡ old.core.limits = kn.limits ∙ step.limits in
       let whole : take (length new.core.journal) new.core.journal ≡ old.core.journal = take_all new.core.journal ∙ journal in
-      let lacks : LacksRoom known.limits new.core.journal 0 l.line = record {
+      let lacks : LacksRoom known.limits new.core.journal new.client l.line = record {
         front = length new.core.journal;
-        has_all = subst (Each (λ e. e.client ≡ 0 → ⊥)) (sym (drop_all new.core.journal)) tt;
+        has_all = subst (Each (λ e. e.client ≡ new.client → ⊥)) (sym (drop_all new.core.journal)) tt;
         over = subst (λ (es : List Entry). known.limits.journal < (machine_after started es).count + reserved (machine_after started es).queries + room_of l.line) (sym whole)
             (subst (λ (m : Limits). m.journal < (machine_of old.core).count + reserved (machine_of old.core).queries + room_of l.line) (sym same) ends.1.1);
       } in
@@ -226,9 +231,9 @@ abbrev pub IsMatchedAs : Known → Turn → Line → Option What → Type 0
 IsMatchedAs known t line None = Unit {0}
 IsMatchedAs known t line (Some what) = Fits known t line what
 
-pub matched_as : (known : Known) (t : Turn) (m : Machine) (n : ℕ) (entered : Option What) → IsMatched known t (moment_with m n entered) → IsMatchedAs known t t.ran.line.line entered
-matched_as known t m n None h = tt
-matched_as known t m n (Some what) h = h.0
+pub matched_as : (known : Known) (t : Turn) (m : Machine) (client n : ℕ) (entered : Option What) → IsMatched known t (moment_with m client n entered) → IsMatchedAs known t t.ran.line.line entered
+matched_as known t m client n None h = tt
+matched_as known t m client n (Some what) h = h.0
 
 leaves_all : (known : Known) (t : Turn) (line : Line) (entered : Option What) → IsNotAnswer line → IsMatchedAs known t line entered → (s : Option Slot) → LeavesSlot s entered
 leaves_all known t line None quiet h s = λ q e. refl
@@ -242,13 +247,13 @@ leaves_all known t line (Some (answer k code c x)) quiet h s = λ q e. no_answer
 
 -- what is kept of a query that was opened is new
 fresh_slot : (known : Known) (l : Numbered) (old new : Client) (told : Told) (entered : Option What) (kept : Slot) → IsSlot known l.line old.core new.core told entered kept
-    → new.core.journal ≡ old.core.journal ++ entries_by l.number entered
+    → new.core.journal ≡ old.core.journal ++ entries_by old.client l.number entered
     → (q : ℕ) → kept ≡ slot.Asked q → (q ≡ (machine_of old.core).count) × (q < (machine_of new.core).count)
 fresh_slot known l old new told None kept is journal q e = absurd (subst (IsSlot known l.line old.core new.core told None) e is).by_ask
 fresh_slot known l old new told (Some what) kept is journal q e =
     let opened = subst (IsSlot known l.line old.core new.core told (Some what)) e is in
     let place = opened.place in
-    let more = count_entered old.core.journal l.number what in
+    let more = count_entered old.core.journal old.client l.number what in
     let c = ap (λ (es : List Entry). (machine_after started es).count) journal in
     (place, omega (arith, place, more, c))
 
@@ -271,29 +276,29 @@ leaves_others known above own count done slots k entered have closes j apart = �
   by (Some slot.TooManyTenants) f q e = refl
   by (Some slot.NoMemory) f q e = refl
 
-shut_by : (known : Known) (above above' : List Ran) (own : List Moment) (m : Machine) (n j : ℕ) (entered : Option What) (s : Option Slot) → (n ≡ j → ⊥) → (s ≡ None → ⊥)
-    → ((q : ℕ) → answers q entered ≡ is_query q s) → SlotRight known above own j s → SlotRight known above' (own_with own m n entered) j None
-shut_by known above above' own m n j entered None apart kept closes right = absurd (kept refl)
-shut_by known above above' own m n j entered (Some s) apart kept closes right = slot_shut known above above' own m n j entered s apart closes right
+shut_by : (known : Known) (above above' : List Ran) (own : List Moment) (m : Machine) (client n j : ℕ) (entered : Option What) (s : Option Slot) → (n ≡ j → ⊥) → (s ≡ None → ⊥)
+    → ((q : ℕ) → answers q entered ≡ is_query q s) → SlotRight known above own j s → SlotRight known above' (own_with own m client n entered) j None
+shut_by known above above' own m client n j entered None apart kept closes right = absurd (kept refl)
+shut_by known above above' own m client n j entered (Some s) apart kept closes right = slot_shut known above above' own m client n j entered s apart closes right
 
 -- what is kept of asks behind a line that answers, or waits
-slots_by : (known : Known) (above : List Ran) (r : Ran) (own : List Moment) (m : Machine) (done : List Numbered) (l : Numbered) (k : ℕ) (id : List ℕ) (entered : Option What) (count : ℕ) (slots slots' : Slots)
+slots_by : (known : Known) (above : List Ran) (r : Ran) (own : List Moment) (m : Machine) (client : ℕ) (done : List Numbered) (l : Numbered) (k : ℕ) (id : List ℕ) (entered : Option What) (count : ℕ) (slots slots' : Slots)
     → (answered : Bool) → Each (λ b. b.number < l.number) done → r.line.number ≡ l.number → m.count ≤ count → l.line ≡ script.answer id k
     → IsAsk id (line_at k done)
     → ((q : ℕ) → answers q entered ≡ cond answered (is_query q (get nat_cmp slots k)) false)
     → ((j : ℕ) → get nat_cmp slots' j ≡ cond (nat_eq k j) (left_of answered (get nat_cmp slots k)) (get nat_cmp slots j))
     → (get nat_cmp slots k ≡ None → ⊥) → SlotRight known above own k (get nat_cmp slots k)
     → HaveSlots known above own m.count done slots
-    → HaveSlots known (r ∷ above) (own_with own m l.number entered) count (done ++ l ∷ []) slots'
-slots_by known above r own m done l k id entered count slots slots' true low same grows is names closes left kept_it right have =
+    → HaveSlots known (r ∷ above) (own_with own m client l.number entered) count (done ++ l ∷ []) slots'
+slots_by known above r own m client done l k id entered count slots slots' true low same grows is names closes left kept_it right have =
     let below = ask_below k l.number id done low names in
-    slots_answered known above r own m done l k entered count slots slots'
+    slots_answered known above r own m client done l k entered count slots slots'
     low same grows (λ i a. subst (λ (x : Line). IsAsk i (Some x)) is a) (subst (λ (x : Line). IsAnswerOf x k) (sym is) refl)
     (leaves_others known above own m.count done slots k entered have closes) left
-    (shut_by known above (r ∷ above) own m l.number k entered (get nat_cmp slots k) (λ e. omega (arith, e, below)) kept_it closes right) have
-slots_by known above r own m done l k id entered count slots slots' false low same grows is names closes left kept_it right have =
-    slots_as known (r ∷ above) (own_with own m l.number entered) count (done ++ l ∷ []) slots slots' (λ j. left j ∙ unmoved j (nat_eq k j) refl)
-    (slots_same known above r own m done l entered count slots low same grows (λ i a. subst (λ (x : Line). IsAsk i (Some x)) is a) (λ j q e. closes q) have) where
+    (shut_by known above (r ∷ above) own m client l.number k entered (get nat_cmp slots k) (λ e. omega (arith, e, below)) kept_it closes right) have
+slots_by known above r own m client done l k id entered count slots slots' false low same grows is names closes left kept_it right have =
+    slots_as known (r ∷ above) (own_with own m client l.number entered) count (done ++ l ∷ []) slots slots' (λ j. left j ∙ unmoved j (nat_eq k j) refl)
+    (slots_same known above r own m client done l entered count slots low same grows (λ i a. subst (λ (x : Line). IsAsk i (Some x)) is a) (λ j q e. closes q) have) where
       unmoved : (j : ℕ) (b : Bool) → nat_eq k j ≡ b → cond b (get nat_cmp slots k) (get nat_cmp slots j) ≡ get nat_cmp slots j
       unmoved j true t = let e : k ≡ j = grind (arith, nat_tests, t) in ap (get nat_cmp slots) e
       unmoved j false t = refl
@@ -320,20 +325,20 @@ no_ask known t line (Some (cancel k)) asks h q = q
 no_ask known t line (Some (answer k code c x)) asks h q = q
 no_ask known t line None asks h q = q
 
-kept_on : (old new : CoreData) (slots slots' : Slots) (n : ℕ) (entered : Option What) → new.journal ≡ old.journal ++ entries_by n entered → (HasQuery entered → ⊥)
+kept_on : (old new : CoreData) (slots slots' : Slots) (client n : ℕ) (entered : Option What) → new.journal ≡ old.journal ++ entries_by client n entered → (HasQuery entered → ⊥)
     → slots' ≡ slots → AreKept old slots → AreKept new slots'
-kept_on old new slots slots' n entered journal none same kept q o g = by (open_before old new n entered journal q o g) where
+kept_on old new slots slots' client n entered journal none same kept q o g = by (open_before old new client n entered journal q o g) where
   by : WasOpen q (machine_of old).queries o ⊎ (HasQuery entered × (q ≡ (machine_of old).count)) → (k : ℕ) × (get nat_cmp slots' k ≡ Some (slot.Asked q))
   by (inl w) = let k = kept q w.0 w.1.0 in (k.0, ap (λ (s : Slots). get nat_cmp s k.0) same ∙ k.1)
   by (inr e) = absurd (none e.0)
 
 -- a line that asks
 kept_asked : (known : Known) (l : Numbered) (old new : Client) (told : Told) (entered : Option What) (kept : Slot) → IsSlot known l.line old.core new.core told entered kept
-    → new.core.journal ≡ old.core.journal ++ entries_by l.number entered
+    → new.core.journal ≡ old.core.journal ++ entries_by old.client l.number entered
     → ((k : ℕ) → get nat_cmp new.slots k ≡ cond (nat_eq l.number k) (Some kept) (get nat_cmp old.slots k))
     → ((k : ℕ) (s : Slot) → get nat_cmp old.slots k ≡ Some s → k < l.number)
     → AreKept old.core old.slots → AreKept new.core new.slots
-kept_asked known l old new told entered kept is journal now low have q o g = by (open_before old.core new.core l.number entered journal q o g) where
+kept_asked known l old new told entered kept is journal now low have q o g = by (open_before old.core new.core old.client l.number entered journal q o g) where
   self : nat_eq l.number l.number ≡ true
   self = grind (arith, nat_tests)
 
@@ -353,35 +358,35 @@ kept_asked known l old new told entered kept is journal now low have q o g = by 
       (k.0, now k.0 ∙ rw off k.1)
   by (inr e) = (l.number, now l.number ∙ rw self (ap (λ (x : Slot). Some x) (here kept is e.0 e.1)))
 
-answered_shut : (old new : CoreData) (n q : ℕ) (o : Open) (entered : Option What) → new.journal ≡ old.journal ++ entries_by n entered → answers q entered ≡ true
+answered_shut : (old new : CoreData) (client n q : ℕ) (o : Open) (entered : Option What) → new.journal ≡ old.journal ++ entries_by client n entered → answers q entered ≡ true
     → open_at q (machine_of new).queries ≡ Some o → ⊥
-answered_shut old new n q o None journal a g = cc
-answered_shut old new n q o (Some (answer k code c x)) journal a g =
+answered_shut old new client n q o None journal a g = cc
+answered_shut old new client n q o (Some (answer k code c x)) journal a g =
     let shut = closes_it (machine_of old) k code c x q o
-    (subst (λ (m : Machine). open_at q m.queries ≡ Some o) (machine-snoc started old.journal (entry_by n (answer k code c x)))
+    (subst (λ (m : Machine). open_at q m.queries ≡ Some o) (machine-snoc started old.journal (entry_by client n (answer k code c x)))
     (subst (λ (es : List Entry). open_at q (machine_after started es).queries ≡ Some o) journal g)) in
     let bad : true ≡ false = sym a ∙ shut in
     cc
-answered_shut old new n q o (Some (append u b vs e)) journal a g = cc
-answered_shut old new n q o (Some (delete u ms from to h e)) journal a g = cc
-answered_shut old new n q o (Some (ask u b p h f)) journal a g = cc
-answered_shut old new n q o (Some (full u k)) journal a g = cc
-answered_shut old new n q o (Some (no_tenant name)) journal a g = cc
-answered_shut old new n q o (Some (cancel k)) journal a g = cc
+answered_shut old new client n q o (Some (append u b vs e)) journal a g = cc
+answered_shut old new client n q o (Some (delete u ms from to h e)) journal a g = cc
+answered_shut old new client n q o (Some (ask u b p h f)) journal a g = cc
+answered_shut old new client n q o (Some (full u k)) journal a g = cc
+answered_shut old new client n q o (Some (no_tenant name)) journal a g = cc
+answered_shut old new client n q o (Some (cancel k)) journal a g = cc
 
 -- a line that answers
-kept_answered : (old new : Client) (n line : ℕ) (entered : Option What) (answered : Bool) → new.core.journal ≡ old.core.journal ++ entries_by n entered → (HasQuery entered → ⊥)
+kept_answered : (old new : Client) (n line : ℕ) (entered : Option What) (answered : Bool) → new.core.journal ≡ old.core.journal ++ entries_by old.client n entered → (HasQuery entered → ⊥)
     → ((q : ℕ) → answers q entered ≡ cond answered (is_query q (get nat_cmp old.slots line)) false)
     → ((k : ℕ) → get nat_cmp new.slots k ≡ cond (nat_eq line k) (left_of answered (get nat_cmp old.slots line)) (get nat_cmp old.slots k))
     → AreKept old.core old.slots → AreKept new.core new.slots
-kept_answered old new n line entered answered journal none closes now have q o g = by (open_before old.core new.core n entered journal q o g) where
+kept_answered old new n line entered answered journal none closes now have q o g = by (open_before old.core new.core old.client n entered journal q o g) where
   left : (b : Bool) (k : ℕ) → answered ≡ b → get nat_cmp old.slots k ≡ Some (slot.Asked q) → line ≡ k → left_of b (get nat_cmp old.slots line) ≡ Some (slot.Asked q)
   left false k e there same = ap (get nat_cmp old.slots) same ∙ there
   left true k e there same =
       let at_line : get nat_cmp old.slots line ≡ Some (slot.Asked q) = ap (get nat_cmp old.slots) same ∙ there in
       let self : nat_eq q q ≡ true = grind (arith, nat_tests) in
       let it : answers q entered ≡ true = closes q ∙ ap (λ (b : Bool). cond b (is_query q (get nat_cmp old.slots line)) false) e ∙ ap (is_query q) at_line ∙ self in
-      absurd (answered_shut old.core new.core n q o entered journal it g)
+      absurd (answered_shut old.core new.core old.client n q o entered journal it g)
 
   by : WasOpen q (machine_of old.core).queries o ⊎ (HasQuery entered × (q ≡ (machine_of old.core).count)) → (k : ℕ) × (get nat_cmp new.slots k ≡ Some (slot.Asked q))
   by (inr e) = absurd (none e.0)
@@ -394,19 +399,19 @@ kept_answered old new n line entered answered journal none closes now have q o g
         at_it k there false t = there
 
 -- each open query was asked by a line above
-pub asked_all : (known : Known) (above : List Ran) (c : CoreData) (count : ℕ) (done : List Numbered) (slots : Slots) → HaveSlots known above (own_of c) count done slots → AreKept c slots
-    → AreAsked known above c
-asked_all known above c count done slots have kept q o g =
+pub asked_all : (client : ℕ) (known : Known) (above : List Ran) (c : CoreData) (count : ℕ) (done : List Numbered) (slots : Slots) → HaveSlots known above (own_of client c) count done slots → AreKept c slots
+    → AreAsked client known above c
+asked_all client known above c count done slots have kept q o g =
     let k = kept q o g in
     let a = have.only k.0 (slot.Asked q) k.1 in
-    (k.0, subst (SlotRight known above (own_of c) k.0) k.1 (have.right k.0 a.0 a.1))
+    (k.0, subst (SlotRight known above (own_of client c) k.0) k.1 (have.right k.0 a.0 a.1))
 
 -- ---- what running a line makes of its client
 
 -- a line that names no query
-pub plain_goes : (loaded : Loaded) (old new : Client) (l : Numbered) (r : LineRun) → IsNotAnswer l.line → ((id : List ℕ) → IsAsk id (Some l.line) → ⊥)
+pub plain_goes : (loaded : Loaded) (old new : Client) (l : Numbered) (r : LineRun) → new.client ≡ old.client → IsNotAnswer l.line → ((id : List ℕ) → IsAsk id (Some l.line) → ⊥)
     → ((known : Known) → IsTold known loaded → Runs known old l r new) → new.slots ≡ old.slots → GoesOn loaded old l r new
-plain_goes loaded old new l r quiet asks runs slots = λ limits lines n sent there follows going. by r refl limits lines n sent there follows going where
+plain_goes loaded old new l r same_client quiet asks runs slots = λ limits lines n sent there follows going. by r refl limits lines n sent there follows going where
   empty : Told → Naming
   empty told = record { hands = []; asking = None; asked = None; cancelled = None; answered = None }
 
@@ -419,34 +424,34 @@ plain_goes loaded old new l r quiet asks runs slots = λ limits lines n sent the
       let above = last_first [] (ran_lines lines g.told) in
       let at : slice_get lines (length g.told) ≡ Some l = subst (λ (i : ℕ). slice_get lines i ≡ Some l) (sym g.many) there in
       let behind : Follows (take (length g.told) lines) l = subst (λ (i : ℕ). Follows (take i lines) l) (sym g.many) follows in
-      let step = runs known told (naming (own_of old.core) above (hands_last [] (ran_lines lines g.told)) l.line) kn in
-      let turn = turn_by (naming (own_of old.core) above (hands_last [] (ran_lines lines g.told)) l.line step.told) l step.told (moment_with (machine_of old.core) l.number step.entered) in
-      let matched = matched_as known turn (machine_of old.core) l.number step.entered step.matched in
-      let kept = slots_same known above (record { line = l; told = step.told }) (own_of old.core) (machine_of old.core) (take (length g.told) lines) l step.entered (machine_of new.core).count old.slots
-      behind.rising refl (grown known lines g.told sent l old new r at behind g.has_told step) asks
+      let step = runs known told (naming (own_of old.client old.core) above (hands_last [] (ran_lines lines g.told)) l.line) kn in
+      let turn = turn_by (naming (own_of old.client old.core) above (hands_last [] (ran_lines lines g.told)) l.line step.told) l step.told (moment_with (machine_of old.core) old.client l.number step.entered) in
+      let matched = matched_as known turn (machine_of old.core) old.client l.number step.entered step.matched in
+      let kept = slots_same known above (record { line = l; told = step.told }) (own_of old.client old.core) (machine_of old.core) old.client (take (length g.told) lines) l step.entered (machine_of new.core).count old.slots
+      behind.rising refl (grown known lines g.told sent l old new r at behind g.has_told step same_client) asks
       (λ k. leaves_all known turn l.line step.entered quiet matched (get nat_cmp old.slots k))
-      (subst (λ (i : ℕ). HaveSlots known above (own_of old.core) (machine_of old.core).count (take i lines) old.slots) (sym g.many) g.slots) in
+      (subst (λ (i : ℕ). HaveSlots known above (own_of old.client old.core) (machine_of old.core).count (take i lines) old.slots) (sym g.many) g.slots) in
       subst (λ (i : ℕ). Going known limits lines (i + 1) sent new) g.many
-      (goes_on known lines g.told sent l old new r at behind g.has_told step (sym e) g.limited g.goes
-      (subst (λ (s : Slots). HaveSlots known (record { line = l; told = step.told } ∷ above) (own_with (own_of old.core) (machine_of old.core) l.number step.entered) (machine_of new.core).count (take (length g.told) lines ++ l ∷ []) s) (sym slots) kept)
-      (kept_on old.core new.core old.slots new.slots l.number step.entered step.journal (no_ask known turn l.line step.entered asks matched) slots g.kept) g.hands)
+      (goes_on known lines g.told sent l old new r at behind g.has_told step same_client (sym e) g.limited g.goes
+      (subst (λ (s : Slots). HaveSlots known (record { line = l; told = step.told } ∷ above) (own_with (own_of old.client old.core) (machine_of old.core) old.client l.number step.entered) (machine_of new.core).count (take (length g.told) lines ++ l ∷ []) s) (sym slots) kept)
+      (kept_on old.core new.core old.slots new.slots old.client l.number step.entered step.journal (no_ask known turn l.line step.entered asks matched) slots g.kept) g.hands)
   by run.Full e limits lines n sent there follows going = λ known told kn.
       let g = going known told (before known told kn) in
       let at : slice_get lines (length g.told) ≡ Some l = subst (λ (i : ℕ). slice_get lines i ≡ Some l) (sym g.many) there in
       let behind : Follows (take (length g.told) lines) l = subst (λ (i : ℕ). Follows (take i lines) l) (sym g.many) follows in
-      let step = runs known told (naming (own_of old.core) (last_first [] (ran_lines lines g.told)) (hands_last [] (ran_lines lines g.told)) l.line) kn in
-      stops_here known lines g.told sent l old new r at behind g.has_told step (sym e) g.limited kn g.goes
+      let step = runs known told (naming (own_of old.client old.core) (last_first [] (ran_lines lines g.told)) (hands_last [] (ran_lines lines g.told)) l.line) kn in
+      stops_here known lines g.told sent l old new r at behind g.has_told step same_client (sym e) g.limited kn g.goes
   by run.Starved e limits lines n sent there follows going = λ known told kn.
       let g = going known told (before known told kn) in
       let at : slice_get lines (length g.told) ≡ Some l = subst (λ (i : ℕ). slice_get lines i ≡ Some l) (sym g.many) there in
       let behind : Follows (take (length g.told) lines) l = subst (λ (i : ℕ). Follows (take i lines) l) (sym g.many) follows in
-      let step = runs known told (naming (own_of old.core) (last_first [] (ran_lines lines g.told)) (hands_last [] (ran_lines lines g.told)) l.line) kn in
-      starves_here known lines g.told sent l old new r at behind g.has_told step (sym e) g.limited g.goes
+      let step = runs known told (naming (own_of old.client old.core) (last_first [] (ran_lines lines g.told)) (hands_last [] (ran_lines lines g.told)) l.line) kn in
+      starves_here known lines g.told sent l old new r at behind g.has_told step same_client (sym e) g.limited g.goes
 
 -- a line that asks
-pub ask_goes : (loaded : Loaded) (old new : Client) (l : Numbered) (r : LineRun) (id tenant : List ℕ) → AsksAs id tenant l.line → IsNotAnswer l.line → IsAsk id (Some l.line)
+pub ask_goes : (loaded : Loaded) (old new : Client) (l : Numbered) (r : LineRun) (id tenant : List ℕ) → new.client ≡ old.client → AsksAs id tenant l.line → IsNotAnswer l.line → IsAsk id (Some l.line)
     → ((known : Known) → IsTold known loaded → AskRuns known old l r new) → GoesOn loaded old l r new
-ask_goes loaded old new l r id tenant own_it quiet asks runs = λ limits lines n sent there follows going. by r refl limits lines n sent there follows going where
+ask_goes loaded old new l r id tenant same_client own_it quiet asks runs = λ limits lines n sent there follows going. by r refl limits lines n sent there follows going where
   empty : Told → Naming
   empty told = record { hands = []; asking = None; asked = None; cancelled = None; answered = None }
 
@@ -459,90 +464,90 @@ ask_goes loaded old new l r id tenant own_it quiet asks runs = λ limits lines n
       let above = last_first [] (ran_lines lines g.told) in
       let at : slice_get lines (length g.told) ≡ Some l = subst (λ (i : ℕ). slice_get lines i ≡ Some l) (sym g.many) there in
       let behind : Follows (take (length g.told) lines) l = subst (λ (i : ℕ). Follows (take i lines) l) (sym g.many) follows in
-      let names = naming (own_of old.core) above (hands_last [] (ran_lines lines g.told)) l.line in
+      let names = naming (own_of old.client old.core) above (hands_last [] (ran_lines lines g.told)) l.line in
       let asked : IsAskStep known names old l run.On new = subst (λ (y : LineRun). IsAskStep known names old l y new) (sym e) (runs known told names kn) in
       let step = asked.step in
-      let turn = turn_by (names step.told) l step.told (moment_with (machine_of old.core) l.number step.entered) in
-      let low = own_low known lines g.told sent l old new run.On at behind g.has_told step in
-      let more = grown known lines g.told sent l old new run.On at behind g.has_told step in
-      let right = slot_new known above names l id tenant old.core new.core step.told step.entered asked.keeps.kept own_it asked.keeps.is step.journal g.has_told.alone low step.matched in
-      let have : HaveSlots known above (own_of old.core) (machine_of old.core).count (take (length g.told) lines) old.slots =
-      subst (λ (i : ℕ). HaveSlots known above (own_of old.core) (machine_of old.core).count (take i lines) old.slots) (sym g.many) g.slots in
-      let kept = slots_asked known above (record { line = l; told = step.told }) (own_of old.core) (machine_of old.core) (take (length g.told) lines) l step.entered (machine_of new.core).count old.slots new.slots asked.keeps.kept
+      let turn = turn_by (names step.told) l step.told (moment_with (machine_of old.core) old.client l.number step.entered) in
+      let low = own_low known lines g.told sent l old new run.On at behind g.has_told step same_client in
+      let more = grown known lines g.told sent l old new run.On at behind g.has_told step same_client in
+      let right = slot_new old.client known above names l id tenant old.core new.core step.told step.entered asked.keeps.kept own_it asked.keeps.is step.journal g.has_told.alone low step.matched in
+      let have : HaveSlots known above (own_of old.client old.core) (machine_of old.core).count (take (length g.told) lines) old.slots =
+      subst (λ (i : ℕ). HaveSlots known above (own_of old.client old.core) (machine_of old.core).count (take i lines) old.slots) (sym g.many) g.slots in
+      let kept = slots_asked known above (record { line = l; told = step.told }) (own_of old.client old.core) (machine_of old.core) old.client (take (length g.told) lines) l step.entered (machine_of new.core).count old.slots new.slots asked.keeps.kept
       behind.rising refl more id asks
-      (λ k. leaves_all known turn l.line step.entered quiet (matched_as known turn (machine_of old.core) l.number step.entered step.matched) (get nat_cmp old.slots k))
+      (λ k. leaves_all known turn l.line step.entered quiet (matched_as known turn (machine_of old.core) old.client l.number step.entered step.matched) (get nat_cmp old.slots k))
       asked.keeps.slots right (fresh_slot known l old new step.told step.entered asked.keeps.kept asked.keeps.is step.journal) have in
       subst (λ (i : ℕ). Going known limits lines (i + 1) sent new) g.many
-      (goes_on known lines g.told sent l old new run.On at behind g.has_told step refl g.limited g.goes kept
+      (goes_on known lines g.told sent l old new run.On at behind g.has_told step same_client refl g.limited g.goes kept
       (kept_asked known l old new step.told step.entered asked.keeps.kept asked.keeps.is step.journal asked.keeps.slots
       (λ k s there. let o = have.only k s there in ask_below k l.number o.0 (take (length g.told) lines) behind.rising o.1) g.kept) g.hands)
   by run.Full e limits lines n sent there follows going = λ known told kn.
       let g = going known told (before known told kn) in
       let at : slice_get lines (length g.told) ≡ Some l = subst (λ (i : ℕ). slice_get lines i ≡ Some l) (sym g.many) there in
       let behind : Follows (take (length g.told) lines) l = subst (λ (i : ℕ). Follows (take i lines) l) (sym g.many) follows in
-      let step = (runs known told (naming (own_of old.core) (last_first [] (ran_lines lines g.told)) (hands_last [] (ran_lines lines g.told)) l.line) kn).step in
-      stops_here known lines g.told sent l old new r at behind g.has_told step (sym e) g.limited kn g.goes
+      let step = (runs known told (naming (own_of old.client old.core) (last_first [] (ran_lines lines g.told)) (hands_last [] (ran_lines lines g.told)) l.line) kn).step in
+      stops_here known lines g.told sent l old new r at behind g.has_told step same_client (sym e) g.limited kn g.goes
   by run.Starved e limits lines n sent there follows going = λ known told kn.
       let g = going known told (before known told kn) in
       let at : slice_get lines (length g.told) ≡ Some l = subst (λ (i : ℕ). slice_get lines i ≡ Some l) (sym g.many) there in
       let behind : Follows (take (length g.told) lines) l = subst (λ (i : ℕ). Follows (take i lines) l) (sym g.many) follows in
-      let step = (runs known told (naming (own_of old.core) (last_first [] (ran_lines lines g.told)) (hands_last [] (ran_lines lines g.told)) l.line) kn).step in
-      starves_here known lines g.told sent l old new r at behind g.has_told step (sym e) g.limited g.goes
+      let step = (runs known told (naming (own_of old.client old.core) (last_first [] (ran_lines lines g.told)) (hands_last [] (ran_lines lines g.told)) l.line) kn).step in
+      starves_here known lines g.told sent l old new r at behind g.has_told step same_client (sym e) g.limited g.goes
 
 -- a line that leaves what is kept of asks
-pub quiet_goes : (loaded : Loaded) (old new : Client) (l : Numbered) → Grows old.core new.core → IsNotAnswer l.line → ((id : List ℕ) → IsAsk id (Some l.line) → ⊥)
-    → ((known : Known) (above : List Ran) (hands : List Hand) (done : List Numbered) → IsKnown known new.core → Each (λ e. e.client ≡ 0) old.core.journal
-    → HaveSlots known above (own_of old.core) (machine_of old.core).count done old.slots → AreKept old.core old.slots → HaveHands old hands → Follows done l
-    → IsStep known (naming (own_of old.core) above hands l.line) old l run.On new)
+pub quiet_goes : (loaded : Loaded) (old new : Client) (l : Numbered) → new.client ≡ old.client → Grows old.core new.core → IsNotAnswer l.line → ((id : List ℕ) → IsAsk id (Some l.line) → ⊥)
+    → ((known : Known) (above : List Ran) (hands : List Hand) (done : List Numbered) → IsKnown known new.core → Each (λ e. e.client ≡ old.client) old.core.journal
+    → HaveSlots known above (own_of old.client old.core) (machine_of old.core).count done old.slots → AreKept old.core old.slots → HaveHands old hands → Follows done l
+    → IsStep known (naming (own_of old.client old.core) above hands l.line) old l run.On new)
     → new.slots ≡ old.slots → GoesOn loaded old l run.On new
-quiet_goes loaded old new l grows quiet asks runs slots = λ limits lines n sent there follows going known told kn.
+quiet_goes loaded old new l same_client grows quiet asks runs slots = λ limits lines n sent there follows going known told kn.
     let g = going known told (known_before known old.core new.core grows.more grows.limits grows.names kn) in
     let above = last_first [] (ran_lines lines g.told) in
     let at : slice_get lines (length g.told) ≡ Some l = subst (λ (i : ℕ). slice_get lines i ≡ Some l) (sym g.many) there in
     let behind : Follows (take (length g.told) lines) l = subst (λ (i : ℕ). Follows (take i lines) l) (sym g.many) follows in
-    let have : HaveSlots known above (own_of old.core) (machine_of old.core).count (take (length g.told) lines) old.slots =
-    subst (λ (i : ℕ). HaveSlots known above (own_of old.core) (machine_of old.core).count (take i lines) old.slots) (sym g.many) g.slots in
+    let have : HaveSlots known above (own_of old.client old.core) (machine_of old.core).count (take (length g.told) lines) old.slots =
+    subst (λ (i : ℕ). HaveSlots known above (own_of old.client old.core) (machine_of old.core).count (take i lines) old.slots) (sym g.many) g.slots in
     let step = runs known above (hands_last [] (ran_lines lines g.told)) (take (length g.told) lines) kn g.has_told.alone have g.kept g.hands behind in
-    let turn = turn_by (naming (own_of old.core) above (hands_last [] (ran_lines lines g.told)) l.line step.told) l step.told (moment_with (machine_of old.core) l.number step.entered) in
-    let matched = matched_as known turn (machine_of old.core) l.number step.entered step.matched in
-    let kept = slots_same known above (record { line = l; told = step.told }) (own_of old.core) (machine_of old.core) (take (length g.told) lines) l step.entered (machine_of new.core).count old.slots
-    behind.rising refl (grown known lines g.told sent l old new run.On at behind g.has_told step) asks
+    let turn = turn_by (naming (own_of old.client old.core) above (hands_last [] (ran_lines lines g.told)) l.line step.told) l step.told (moment_with (machine_of old.core) old.client l.number step.entered) in
+    let matched = matched_as known turn (machine_of old.core) old.client l.number step.entered step.matched in
+    let kept = slots_same known above (record { line = l; told = step.told }) (own_of old.client old.core) (machine_of old.core) old.client (take (length g.told) lines) l step.entered (machine_of new.core).count old.slots
+    behind.rising refl (grown known lines g.told sent l old new run.On at behind g.has_told step same_client) asks
     (λ j. leaves_all known turn l.line step.entered quiet matched (get nat_cmp old.slots j)) have in
     subst (λ (i : ℕ). Going known limits lines (i + 1) sent new) g.many
-    (goes_on known lines g.told sent l old new run.On at behind g.has_told step refl g.limited g.goes
-    (subst (λ (s : Slots). HaveSlots known (record { line = l; told = step.told } ∷ above) (own_with (own_of old.core) (machine_of old.core) l.number step.entered) (machine_of new.core).count (take (length g.told) lines ++ l ∷ []) s) (sym slots) kept)
-    (kept_on old.core new.core old.slots new.slots l.number step.entered step.journal (no_ask known turn l.line step.entered asks matched) slots g.kept) g.hands)
+    (goes_on known lines g.told sent l old new run.On at behind g.has_told step same_client refl g.limited g.goes
+    (subst (λ (s : Slots). HaveSlots known (record { line = l; told = step.told } ∷ above) (own_with (own_of old.client old.core) (machine_of old.core) old.client l.number step.entered) (machine_of new.core).count (take (length g.told) lines ++ l ∷ []) s) (sym slots) kept)
+    (kept_on old.core new.core old.slots new.slots old.client l.number step.entered step.journal (no_ask known turn l.line step.entered asks matched) slots g.kept) g.hands)
 
 -- a line that answers
-pub answer_goes : (loaded : Loaded) (old new : Client) (number k : ℕ) (id : List ℕ) → Grows old.core new.core
-    → ((known : Known) (above : List Ran) (hands : List Hand) → IsKnown known new.core → Each (λ e. e.client ≡ 0) old.core.journal → SlotRight known above (own_of old.core) k (get nat_cmp old.slots k)
+pub answer_goes : (loaded : Loaded) (old new : Client) (number k : ℕ) (id : List ℕ) → new.client ≡ old.client → Grows old.core new.core
+    → ((known : Known) (above : List Ran) (hands : List Hand) → IsKnown known new.core → Each (λ e. e.client ≡ old.client) old.core.journal → SlotRight known above (own_of old.client old.core) k (get nat_cmp old.slots k)
     → (get nat_cmp old.slots k ≡ None → ⊥) → HaveHands old hands
-    → IsAnswerStep known (naming (own_of old.core) above hands (script.answer id k)) old (record { number = number; line = script.answer id k }) k new)
+    → IsAnswerStep known (naming (own_of old.client old.core) above hands (script.answer id k)) old (record { number = number; line = script.answer id k }) k new)
     → GoesOn loaded old (record { number = number; line = script.answer id k }) run.On new
-answer_goes loaded old new number k id grows runs = λ limits lines n sent there follows going known told kn.
+answer_goes loaded old new number k id same_client grows runs = λ limits lines n sent there follows going known told kn.
     let l : Numbered = record { number = number; line = script.answer id k } in
     let g = going known told (known_before known old.core new.core grows.more grows.limits grows.names kn) in
     let above = last_first [] (ran_lines lines g.told) in
     let hands = hands_last [] (ran_lines lines g.told) in
     let at : slice_get lines (length g.told) ≡ Some l = subst (λ (i : ℕ). slice_get lines i ≡ Some l) (sym g.many) there in
     let behind : Follows (take (length g.told) lines) l = subst (λ (i : ℕ). Follows (take i lines) l) (sym g.many) follows in
-    let have : HaveSlots known above (own_of old.core) (machine_of old.core).count (take (length g.told) lines) old.slots =
-    subst (λ (i : ℕ). HaveSlots known above (own_of old.core) (machine_of old.core).count (take i lines) old.slots) (sym g.many) g.slots in
+    let have : HaveSlots known above (own_of old.client old.core) (machine_of old.core).count (take (length g.told) lines) old.slots =
+    subst (λ (i : ℕ). HaveSlots known above (own_of old.client old.core) (machine_of old.core).count (take i lines) old.slots) (sym g.many) g.slots in
     let right = have.right k id behind.names in
     let kept_it = have.kept k id behind.names behind.is_open in
     let answered = runs known above hands kn g.has_told.alone right kept_it g.hands in
     let step = answered.step in
-    let turn = turn_by (naming (own_of old.core) above hands l.line step.told) l step.told (moment_with (machine_of old.core) l.number step.entered) in
-    let matched = matched_as known turn (machine_of old.core) l.number step.entered step.matched in
-    let more = grown known lines g.told sent l old new run.On at behind g.has_told step in
-    let kept = slots_by known above (record { line = l; told = step.told }) (own_of old.core) (machine_of old.core) (take (length g.told) lines) l k id step.entered (machine_of new.core).count old.slots new.slots
+    let turn = turn_by (naming (own_of old.client old.core) above hands l.line step.told) l step.told (moment_with (machine_of old.core) old.client l.number step.entered) in
+    let matched = matched_as known turn (machine_of old.core) old.client l.number step.entered step.matched in
+    let more = grown known lines g.told sent l old new run.On at behind g.has_told step same_client in
+    let kept = slots_by known above (record { line = l; told = step.told }) (own_of old.client old.core) (machine_of old.core) old.client (take (length g.told) lines) l k id step.entered (machine_of new.core).count old.slots new.slots
     answered.answered behind.rising refl more refl behind.names answered.closes answered.slots kept_it right have in
     subst (λ (i : ℕ). Going known limits lines (i + 1) sent new) g.many
-    (goes_on known lines g.told sent l old new run.On at behind g.has_told step refl g.limited g.goes kept
+    (goes_on known lines g.told sent l old new run.On at behind g.has_told step same_client refl g.limited g.goes kept
     (kept_answered old new number k step.entered answered.answered step.journal (no_ask known turn l.line step.entered (λ i a. a) matched) answered.closes answered.slots g.kept) g.hands)
 
 -- a call that ran such a line
-pub plain_goes_if : {E : Type 0} (loaded : Loaded) (old new : Client) (l : Numbered) (result : Result LineRun E) → IsNotAnswer l.line → ((id : List ℕ) → IsAsk id (Some l.line) → ⊥)
+pub plain_goes_if : {E : Type 0} (loaded : Loaded) (old new : Client) (l : Numbered) (result : Result LineRun E) → OnOk result (new.client ≡ old.client) → IsNotAnswer l.line → ((id : List ℕ) → IsAsk id (Some l.line) → ⊥)
     → IfOk result (λ r. (known : Known) → IsTold known loaded → Runs known old l r new) → OnOk result (new.slots ≡ old.slots) → IfOk result (λ r. GoesOnWith loaded old l r new)
-plain_goes_if loaded old new l (Ok r) quiet asks runs slots = λ first part. plain_goes first old new l r quiet asks (λ known told. runs known (part known told)) slots
-plain_goes_if loaded old new l (Err e) quiet asks runs slots = tt
+plain_goes_if loaded old new l (Ok r) same_client quiet asks runs slots = λ first part. plain_goes first old new l r same_client quiet asks (λ known told. runs known (part known told)) slots
+plain_goes_if loaded old new l (Err e) same_client quiet asks runs slots = tt

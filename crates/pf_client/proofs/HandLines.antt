@@ -108,30 +108,30 @@ pub closes_it : (m : Machine) (query code cached evaluated q : ℕ) (o : Open) �
 closes_it m query code cached evaluated q o h = (closed_was query q m.queries o h).1
 
 -- the same of a core's journal
-pub open_before : (old new : CoreData) (n : ℕ) (entered : Option What) → new.journal ≡ old.journal ++ entries_by n entered → (q : ℕ) (o : Open)
+pub open_before : (old new : CoreData) (client n : ℕ) (entered : Option What) → new.journal ≡ old.journal ++ entries_by client n entered → (q : ℕ) (o : Open)
     → open_at q (machine_of new).queries ≡ Some o → WasOpen q (machine_of old).queries o ⊎ (HasQuery entered × (q ≡ (machine_of old).count))
-open_before old new n None journal q o h =
+open_before old new client n None journal q o h =
     inl (o, (subst (λ (es : List Entry). open_at q (machine_after started es).queries ≡ Some o) (journal ∙ append-nil old.journal) h, refl))
-open_before old new n (Some what) journal q o h =
+open_before old new client n (Some what) journal q o h =
     was_open (machine_of old) what q o
-    (subst (λ (m : Machine). open_at q m.queries ≡ Some o) (machine-snoc started old.journal (entry_by n what))
+    (subst (λ (m : Machine). open_at q m.queries ≡ Some o) (machine-snoc started old.journal (entry_by client n what))
     (subst (λ (es : List Entry). open_at q (machine_after started es).queries ≡ Some o) journal h))
 
-pub count_before : (old new : CoreData) (n : ℕ) (entered : Option What) → new.journal ≡ old.journal ++ entries_by n entered → (machine_of old).count ≤ (machine_of new).count
-count_before old new n None journal =
+pub count_before : (old new : CoreData) (client n : ℕ) (entered : Option What) → new.journal ≡ old.journal ++ entries_by client n entered → (machine_of old).count ≤ (machine_of new).count
+count_before old new client n None journal =
     let e = ap (λ (es : List Entry). (machine_after started es).count) (journal ∙ append-nil old.journal) in omega (arith, e)
-count_before old new n (Some what) journal =
+count_before old new client n (Some what) journal =
     let e = ap (λ (es : List Entry). (machine_after started es).count) journal in
-    let d = ap (λ (m : Machine). m.count) (machine-snoc started old.journal (entry_by n what)) in
+    let d = ap (λ (m : Machine). m.count) (machine-snoc started old.journal (entry_by client n what)) in
     omega (arith, e, d)
 
 -- a query that is not answered was not before
-pub live_before : (old new : CoreData) (n : ℕ) (entered : Option What) → new.journal ≡ old.journal ++ entries_by n entered → (u q : ℕ) → IsLive new u q → IsLive old u q
-live_before old new n entered journal u q (inl a) = by (open_before old new n entered journal q a.0 a.1.0) where
+pub live_before : (old new : CoreData) (client n : ℕ) (entered : Option What) → new.journal ≡ old.journal ++ entries_by client n entered → (u q : ℕ) → IsLive new u q → IsLive old u q
+live_before old new client n entered journal u q (inl a) = by (open_before old new client n entered journal q a.0 a.1.0) where
   by : WasOpen q (machine_of old).queries a.0 ⊎ (HasQuery entered × (q ≡ (machine_of old).count)) → IsLive old u q
   by (inl w) = inl (w.0, (w.1.0, w.1.1 ∙ a.1.1))
   by (inr e) = let here = e.1 in inr (omega (arith, here))
-live_before old new n entered journal u q (inr late) = let more = count_before old new n entered journal in inr (omega (arith, more, late))
+live_before old new client n entered journal u q (inr late) = let more = count_before old new client n entered journal in inr (omega (arith, more, late))
 
 -- ---- jobs in hand
 

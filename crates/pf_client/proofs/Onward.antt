@@ -1,5 +1,5 @@
 -- A client goes on by one line: what was told of its lines stays woven.
-use Rattle.std.proofs.Common.{◌≡◌, ℕ, ◌<◌, Bool, true, false, Option, Some, None, List, [], ◌∷◌, ◌++◌, length, slice_get, take, refl, sym, ap, ◌∙◌, subst, append-nil, arith, inl, inr}
+use Rattle.std.proofs.Common.{◌≡◌, ℕ, ◌<◌, Bool, true, false, Option, Some, None, List, [], ◌∷◌, ◌++◌, length, slice_get, take, refl, sym, ap, ◌∙◌, subst, append-nil, arith, inl, inr, nat_eq}
 use Rattle.std.proofs.lemmas.Bool.{le-ltb, ne_eqb}
 use Rattle.std.proofs.lemmas.Bool.Decides.{nat_tests}
 use Rattle.std.proofs.lemmas.List.Elements.{filter-append}
@@ -70,12 +70,15 @@ ran_below (l ∷ ls) (t ∷ told) n h = (h.0, ran_below ls told n h.1)
 
 -- ---- moments
 
--- a further entry of the only client is the last of its own moments
-pub own-snoc : (journal : List Entry) (n : ℕ) (what : What)
-    → own_moments 0 (moments (journal ++ entry_by n what ∷ [])) ≡ own_moments 0 (moments journal) ++ moment_by (machine_after started journal) n what ∷ []
-own-snoc journal n what =
-    ap (own_moments 0) (moments-snoc started journal (entry_by n what))
-    ∙ filter-append _ (moments journal) (moment_by (machine_after started journal) n what ∷ [])
+-- a further entry of a client is the last of its own moments
+pub own-snoc : (journal : List Entry) (client n : ℕ) (what : What)
+    → own_moments client (moments (journal ++ entry_by client n what ∷ []))
+    ≡ own_moments client (moments journal) ++ moment_by (machine_after started journal) client n what ∷ []
+own-snoc journal client n what =
+    let mine : nat_eq client client ≡ true = grind (arith, nat_tests) in
+    ap (own_moments client) (moments-snoc started journal (entry_by client n what))
+    ∙ filter-append _ (moments journal) (moment_by (machine_after started journal) client n what ∷ [])
+    ∙ rw mine refl
 
 pub machine-snoc : (m : Machine) (journal : List Entry) (e : Entry) → machine_after m (journal ++ e ∷ []) ≡ next (machine_after m journal) e.what
 machine-snoc m [] e = refl
@@ -107,51 +110,51 @@ turn_entered own x above hands l told low here =
 -- ---- what was told
 
 -- own entries with those of a line
-abbrev pub own_with : List Moment → Machine → ℕ → Option What → List Moment
-own_with own m n None = own
-own_with own m n (Some what) = own ++ moment_by m n what ∷ []
+abbrev pub own_with : List Moment → Machine → (client line : ℕ) → Option What → List Moment
+own_with own m client n None = own
+own_with own m client n (Some what) = own ++ moment_by m client n what ∷ []
 
-pub own_on : (journal : List Entry) (n : ℕ) (entered : Option What)
-    → own_moments 0 (moments (journal ++ entries_by n entered)) ≡ own_with (own_moments 0 (moments journal)) (machine_after started journal) n entered
-own_on journal n None = ap (λ (es : List Entry). own_moments 0 (moments es)) (append-nil journal)
-own_on journal n (Some what) = own-snoc journal n what
+pub own_on : (journal : List Entry) (client n : ℕ) (entered : Option What)
+    → own_moments client (moments (journal ++ entries_by client n entered)) ≡ own_with (own_moments client (moments journal)) (machine_after started journal) client n entered
+own_on journal client n None = ap (λ (es : List Entry). own_moments client (moments es)) (append-nil journal)
+own_on journal client n (Some what) = own-snoc journal client n what
 
 -- a woven client with its next line
-pub woven_on : (known : Known) (own : List Moment) (m : Machine) (lines : List Numbered) (told : List Told) (l : Numbered) (t : Told) (entered : Option What)
+pub woven_on : (known : Known) (own : List Moment) (m : Machine) (client : ℕ) (lines : List Numbered) (told : List Told) (l : Numbered) (t : Told) (entered : Option What)
     → Woven known own lines (record { told = told; why = at_end }) → slice_get lines (length told) ≡ Some l
     → 0 < l.number → Each (λ b. b.number < l.number) (take (length told) lines)
-    → IsMatched known (turn_by (naming own (lines_behind [] (ran_lines lines told)) (hands_behind [] (ran_lines lines told)) l.line t) l t (moment_with m l.number entered)) (moment_with m l.number entered)
-    → FoundRoom known.limits l.line (moment_with m l.number entered)
-    → Woven known (own_with own m l.number entered) lines (going told t at_end)
-woven_on known own m lines told l t None w there first low matched roomy =
+    → IsMatched known (turn_by (naming own (lines_behind [] (ran_lines lines told)) (hands_behind [] (ran_lines lines told)) l.line t) l t (moment_with m client l.number entered)) (moment_with m client l.number entered)
+    → FoundRoom known.limits l.line (moment_with m client l.number entered)
+    → Woven known (own_with own m client l.number entered) lines (going told t at_end)
+woven_on known own m client lines told l t None w there first low matched roomy =
     woven_stays known own lines told at_end l t w there
     (subst (IsWoven known) (sym (turn_stayed own (lines_behind [] (ran_lines lines told)) (hands_behind [] (ran_lines lines told)) l t
     (own_below own (take (length told) lines) l.number low w.lined))) (record { matched = matched; roomy = roomy }))
-woven_on known own m lines told l t (Some what) w there first low matched roomy =
-    woven_enters known own (moment_by m l.number what) lines told at_end l t w there first refl
+woven_on known own m client lines told l t (Some what) w there first low matched roomy =
+    woven_enters known own (moment_by m client l.number what) lines told at_end l t w there first refl
     (own_below own (take (length told) lines) l.number low w.lined) (ran_below lines told l.number low)
-    (subst (IsWoven known) (sym (turn_entered own (moment_by m l.number what) (lines_behind [] (ran_lines lines told)) (hands_behind [] (ran_lines lines told)) l t
+    (subst (IsWoven known) (sym (turn_entered own (moment_by m client l.number what) (lines_behind [] (ran_lines lines told)) (hands_behind [] (ran_lines lines told)) l t
     (own_below own (take (length told) lines) l.number low w.lined) refl)) (record { matched = matched; roomy = roomy }))
 
 -- and its text
-pub text_on : (known : Known) (own : List Moment) (m : Machine) (lines : List Numbered) (told : List Told) (l : Numbered) (t : Told) (entered : Option What) (out out' : List ℕ)
+pub text_on : (known : Known) (own : List Moment) (m : Machine) (client : ℕ) (lines : List Numbered) (told : List Told) (l : Numbered) (t : Told) (entered : Option What) (out out' : List ℕ)
     → Woven known own lines (record { told = told; why = at_end }) → slice_get lines (length told) ≡ Some l
     → Each (λ b. b.number < l.number) (take (length told) lines)
-    → out ≡ client_text known own 0 lines (record { told = told; why = at_end })
-    → out' ≡ out ++ reply_of known (turn_by (naming own (lines_behind [] (ran_lines lines told)) (hands_behind [] (ran_lines lines told)) l.line t) l t (moment_with m l.number entered))
-    → out' ≡ client_text known (own_with own m l.number entered) 0 lines (going told t at_end)
-text_on known own m lines told l t None out out' w there low said more =
+    → out ≡ client_text known own client lines (record { told = told; why = at_end })
+    → out' ≡ out ++ reply_of known (turn_by (naming own (lines_behind [] (ran_lines lines told)) (hands_behind [] (ran_lines lines told)) l.line t) l t (moment_with m client l.number entered))
+    → out' ≡ client_text known (own_with own m client l.number entered) client lines (going told t at_end)
+text_on known own m client lines told l t None out out' w there low said more =
     let turn = turn_stayed own (lines_behind [] (ran_lines lines told)) (hands_behind [] (ran_lines lines told)) l t
     (own_below own (take (length told) lines) l.number low w.lined) in
     more ∙ ap (λ (bytes : List ℕ). bytes ++ reply_of known (turn_by (naming own (lines_behind [] (ran_lines lines told)) (hands_behind [] (ran_lines lines told)) l.line t) l t None)) said
-    ∙ ap (λ (turn : Turn). client_text known own 0 lines (record { told = told; why = at_end }) ++ reply_of known turn) (sym turn)
-    ∙ sym (text_grows known own 0 lines told at_end l t there)
-text_on known own m lines told l t (Some what) out out' w there low said more =
-    let x : Moment = moment_by m l.number what in
+    ∙ ap (λ (turn : Turn). client_text known own client lines (record { told = told; why = at_end }) ++ reply_of known turn) (sym turn)
+    ∙ sym (text_grows known own client lines told at_end l t there)
+text_on known own m client lines told l t (Some what) out out' w there low said more =
+    let x : Moment = moment_by m client l.number what in
     let turn = turn_entered own x (lines_behind [] (ran_lines lines told)) (hands_behind [] (ran_lines lines told)) l t
     (own_below own (take (length told) lines) l.number low w.lined) refl in
     more ∙ ap (λ (bytes : List ℕ). bytes ++ reply_of known (turn_by (naming own (lines_behind [] (ran_lines lines told)) (hands_behind [] (ran_lines lines told)) l.line t) l t (Some x))) said
-    ∙ ap (λ (turn : Turn). client_text known own 0 lines (record { told = told; why = at_end }) ++ reply_of known turn) (sym turn)
+    ∙ ap (λ (turn : Turn). client_text known own client lines (record { told = told; why = at_end }) ++ reply_of known turn) (sym turn)
     ∙ ap (λ (bytes : List ℕ). bytes ++ reply_of known (turn_behind (own ++ x ∷ []) (ran_lines lines told) (record { line = l; told = t })))
-    (sym (text_stays known own x 0 lines (record { told = told; why = at_end }) (ran_below lines told l.number low)))
-    ∙ sym (text_grows known (own ++ x ∷ []) 0 lines told at_end l t there)
+    (sym (text_stays known own x client lines (record { told = told; why = at_end }) (ran_below lines told l.number low)))
+    ∙ sym (text_grows known (own ++ x ∷ []) client lines told at_end l t there)

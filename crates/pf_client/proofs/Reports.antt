@@ -88,9 +88,9 @@ none_held (suc n) zero = refl
 none_held (suc n) (suc w) = none_held n w
 
 pub begins : (limits : Limits) (c : Client) → c.core ≡ started_core limits → IsEmpty c.slots → c.hands.items ≡ replicate 16 None
-    → c.out.items ≡ [] ++ line_text (codes "client" ∷ decimal 0 ∷ []) → (loaded : Loaded) (lines : List Numbered) → IsGoing loaded limits lines 0 [] c
+    → c.out.items ≡ [] ++ line_text (codes "client" ∷ decimal c.client ∷ []) → (loaded : Loaded) (lines : List Numbered) → IsGoing loaded limits lines 0 [] c
 begins limits c is bare hands said = λ loaded lines known told kn.
-    let own : own_of c.core ≡ [] = ap own_of is in
+    let own : own_of c.client c.core ≡ [] = ap (own_of c.client) is in
     let journal : c.core.journal ≡ [] = ap (λ (d : CoreData). d.journal) is in
     let nothing_there : (k : ℕ) → get nat_cmp c.slots k ≡ None = λ k. none_there k c.slots bare in
     let none_ran = ran_none lines in
@@ -105,8 +105,8 @@ begins limits c is bare hands said = λ loaded lines known told kn.
           lined = tt;
           each = rw none_ran tt;
         });
-        said = said ∙ sym (ap (λ (own : List Moment). client_text known own 0 lines (record { told = []; why = at_end })) own ∙ no_lines known lines);
-        alone = subst (Each (λ (e : Entry). e.client ≡ 0)) (sym journal) tt;
+        said = said ∙ sym (ap (λ (own : List Moment). client_text known own c.client lines (record { told = []; why = at_end })) own ∙ no_lines known c.client lines);
+        alone = subst (Each (λ (e : Entry). e.client ≡ c.client)) (sym journal) tt;
         tried = inr (omega arith);
       };
       goes = rw none_ran tt;
@@ -132,14 +132,16 @@ begins limits c is bare hands said = λ loaded lines known told kn.
       none_there : (k : ℕ) (m : Slots) → IsEmpty m → get nat_cmp m k ≡ None
       none_there k m e = search (rules, e)
 
-      no_lines : (known : Known) (lines : List Numbered) → client_text known [] 0 lines (record { told = []; why = at_end }) ≡ line_text (codes "client" ∷ decimal 0 ∷ [])
-      no_lines known lines = rw (ran_none lines) (append-nil _)
+      no_lines : (known : Known) (client : ℕ) (lines : List Numbered)
+          → client_text known [] client lines (record { told = []; why = at_end }) ≡ line_text (codes "client" ∷ decimal client ∷ [])
+      no_lines known client lines = rw (ran_none lines) (append-nil _)
 
-pub begins_holds : (limits : Limits) (c : Client) → c.core ≡ started_core limits → c.hands.items ≡ replicate 16 None → HoldsJobs c
-begins_holds limits c is hands = record {
+pub begins_holds : (limits : Limits) (c : Client) → c.client < 16 → c.core ≡ started_core limits → c.hands.items ≡ replicate 16 None → HoldsJobs c
+begins_holds limits c below is hands = record {
   many = ap length hands;
   stands = λ w h e. let bad : None ≡ Some h = sym (ap (λ (xs : List (Option HeldJob)). held_by xs w) hands ∙ none_held 16 w) ∙ e in cc;
-  idle = λ u. subst (Each (λ (x : Hand). x.actor ≡ 0 → ⊥)) (sym (none_in_hand c.core limits u is)) tt;
+  below = below;
+  idle = λ u. subst (Each (λ (x : Hand). x.actor ≡ c.client → ⊥)) (sym (none_in_hand c.core limits u is)) tt;
 }
 
 -- ---- failed tries
@@ -212,46 +214,48 @@ one_of x y (suc n) h = cc
 pub itself : (c : CoreData) (held : Held) (loaded : Loaded) → IsKnown (record { limits = c.limits; names = c.names; files = held; readings = readings_in loaded.queries }) c
 itself c held loaded = record { limits = refl; more = []; names = sym (append-nil c.names) }
 
--- a client that stopped, with its only script, is woven into its journal
+-- client 0, which stopped, is woven with its script into its journal
 pub woven_alone : (limits : Limits) (loaded : Loaded) (lines : List Numbered) (why : Why) (sent : List ℕ) (c : Client) (held : Held)
-    → AreHeld held loaded.files → AreReadAs loaded.queries → length lines ≤ 18446744073709551615 → Stands c.core
+    → c.client ≡ 0 → AreHeld held loaded.files → AreReadAs loaded.queries → length lines ≤ 18446744073709551615 → Stands c.core
     → (has : HasRun (record { limits = c.core.limits; names = c.core.names; files = held; readings = readings_in loaded.queries }) limits lines why sent c)
     → Weave (record { limits = c.core.limits; names = c.core.names; files = held; readings = readings_in loaded.queries }) c.core.journal (lines ∷ [])
     (record { clients = record { told = has.told; why = why } ∷ []; failed = c.core.failed })
-woven_alone limits loaded lines why sent c held are right short stands has =
+woven_alone limits loaded lines why sent c held first are right short stands has =
     let known : Known = record { limits = c.core.limits; names = c.core.names; files = held; readings = readings_in loaded.queries } in
     let one : ToldClient = record { told = has.told; why = why } in
     record {
       many = refl;
-      each = λ client ls d at_ls at_d. each_one known c lines one has.has_told.woven has.runs client ls d at_ls at_d;
-      nobody_else = each_so _ _ (λ (e : Entry) (h : e.client ≡ 0). first_only e h) c.core.journal has.has_told.alone;
+      each = λ client ls d at_ls at_d.
+          each_one known c lines one (subst (λ (i : ℕ). Woven known (own_of i c.core) lines one) first has.has_told.woven)
+          (subst (λ (i : ℕ). RunsTo known.limits c.core.journal i why (drop (length has.told) lines) (ran_lines lines has.told)) first has.runs) client ls d at_ls at_d;
+      nobody_else = each_so _ _ (λ (e : Entry) (h : e.client ≡ c.client). first_only e (h ∙ first)) c.core.journal has.has_told.alone;
       read = λ words r e. all_read loaded.queries right words r e;
       tried = tried_so_far c lines has.told why stands has.has_told.tried has.has_told.woven.few short;
     } where
       first_only : (e : Entry) → e.client ≡ 0 → e.client < 1
       first_only e h = omega (arith, h)
 
-      each_one : (known : Known) (c : Client) (lines : List Numbered) (one : ToldClient) → Woven known (own_of c.core) lines one
+      each_one : (known : Known) (c : Client) (lines : List Numbered) (one : ToldClient) → Woven known (own_of 0 c.core) lines one
           → RunsTo known.limits c.core.journal 0 one.why (drop (length one.told) lines) (ran_lines lines one.told)
           → (client : ℕ) (ls : List Numbered) (d : ToldClient) → slice_get (lines ∷ []) client ≡ Some ls → slice_get (one ∷ []) client ≡ Some d
           → Woven known (own_moments client (moments c.core.journal)) ls d × RunsTo known.limits c.core.journal client d.why (drop (length d.told) ls) (ran_lines ls d.told)
       each_one known c lines one woven runs zero ls d at_ls at_d =
           let same_ls : lines ≡ ls = some_is lines ls at_ls in
           let same_d : one ≡ d = some_is one d at_d in
-          subst (λ (x : List Numbered). Woven known (own_of c.core) x d × RunsTo known.limits c.core.journal 0 d.why (drop (length d.told) x) (ran_lines x d.told)) same_ls
-          (subst (λ (y : ToldClient). Woven known (own_of c.core) lines y × RunsTo known.limits c.core.journal 0 y.why (drop (length y.told) lines) (ran_lines lines y.told)) same_d (woven, runs))
+          subst (λ (x : List Numbered). Woven known (own_of 0 c.core) x d × RunsTo known.limits c.core.journal 0 d.why (drop (length d.told) x) (ran_lines x d.told)) same_ls
+          (subst (λ (y : ToldClient). Woven known (own_of 0 c.core) lines y × RunsTo known.limits c.core.journal 0 y.why (drop (length y.told) lines) (ran_lines lines y.told)) same_d (woven, runs))
       each_one known c lines one woven runs (suc n) ls d at_ls at_d = cc
 
 pub reported : (limits : Limits) (loaded : Loaded) (lines : List Numbered) (run : LineRun) (met : Bool) (sent : List ℕ) (c : Client) (held : Held)
-    → AreHeld held loaded.files → AreReadAs loaded.queries → length lines ≤ 18446744073709551615 → Stands c.core → HasStopped loaded limits lines (why_of run) sent c
+    → c.client ≡ 0 → AreHeld held loaded.files → AreReadAs loaded.queries → length lines ≤ 18446744073709551615 → Stands c.core → HasStopped loaded limits lines (why_of run) sent c
     → met ≡ is_full run → IsReport limits held lines met (sent ++ left_text c)
-reported limits loaded lines run met sent c held are right short stands stopped full =
+reported limits loaded lines run met sent c held first are right short stands stopped full =
     let known : Known = record { limits = c.core.limits; names = c.core.names; files = held; readings = readings_in loaded.queries } in
     let has = stopped known (record { held = are; readings = refl }) (itself c.core held loaded) in
     let rest : Rest = record { clients = record { told = has.told; why = why_of run } ∷ []; failed = c.core.failed } in
     let behind : List ℕ = journal_text c.core.names c.core.journal ++ actors_from 0 c.core.failed in
     let text_is : sent ++ left_text c ≡ report known c.core.journal (lines ∷ []) rest =
-    sym (append_assoc sent c.out.items behind) ∙ ap (λ (bytes : List ℕ). bytes ++ behind) (has.has_told.said ∙ sym (append-nil _)) in
+    sym (append_assoc sent c.out.items behind) ∙ ap (λ (bytes : List ℕ). bytes ++ behind) (said_first known lines has.told has.has_told.said ∙ sym (append-nil _)) in
     subst (λ (b : Bool). IsReport limits held lines b (sent ++ left_text c)) (sym full) (subst (λ (l : Limits). IsReport l held lines (is_full run) (sent ++ left_text c)) has.limited (record {
       journal = c.core.journal;
       names = c.core.names;
@@ -259,10 +263,15 @@ reported limits loaded lines run met sent c held are right short stands stopped 
       rest = rest;
       legal = stands.legal;
       named = stands.names;
-      woven = woven_alone limits loaded lines (why_of run) sent c held are right short stands has;
+      woven = woven_alone limits loaded lines (why_of run) sent c held first are right short stands has;
       met = met_by run has.told;
       whole = text_is;
-    }))
+    })) where
+      said_first : (known : Known) (lines : List Numbered) (told : List Told)
+          → sent ++ c.out.items ≡ client_text known (own_of c.client c.core) c.client lines (record { told = told; why = why_of run })
+          → sent ++ c.out.items ≡ client_text known (own_of 0 c.core) 0 lines (record { told = told; why = why_of run })
+      said_first known lines told said =
+          subst (λ (i : ℕ). sent ++ c.out.items ≡ client_text known (own_of i c.core) i lines (record { told = told; why = why_of run })) first said
 
 -- ---- the summary
 
@@ -271,9 +280,9 @@ ended_by false told = (refl, tt)
 ended_by true told = λ h. h.0 refl
 
 pub summarized : (limits : Limits) (loaded : Loaded) (lines : List Numbered) (full : Bool) (t : Tally) (sent : List ℕ) (c : Client) (held : Held)
-    → AreHeld held loaded.files → AreReadAs loaded.queries → length lines ≤ 18446744073709551615 → Stands c.core → HasStopped loaded limits lines (why_by full) sent c
+    → c.client ≡ 0 → AreHeld held loaded.files → AreReadAs loaded.queries → length lines ≤ 18446744073709551615 → Stands c.core → HasStopped loaded limits lines (why_by full) sent c
     → IsCounted loaded t c → IsSummary limits held lines full t
-summarized limits loaded lines full t sent c held are right short stands stopped count =
+summarized limits loaded lines full t sent c held first are right short stands stopped count =
     let known : Known = record { limits = c.core.limits; names = c.core.names; files = held; readings = readings_in loaded.queries } in
     let told : IsTold known loaded = record { held = are; readings = refl } in
     let has = stopped known told (itself c.core held loaded) in
@@ -284,7 +293,7 @@ summarized limits loaded lines full t sent c held are right short stands stopped
       rest = record { clients = record { told = has.told; why = why_by full } ∷ []; failed = c.core.failed };
       legal = stands.legal;
       named = stands.names;
-      woven = woven_alone limits loaded lines (why_by full) sent c held are right short stands has;
+      woven = woven_alone limits loaded lines (why_by full) sent c held first are right short stands has;
       ended = ended_by full has.told;
       whole = sym (count known told (itself c.core held loaded));
     })

@@ -81,6 +81,6 @@ ends script loaded limits i sent c e going known told kn =
       limited = g.limited;
       told = g.told;
       has_told = g.has_told;
-      runs = subst (λ (left : List Numbered). RunsTo known.limits c.core.journal 0 at_end left (ran_lines (lines_of script) g.told)) (sym none)
-          (runs_to_end known.limits c.core.journal 0 (ran_lines (lines_of script) g.told) g.goes);
+      runs = subst (λ (left : List Numbered). RunsTo known.limits c.core.journal c.client at_end left (ran_lines (lines_of script) g.told)) (sym none)
+          (runs_to_end known.limits c.core.journal c.client (ran_lines (lines_of script) g.told) g.goes);
     }

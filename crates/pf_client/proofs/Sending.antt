@@ -11,16 +11,18 @@ use Rattle.pf_io.specs.Outside.{Grows}
 use Rattle.pf_journal.proofs.Ending.{begins_report}
 use Rattle.pf_journal.specs.Replies.{line_text}
 use Rattle.pf_journal.specs.Machine.{Entry}
-use Rattle.pf_journal.specs.Report.{actors_from, entries_from, journal_text, report}
+use Rattle.pf_journal.specs.Report.{actors_from, client_text, entries_from, journal_text, report}
 use Rattle.pf_journal.specs.Rest.{Known, Rest, at_end}
 use Rattle.pf_journal.specs.Scripts.{Numbered}
+use Rattle.pf_journal.specs.Weave.{Woven}
+use Rattle.pf_model.specs.Lists.{Each}
 use Rattle.pf_script.specs.Lines.{AllFollow}
 use Rattle.pf_client.proofs.Lines.{numbers_rise}
 use Rattle.pf_client.proofs.Reports.{all_read, itself, journal_said, reported, tried_so_far}
 use Rattle.pf_client.proofs.Writing.{all_written, grows_none, part_of, part_written, writes_beside, writes_none, writes_sent, writes_then}
 use Rattle.pf_client.specs.Drives.{BreaksOff, IsAnyReport, IsReport, is_full, left_text, why_of}
 use Rattle.pf_client.specs.Files.{AreHeld}
-use Rattle.pf_client.specs.Going.{HasStopped, IsGoing}
+use Rattle.pf_client.specs.Going.{HasStopped, IsGoing, own_of}
 use Rattle.pf_client.specs.Hands.{HoldsJobs}
 use Rattle.pf_client.specs.Queries.{AreReadAs, readings_in}
 use Rattle.pf_client.specs.Replays.{Held}
@@ -33,7 +35,7 @@ use Rattle.pf_client.specs.declared.loaded.Loaded.{Loaded}
 -- ---- what the client held is sent
 
 abbrev pub holding : Client → Vec ℕ Global → Client
-holding c out = record { alloc = c.alloc; core = c.core; stepped = c.stepped; slots = c.slots; hands = c.hands; out = out }
+holding c out = record { alloc = c.alloc; client = c.client; core = c.core; stepped = c.stepped; slots = c.slots; hands = c.hands; out = out }
 
 -- a client goes on with what was sent of what it held
 pub going_sent : (loaded : Loaded) (limits : Limits) (lines : List Numbered) (n : ℕ) (sent more : List ℕ) (c : Client) (out : Vec ℕ Global)
@@ -61,7 +63,7 @@ pub all_sent : (held left : List ℕ) → left ≡ [] → held ≡ held ++ left
 all_sent held left none = sym (ap (λ (bytes : List ℕ). held ++ bytes) none ∙ append-nil held)
 
 pub holds_sent : (c : Client) (out : Vec ℕ Global) → HoldsJobs c → HoldsJobs (holding c out)
-holds_sent c out h = record { many = h.many; stands = h.stands; idle = h.idle }
+holds_sent c out h = record { many = h.many; stands = h.stands; below = h.below; idle = h.idle }
 
 -- what was sent, as far as the client went on
 abbrev pub Sends : (old new : Option (List ℕ)) → (loaded : Loaded) → List Numbered → (first : Client) → ℕ → Client → Type 0
@@ -82,22 +84,23 @@ pub sends_first : (told : Option (List ℕ)) (loaded : Loaded) (lines : List Num
 sends_first told loaded lines c = ([], (grows_none told, λ limits going. going))
 
 -- the output failed on the way
-pub breaks_off : (a b d : Option (List ℕ)) (loaded : Loaded) (limits : Limits) (lines : List Numbered) (first : Client) (n : ℕ) (c : Client) → Stands c.core
-    → Sends a b loaded lines first n c → WritesFront b d c.out.items → IsGoing loaded limits lines 0 [] first → BreaksOff loaded limits lines a d
-breaks_off a b d loaded limits lines first n c stands s f going = record {
+pub breaks_off : (a b d : Option (List ℕ)) (loaded : Loaded) (limits : Limits) (lines : List Numbered) (first : Client) (n : ℕ) (c : Client) → c.client ≡ first.client → Stands c.core
+    → Sends a b loaded lines first n c → WritesFront b d c.out.items → IsGoing loaded limits lines 0 [] first → BreaksOff first.client loaded limits lines a d
+breaks_off a b d loaded limits lines first n c numbered stands s f going = record {
   n = n;
   sent = s.0;
   client = c;
+  numbered = numbered;
   going = s.1.1 limits going;
   stands = stands;
   front = (f.0, writes_then a b d (s.0 ++ c.out.items) c.out.items f.0 (writes_sent a b s.0 c.out.items s.1.0) f.1);
 }
 
 -- memory failed behind what was sent
-pub broke_off : (a b : Option (List ℕ)) (loaded : Loaded) (limits : Limits) (lines : List Numbered) (first : Client) (n : ℕ) (c : Client) → Stands c.core
-    → Sends a b loaded lines first n c → IsGoing loaded limits lines 0 [] first → BreaksOff loaded limits lines a b
-broke_off a b loaded limits lines first n c stands s going =
-    breaks_off a b b loaded limits lines first n c stands s (c.out.items, writes_none b c.out.items) going
+pub broke_off : (a b : Option (List ℕ)) (loaded : Loaded) (limits : Limits) (lines : List Numbered) (first : Client) (n : ℕ) (c : Client) → c.client ≡ first.client → Stands c.core
+    → Sends a b loaded lines first n c → IsGoing loaded limits lines 0 [] first → BreaksOff first.client loaded limits lines a b
+broke_off a b loaded limits lines first n c numbered stands s going =
+    breaks_off a b b loaded limits lines first n c numbered stands s (c.out.items, writes_none b c.out.items) going
 
 -- ---- the journal and the actors
 
@@ -131,16 +134,20 @@ rest_written a b d c held more left failed w same is on =
 module _ (limits : Limits) (loaded : Loaded) (lines : List Numbered) (held : Held) (are : AreHeld held loaded.files) (right : AreReadAs loaded.queries)
     (short : length lines ≤ 18446744073709551615) where
   -- of a client that broke off: the lines left can be ended
-  pub begun_short : AllFollow [] lines → (old new : Option (List ℕ)) → BreaksOff loaded limits lines old new → WritesPart (IsAnyReport limits held lines) old new
-  begun_short following old new b =
+  pub begun_short : AllFollow [] lines → (number : ℕ) → number ≡ 0 → (old new : Option (List ℕ)) → BreaksOff number loaded limits lines old new → WritesPart (IsAnyReport limits held lines) old new
+  begun_short following number zeroth old new b =
       let c = b.client in
+      let first : c.client ≡ 0 = b.numbered ∙ zeroth in
       let known : Known = record { limits = c.core.limits; names = c.core.names; files = held; readings = readings_in loaded.queries } in
       let g = b.going known (record { held = are; readings = refl }) (itself c.core held loaded) in
-      let r = begins_report known c.core.journal lines g.told c.core.failed b.stands.legal b.stands.names g.has_told.alone g.has_told.woven g.goes (numbers_rise lines following)
+      let r = begins_report known c.core.journal lines g.told c.core.failed b.stands.legal b.stands.names (subst (λ (i : ℕ). Each (λ (e : Entry). e.client ≡ i) c.core.journal) first g.has_told.alone)
+      (subst (λ (i : ℕ). Woven known (own_of i c.core) lines (record { told = g.told; why = at_end })) first g.has_told.woven) g.goes (numbers_rise lines following)
       (λ text reading e. all_read loaded.queries right text reading e) (tried_so_far c lines g.told at_end b.stands g.has_told.tried g.has_told.woven.few short) in
       let rest : Rest = record { clients = r.client ∷ []; failed = c.core.failed } in
       let whole : (b.sent ++ c.out.items) ++ r.text ≡ report known r.whole (lines ∷ []) rest =
-      ap (λ (bytes : List ℕ). bytes ++ r.text) g.has_told.said ∙ sym r.said in (
+      ap (λ (bytes : List ℕ). bytes ++ r.text)
+      (subst (λ (i : ℕ). b.sent ++ c.out.items ≡ client_text known (own_of i c.core) i lines (record { told = g.told; why = at_end })) first g.has_told.said)
+      ∙ sym r.said in (
         (b.sent ++ c.out.items) ++ r.text,
         (
           (
@@ -162,10 +169,10 @@ module _ (limits : Limits) (loaded : Loaded) (lines : List Numbered) (held : Hel
       )
 
   -- of a client that stopped
-  module _ (stopped : LineRun) (met : Bool) (old mid new : Option (List ℕ)) (c : Client) (stands : Stands c.core)
+  module _ (stopped : LineRun) (met : Bool) (old mid new : Option (List ℕ)) (c : Client) (first : c.client ≡ 0) (stands : Stands c.core)
       (s : (sent : List ℕ) × (Grows old mid sent × HasStopped loaded limits lines (why_of stopped) sent c)) (full : met ≡ is_full stopped) where
     whole : IsReport limits held lines met (s.0 ++ left_text c)
-    whole = reported limits loaded lines stopped met s.0 c held are right short stands s.1.1 full
+    whole = reported limits loaded lines stopped met s.0 c held first are right short stands s.1.1 full
 
     to_end : (left : List ℕ) → WritesTo mid new (left_text c) left → WritesTo old new (s.0 ++ left_text c) left
     to_end left w = writes_then old mid new (s.0 ++ left_text c) (left_text c) left (writes_sent old mid s.0 (left_text c) s.1.0) w

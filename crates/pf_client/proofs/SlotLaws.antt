@@ -33,15 +33,15 @@ LeavesSlot s entered = (q : ℕ) → s ≡ Some (slot.Asked q) → answers q ent
 ran_other : (k : ℕ) (above : List Ran) (r : Ran) → (r.line.number ≡ k → ⊥) → ran_at k (r ∷ above) ≡ ran_at k above
 ran_other k above r h = rw (ne_eqb r.line.number k h) refl
 
-moment_other : (k : ℕ) (own : List Moment) (m : Machine) (n : ℕ) (entered : Option What) → (n ≡ k → ⊥)
-    → moment_of k (own_with own m n entered) ≡ moment_of k own
-moment_other k own m n None h = refl
-moment_other k own m n (Some what) h = first_stays _ own (moment_by m n what) (ne_eqb n k h)
+moment_other : (k : ℕ) (own : List Moment) (m : Machine) (client n : ℕ) (entered : Option What) → (n ≡ k → ⊥)
+    → moment_of k (own_with own m client n entered) ≡ moment_of k own
+moment_other k own m client n None h = refl
+moment_other k own m client n (Some what) h = first_stays _ own (moment_by m client n what) (ne_eqb n k h)
 
-answer_other : (asked : Moment) (own : List Moment) (m : Machine) (n : ℕ) (entered : Option What) → answers (place_of asked) entered ≡ false
-    → answer_of (Some asked) (own_with own m n entered) ≡ answer_of (Some asked) own
-answer_other asked own m n None h = refl
-answer_other asked own m n (Some what) h = first_stays _ own (moment_by m n what) h
+answer_other : (asked : Moment) (own : List Moment) (m : Machine) (client n : ℕ) (entered : Option What) → answers (place_of asked) entered ≡ false
+    → answer_of (Some asked) (own_with own m client n entered) ≡ answer_of (Some asked) own
+answer_other asked own m client n None h = refl
+answer_other asked own m client n (Some what) h = first_stays _ own (moment_by m client n what) h
 
 front_none : {X : Type 0} (p : X → Bool) (xs ys : List X) → first_with p (xs ++ ys) ≡ None → first_with p xs ≡ None
 front_none p [] ys h = refl
@@ -50,23 +50,23 @@ front_none p (x ∷ xs) ys h = elim (bool_cases (p x)) [
   | inr t ↦ let g = rw t at h in rw t (front_none p xs ys g)
 ]
 
-unanswered_before : (asked : Option Moment) (own : List Moment) (m : Machine) (n : ℕ) (entered : Option What)
-    → answer_of asked (own_with own m n entered) ≡ None → answer_of asked own ≡ None
-unanswered_before None own m n entered h = refl
-unanswered_before (Some x) own m n None h = h
-unanswered_before (Some x) own m n (Some what) h = front_none _ own (moment_by m n what ∷ []) h
+unanswered_before : (asked : Option Moment) (own : List Moment) (m : Machine) (client n : ℕ) (entered : Option What)
+    → answer_of asked (own_with own m client n entered) ≡ None → answer_of asked own ≡ None
+unanswered_before None own m client n entered h = refl
+unanswered_before (Some x) own m client n None h = h
+unanswered_before (Some x) own m client n (Some what) h = front_none _ own (moment_by m client n what ∷ []) h
 
 -- what is kept of an ask stays right
-pub slot_stays : (known : Known) (above : List Ran) (r : Ran) (own : List Moment) (m : Machine) (n : ℕ) (entered : Option What) (k : ℕ) (s : Option Slot)
+pub slot_stays : (known : Known) (above : List Ran) (r : Ran) (own : List Moment) (m : Machine) (client n : ℕ) (entered : Option What) (k : ℕ) (s : Option Slot)
     → (r.line.number ≡ k → ⊥) → (n ≡ k → ⊥) → LeavesSlot s entered → SlotRight known above own k s
-    → SlotRight known (r ∷ above) (own_with own m n entered) k s
-slot_stays known above r own m n entered k None other apart leaves h = λ a e.
-    h (subst (λ (x : Option Moment). HasQuery (what_of x)) (moment_other k own m n entered apart) a)
-    (unanswered_before (moment_of k own) own m n entered
-    (subst (λ (x : Option Moment). answer_of x (own_with own m n entered) ≡ None) (moment_other k own m n entered apart) e))
-slot_stays known above r own m n entered k (Some (slot.Asked q)) other apart leaves h = record {
+    → SlotRight known (r ∷ above) (own_with own m client n entered) k s
+slot_stays known above r own m client n entered k None other apart leaves h = λ a e.
+    h (subst (λ (x : Option Moment). HasQuery (what_of x)) (moment_other k own m client n entered apart) a)
+    (unanswered_before (moment_of k own) own m client n entered
+    (subst (λ (x : Option Moment). answer_of x (own_with own m client n entered) ≡ None) (moment_other k own m client n entered apart) e))
+slot_stays known above r own m client n entered k (Some (slot.Asked q)) other apart leaves h = record {
   asked = h.asked;
-  there = moment_other k own m n entered apart ∙ h.there;
+  there = moment_other k own m client n entered apart ∙ h.there;
   place = h.place;
   tenant = h.tenant;
   wanted = h.wanted;
@@ -75,28 +75,28 @@ slot_stays known above r own m n entered k (Some (slot.Asked q)) other apart lea
   floor = h.floor;
   is = h.is;
   named = h.named ∙ ap (λ (x : Option Ran). Some (asker_of x)) (sym (ran_other k above r other));
-  unanswered = answer_other h.asked own m n entered (subst (λ (i : ℕ). answers i entered ≡ false) (sym h.place) (leaves q refl)) ∙ h.unanswered;
+  unanswered = answer_other h.asked own m client n entered (subst (λ (i : ℕ). answers i entered ≡ false) (sym h.place) (leaves q refl)) ∙ h.unanswered;
 }
-slot_stays known above r own m n entered k (Some (slot.BadGrid e)) other apart leaves h = record {
-  none = moment_other k own m n entered apart ∙ h.none;
+slot_stays known above r own m client n entered k (Some (slot.BadGrid e)) other apart leaves h = record {
+  none = moment_other k own m client n entered apart ∙ h.none;
   ran = h.ran;
   there = ran_other k above r other ∙ h.there;
   told = h.told;
   text = h.text;
 }
-slot_stays known above r own m n entered k (Some (slot.BadQuery e)) other apart leaves h = record {
-  none = moment_other k own m n entered apart ∙ h.none;
+slot_stays known above r own m client n entered k (Some (slot.BadQuery e)) other apart leaves h = record {
+  none = moment_other k own m client n entered apart ∙ h.none;
   ran = h.ran;
   there = ran_other k above r other ∙ h.there;
   told = h.told;
   text = h.text;
 }
-slot_stays known above r own m n entered k (Some slot.Full) other apart leaves h =
-    subst (λ (x : Option Moment). IsFullWhat (what_of x)) (sym (moment_other k own m n entered apart)) h
-slot_stays known above r own m n entered k (Some slot.TooManyTenants) other apart leaves h =
-    subst (λ (x : Option Moment). IsNoTenantWhat (what_of x)) (sym (moment_other k own m n entered apart)) h
-slot_stays known above r own m n entered k (Some slot.NoMemory) other apart leaves h = record {
-  none = moment_other k own m n entered apart ∙ h.none;
+slot_stays known above r own m client n entered k (Some slot.Full) other apart leaves h =
+    subst (λ (x : Option Moment). IsFullWhat (what_of x)) (sym (moment_other k own m client n entered apart)) h
+slot_stays known above r own m client n entered k (Some slot.TooManyTenants) other apart leaves h =
+    subst (λ (x : Option Moment). IsNoTenantWhat (what_of x)) (sym (moment_other k own m client n entered apart)) h
+slot_stays known above r own m client n entered k (Some slot.NoMemory) other apart leaves h = record {
+  none = moment_other k own m client n entered apart ∙ h.none;
   ran = h.ran;
   there = ran_other k above r other ∙ h.there;
   told = h.told;
@@ -121,11 +121,11 @@ opened_unanswered x u wanted (Some y) None e = (
   (refl, (refl, ((λ h. cc), λ z h. let same : y ≡ z = cc in ap (λ (w : Moment). Some (place_of w)) same))),
 )
 
-pub open_in : (known : Known) (above : List Ran) (c : CoreData) (k q : ℕ) (limits : Limits) (names : List (List ℕ)) → Legal limits names c.journal → Each (λ (e : Entry). e.client ≡ 0) c.journal
-    → (h : IsAskAt known above (own_moments 0 (moments c.journal)) k q) → IsOpenIn c (own_moments 0 (moments c.journal)) h.asked h.tenant q
-open_in known above c k q limits names legal alone h =
-    let own = own_moments 0 (moments c.journal) in
-    let all : own ≡ moments c.journal = all_own 0 started c.journal alone in
+pub open_in : (client : ℕ) (known : Known) (above : List Ran) (c : CoreData) (k q : ℕ) (limits : Limits) (names : List (List ℕ)) → Legal limits names c.journal → Each (λ (e : Entry). e.client ≡ client) c.journal
+    → (h : IsAskAt known above (own_moments client (moments c.journal)) k q) → IsOpenIn c (own_moments client (moments c.journal)) h.asked h.tenant q
+open_in client known above c k q limits names legal alone h =
+    let own = own_moments client (moments c.journal) in
+    let all : own ≡ moments c.journal = all_own client started c.journal alone in
     let among : IsAmong h.asked (moments c.journal) = subst (IsAmong h.asked) all (found_among _ own h.asked h.there) in
     let law = opened limits names c.journal h.asked legal among h.tenant h.wanted h.pin h.generation h.floor h.is in
     let law' : open_at (place_of h.asked) (machine_of c).queries ≡ opened_by (asked_at h.asked h.tenant h.wanted) (cancel_of (Some h.asked) own) (answer_of (Some h.asked) own) =
@@ -200,17 +200,17 @@ module _ (done : List Numbered) (l : Numbered) (low : Each (λ b. b.number < l.n
 -- ---- the asks of a client's lines
 
 -- a line that asks nothing and answers nothing
-pub slots_same : (known : Known) (above : List Ran) (r : Ran) (own : List Moment) (m : Machine) (done : List Numbered) (l : Numbered) (entered : Option What) (count : ℕ) (slots : Slots)
+pub slots_same : (known : Known) (above : List Ran) (r : Ran) (own : List Moment) (m : Machine) (client : ℕ) (done : List Numbered) (l : Numbered) (entered : Option What) (count : ℕ) (slots : Slots)
     → Each (λ b. b.number < l.number) done → r.line.number ≡ l.number → m.count ≤ count
     → ((id : List ℕ) → IsAsk id (Some l.line) → ⊥) → ((k : ℕ) → LeavesSlot (get nat_cmp slots k) entered)
     → HaveSlots known above own m.count done slots
-    → HaveSlots known (r ∷ above) (own_with own m l.number entered) count (done ++ l ∷ []) slots
-slots_same known above r own m done l entered count slots low same grows asks leaves h = record {
+    → HaveSlots known (r ∷ above) (own_with own m client l.number entered) count (done ++ l ∷ []) slots
+slots_same known above r own m client done l entered count slots low same grows asks leaves h = record {
   right = λ k id a. elim (asked_cases done l low k id a) [
     | inl here ↦ absurd (asks id here.1)
     | inr b ↦
         let under = asked_below k l.number id done low b in
-        slot_stays known above r own m l.number entered k (get nat_cmp slots k) (λ e. omega (arith, e, same, under)) (λ e. omega (arith, e, under)) (leaves k) (h.right k id b)
+        slot_stays known above r own m client l.number entered k (get nat_cmp slots k) (λ e. omega (arith, e, same, under)) (λ e. omega (arith, e, under)) (leaves k) (h.right k id b)
   ];
   kept = λ k id a un none. elim (asked_cases done l low k id a) [
     | inl here ↦ asks id here.1
@@ -227,28 +227,28 @@ cond_cases true x y z h = inl (refl, h)
 cond_cases false x y z h = inr (refl, h)
 
 -- a line that asks, with what is kept of it
-pub slots_asked : (known : Known) (above : List Ran) (r : Ran) (own : List Moment) (m : Machine) (done : List Numbered) (l : Numbered) (entered : Option What) (count : ℕ) (slots slots' : Slots) (kept : Slot)
+pub slots_asked : (known : Known) (above : List Ran) (r : Ran) (own : List Moment) (m : Machine) (client : ℕ) (done : List Numbered) (l : Numbered) (entered : Option What) (count : ℕ) (slots slots' : Slots) (kept : Slot)
     → Each (λ b. b.number < l.number) done → r.line.number ≡ l.number → m.count ≤ count
     → (id : List ℕ) → IsAsk id (Some l.line)
     → ((k : ℕ) → LeavesSlot (get nat_cmp slots k) entered)
     → ((k : ℕ) → get nat_cmp slots' k ≡ cond (nat_eq l.number k) (Some kept) (get nat_cmp slots k))
-    → SlotRight known (r ∷ above) (own_with own m l.number entered) l.number (Some kept)
+    → SlotRight known (r ∷ above) (own_with own m client l.number entered) l.number (Some kept)
     → ((q : ℕ) → kept ≡ slot.Asked q → (q ≡ m.count) × (q < count))
     → HaveSlots known above own m.count done slots
-    → HaveSlots known (r ∷ above) (own_with own m l.number entered) count (done ++ l ∷ []) slots'
-slots_asked known above r own m done l entered count slots slots' kept low same grows id asks leaves now new fresh h = record {
+    → HaveSlots known (r ∷ above) (own_with own m client l.number entered) count (done ++ l ∷ []) slots'
+slots_asked known above r own m client done l entered count slots slots' kept low same grows id asks leaves now new fresh h = record {
   right = λ k i a. elim (asked_cases done l low k i a) [
     | inl here ↦
         let at_it : nat_eq l.number k ≡ true = let e = here.0 in grind (arith, nat_tests, e) in
         let found : get nat_cmp slots' k ≡ Some kept = now k ∙ rw at_it refl in
-        subst (λ (s : Option Slot). SlotRight known (r ∷ above) (own_with own m l.number entered) k s) (sym found)
-        (subst (λ (j : ℕ). SlotRight known (r ∷ above) (own_with own m l.number entered) j (Some kept)) here.0 new)
+        subst (λ (s : Option Slot). SlotRight known (r ∷ above) (own_with own m client l.number entered) k s) (sym found)
+        (subst (λ (j : ℕ). SlotRight known (r ∷ above) (own_with own m client l.number entered) j (Some kept)) here.0 new)
     | inr b ↦
         let under = asked_below k l.number i done low b in
         let off_it : nat_eq l.number k ≡ false = grind (arith, nat_tests, under) in
         let found : get nat_cmp slots' k ≡ get nat_cmp slots k = now k ∙ rw off_it refl in
-        subst (λ (s : Option Slot). SlotRight known (r ∷ above) (own_with own m l.number entered) k s) (sym found)
-        (slot_stays known above r own m l.number entered k (get nat_cmp slots k) (λ e. omega (arith, e, same, under)) (λ e. omega (arith, e, under)) (leaves k) (h.right k i b))
+        subst (λ (s : Option Slot). SlotRight known (r ∷ above) (own_with own m client l.number entered) k s) (sym found)
+        (slot_stays known above r own m client l.number entered k (get nat_cmp slots k) (λ e. omega (arith, e, same, under)) (λ e. omega (arith, e, under)) (leaves k) (h.right k i b))
   ];
   kept = λ k i a un none. elim (asked_cases done l low k i a) [
     | inl here ↦
@@ -301,28 +301,28 @@ slots_asked known above r own m done l entered count slots slots' kept low same 
 }
 
 -- a line that answers what a line asked
-pub slots_answered : (known : Known) (above : List Ran) (r : Ran) (own : List Moment) (m : Machine) (done : List Numbered) (l : Numbered) (j : ℕ) (entered : Option What) (count : ℕ) (slots slots' : Slots)
+pub slots_answered : (known : Known) (above : List Ran) (r : Ran) (own : List Moment) (m : Machine) (client : ℕ) (done : List Numbered) (l : Numbered) (j : ℕ) (entered : Option What) (count : ℕ) (slots slots' : Slots)
     → Each (λ b. b.number < l.number) done → r.line.number ≡ l.number → m.count ≤ count
     → ((id : List ℕ) → IsAsk id (Some l.line) → ⊥) → IsAnswerOf l.line j
     → ((k : ℕ) → (j ≡ k → ⊥) → LeavesSlot (get nat_cmp slots k) entered)
     → ((k : ℕ) → get nat_cmp slots' k ≡ cond (nat_eq j k) None (get nat_cmp slots k))
-    → SlotRight known (r ∷ above) (own_with own m l.number entered) j None
+    → SlotRight known (r ∷ above) (own_with own m client l.number entered) j None
     → HaveSlots known above own m.count done slots
-    → HaveSlots known (r ∷ above) (own_with own m l.number entered) count (done ++ l ∷ []) slots'
-slots_answered known above r own m done l j entered count slots slots' low same grows asks answers_it leaves now shut h = record {
+    → HaveSlots known (r ∷ above) (own_with own m client l.number entered) count (done ++ l ∷ []) slots'
+slots_answered known above r own m client done l j entered count slots slots' low same grows asks answers_it leaves now shut h = record {
   right = λ k i a. elim (asked_cases done l low k i a) [
     | inl here ↦ absurd (asks i here.1)
     | inr b ↦ elim (bool_cases (nat_eq j k)) [
       | inl t ↦
           let e : j ≡ k = grind (arith, nat_tests, t) in
           let found : get nat_cmp slots' k ≡ None = now k ∙ rw t refl in
-          subst (λ (s : Option Slot). SlotRight known (r ∷ above) (own_with own m l.number entered) k s) (sym found)
-          (subst (λ (n : ℕ). SlotRight known (r ∷ above) (own_with own m l.number entered) n None) e shut)
+          subst (λ (s : Option Slot). SlotRight known (r ∷ above) (own_with own m client l.number entered) k s) (sym found)
+          (subst (λ (n : ℕ). SlotRight known (r ∷ above) (own_with own m client l.number entered) n None) e shut)
       | inr t ↦
           let under = asked_below k l.number i done low b in
           let found : get nat_cmp slots' k ≡ get nat_cmp slots k = now k ∙ rw t refl in
-          subst (λ (s : Option Slot). SlotRight known (r ∷ above) (own_with own m l.number entered) k s) (sym found)
-          (slot_stays known above r own m l.number entered k (get nat_cmp slots k) (λ e. omega (arith, e, same, under)) (λ e. omega (arith, e, under))
+          subst (λ (s : Option Slot). SlotRight known (r ∷ above) (own_with own m client l.number entered) k s) (sym found)
+          (slot_stays known above r own m client l.number entered k (get nat_cmp slots k) (λ e. omega (arith, e, same, under)) (λ e. omega (arith, e, under))
           (leaves k (λ e. grind (arith, nat_tests, t, e))) (h.right k i b))
     ]
   ];
@@ -387,30 +387,30 @@ stranger_shut (Some (answer k c x y)) f q = f
 stranger_shut None f q = f
 
 -- what was answered is no longer kept
-pub slot_shut : (known : Known) (above above' : List Ran) (own : List Moment) (m : Machine) (n j : ℕ) (entered : Option What) (s : Slot) → (n ≡ j → ⊥)
+pub slot_shut : (known : Known) (above above' : List Ran) (own : List Moment) (m : Machine) (client n j : ℕ) (entered : Option What) (s : Slot) → (n ≡ j → ⊥)
     → ((q : ℕ) → answers q entered ≡ is_query q (Some s)) → SlotRight known above own j (Some s)
-    → SlotRight known above' (own_with own m n entered) j None
-slot_shut known above above' own m n j None (slot.Asked q) apart closes h =
+    → SlotRight known above' (own_with own m client n entered) j None
+slot_shut known above above' own m client n j None (slot.Asked q) apart closes h =
     let c = closes q in
     let t : nat_eq q q ≡ true = grind (arith, nat_tests) in
     let bad : false ≡ true = c ∙ t in
     cc
-slot_shut known above above' own m n j (Some what) (slot.Asked q) apart closes h = λ a e.
+slot_shut known above above' own m client n j (Some what) (slot.Asked q) apart closes h = λ a e.
     let t : nat_eq q q ≡ true = grind (arith, nat_tests) in
     let it : is_answer_of q what ≡ true = closes q ∙ t in
-    let there : moment_of j (own ++ moment_by m n what ∷ []) ≡ Some h.asked = moment_other j own m n (Some what) apart ∙ h.there in
-    let found : answer_of (Some h.asked) (own ++ moment_by m n what ∷ []) ≡ Some (moment_by m n what) =
-    last_with _ own (moment_by m n what) h.unanswered (subst (λ (i : ℕ). is_answer_of i what ≡ true) (sym h.place) it) in
-    let none : answer_of (Some h.asked) (own ++ moment_by m n what ∷ []) ≡ None = subst (λ (x : Option Moment). answer_of x (own ++ moment_by m n what ∷ []) ≡ None) there e in
-    let bad : Some (moment_by m n what) ≡ None = sym found ∙ none in
+    let there : moment_of j (own ++ moment_by m client n what ∷ []) ≡ Some h.asked = moment_other j own m client n (Some what) apart ∙ h.there in
+    let found : answer_of (Some h.asked) (own ++ moment_by m client n what ∷ []) ≡ Some (moment_by m client n what) =
+    last_with _ own (moment_by m client n what) h.unanswered (subst (λ (i : ℕ). is_answer_of i what ≡ true) (sym h.place) it) in
+    let none : answer_of (Some h.asked) (own ++ moment_by m client n what ∷ []) ≡ None = subst (λ (x : Option Moment). answer_of x (own ++ moment_by m client n what ∷ []) ≡ None) there e in
+    let bad : Some (moment_by m client n what) ≡ None = sym found ∙ none in
     cc
-slot_shut known above above' own m n j entered (slot.BadGrid e) apart closes h = λ a f.
-    subst (λ (x : Option Moment). HasQuery (what_of x)) (moment_other j own m n entered apart ∙ h.none) a
-slot_shut known above above' own m n j entered (slot.BadQuery e) apart closes h = λ a f.
-    subst (λ (x : Option Moment). HasQuery (what_of x)) (moment_other j own m n entered apart ∙ h.none) a
-slot_shut known above above' own m n j entered slot.Full apart closes h = λ a f.
-    full_shut (what_of (moment_of j own)) h (subst (λ (x : Option Moment). HasQuery (what_of x)) (moment_other j own m n entered apart) a)
-slot_shut known above above' own m n j entered slot.TooManyTenants apart closes h = λ a f.
-    stranger_shut (what_of (moment_of j own)) h (subst (λ (x : Option Moment). HasQuery (what_of x)) (moment_other j own m n entered apart) a)
-slot_shut known above above' own m n j entered slot.NoMemory apart closes h = λ a f.
-    subst (λ (x : Option Moment). HasQuery (what_of x)) (moment_other j own m n entered apart ∙ h.none) a
+slot_shut known above above' own m client n j entered (slot.BadGrid e) apart closes h = λ a f.
+    subst (λ (x : Option Moment). HasQuery (what_of x)) (moment_other j own m client n entered apart ∙ h.none) a
+slot_shut known above above' own m client n j entered (slot.BadQuery e) apart closes h = λ a f.
+    subst (λ (x : Option Moment). HasQuery (what_of x)) (moment_other j own m client n entered apart ∙ h.none) a
+slot_shut known above above' own m client n j entered slot.Full apart closes h = λ a f.
+    full_shut (what_of (moment_of j own)) h (subst (λ (x : Option Moment). HasQuery (what_of x)) (moment_other j own m client n entered apart) a)
+slot_shut known above above' own m client n j entered slot.TooManyTenants apart closes h = λ a f.
+    stranger_shut (what_of (moment_of j own)) h (subst (λ (x : Option Moment). HasQuery (what_of x)) (moment_other j own m client n entered apart) a)
+slot_shut known above above' own m client n j entered slot.NoMemory apart closes h = λ a f.
+    subst (λ (x : Option Moment). HasQuery (what_of x)) (moment_other j own m client n entered apart ∙ h.none) a

@@ -58,22 +58,22 @@ no_query_kept known above own k (Some slot.NoMemory) v kept r = subst (λ (m : O
 
 module _ (known : Known) (above : List Ran) (hands : List Hand) (old new : Client) (held : new.hands ≡ old.hands) (number : ℕ) (id : List ℕ) (k : ℕ) where
   -- a query that was opened
-  pub step_planned : (q : ℕ) (p : steps.PlanReply) → IsAskAt known above (own_of old.core) k q → (p ≡ steps.plan_refused → ⊥) → WorksOn old.core new.core
+  pub step_planned : (q : ℕ) (p : steps.PlanReply) → IsAskAt known above (own_of old.client old.core) k q → (p ≡ steps.plan_refused → ⊥) → WorksOn old.core new.core
       → new.out.items ≡ old.out.items ++ reply_line number (codes "plan") id (plan_words (of_plan p))
-      → IsStep known (naming (own_of old.core) above hands (script.plan id k)) old (record { number = number; line = script.plan id k }) run.On new
+      → IsStep known (naming (own_of old.client old.core) above hands (script.plan id k)) old (record { number = number; line = script.plan id k }) run.On new
   step_planned q p h n w said =
-      step_worked known (naming (own_of old.core) above hands (script.plan id k)) old new (record { number = number; line = script.plan id k }) (of_plan p) w.history refl
-      (plan_told (turn_by (naming (own_of old.core) above hands (script.plan id k) (of_plan p)) (record { number = number; line = script.plan id k }) (of_plan p) None) p n
-      (asked_query known above (own_of old.core) k q h))
+      step_worked known (naming (own_of old.client old.core) above hands (script.plan id k)) old new (record { number = number; line = script.plan id k }) (of_plan p) w.history refl
+      (plan_told (turn_by (naming (own_of old.client old.core) above hands (script.plan id k) (of_plan p)) (record { number = number; line = script.plan id k }) (of_plan p) None) p n
+      (asked_query known above (own_of old.client old.core) k q h))
       (tries_on old.core new.core (of_plan p) w.failed refl) (keeps_hands old new (ap (λ v. v.items) held) w.hands) said
 
   -- an ask that was refused
-  pub step_unplanned : (s : Option Slot) → new.core ≡ old.core → IsNoQuery s → (s ≡ None → ⊥) → SlotRight known above (own_of old.core) k s
+  pub step_unplanned : (s : Option Slot) → new.core ≡ old.core → IsNoQuery s → (s ≡ None → ⊥) → SlotRight known above (own_of old.client old.core) k s
       → new.out.items ≡ old.out.items ++ reply_line number (codes "plan") id (plan_words (of_plan steps.plan_refused))
-      → IsStep known (naming (own_of old.core) above hands (script.plan id k)) old (record { number = number; line = script.plan id k }) run.On new
+      → IsStep known (naming (own_of old.client old.core) above hands (script.plan id k)) old (record { number = number; line = script.plan id k }) run.On new
   step_unplanned s same v kept right said =
-      step_stayed known (naming (own_of old.core) above hands (script.plan id k)) old new (record { number = number; line = script.plan id k }) (of_plan steps.plan_refused) same refl refl
-      (no_query_kept known above (own_of old.core) k s v kept right) (keeps_same old new (ap (λ v. v.items) held) same) said
+      step_stayed known (naming (own_of old.client old.core) above hands (script.plan id k)) old new (record { number = number; line = script.plan id k }) (of_plan steps.plan_refused) same refl refl
+      (no_query_kept known above (own_of old.client old.core) k s v kept right) (keeps_same old new (ap (λ v. v.items) held) same) said
 
 -- ---- keep
 
@@ -98,22 +98,22 @@ keep_is_told t steps.unplanned n h = h
 
 module _ (known : Known) (above : List Ran) (hands : List Hand) (old new : Client) (held : new.hands ≡ old.hands) (number : ℕ) (id : List ℕ) (k : ℕ) where
   -- the steps of a query that was opened
-  pub step_kept : (q : ℕ) (p : steps.KeepReply) → IsAskAt known above (own_of old.core) k q → (p ≡ steps.keep_refused → ⊥) → WorksOn old.core new.core
+  pub step_kept : (q : ℕ) (p : steps.KeepReply) → IsAskAt known above (own_of old.client old.core) k q → (p ≡ steps.keep_refused → ⊥) → WorksOn old.core new.core
       → new.out.items ≡ old.out.items ++ reply_line number (codes "keep") id (keep_words (of_keep p))
-      → IsStep known (naming (own_of old.core) above hands (script.keep id k)) old (record { number = number; line = script.keep id k }) run.On new
+      → IsStep known (naming (own_of old.client old.core) above hands (script.keep id k)) old (record { number = number; line = script.keep id k }) run.On new
   step_kept q p h n w said =
-      step_worked known (naming (own_of old.core) above hands (script.keep id k)) old new (record { number = number; line = script.keep id k }) (of_keep p) w.history refl
-      (keep_is_told (turn_by (naming (own_of old.core) above hands (script.keep id k) (of_keep p)) (record { number = number; line = script.keep id k }) (of_keep p) None) p n
-      (asked_query known above (own_of old.core) k q h))
+      step_worked known (naming (own_of old.client old.core) above hands (script.keep id k)) old new (record { number = number; line = script.keep id k }) (of_keep p) w.history refl
+      (keep_is_told (turn_by (naming (own_of old.client old.core) above hands (script.keep id k) (of_keep p)) (record { number = number; line = script.keep id k }) (of_keep p) None) p n
+      (asked_query known above (own_of old.client old.core) k q h))
       (tries_on old.core new.core (of_keep p) w.failed refl) (keeps_hands old new (ap (λ v. v.items) held) w.hands) said
 
   -- an ask that was refused
-  pub step_unkept : (s : Option Slot) → new.core ≡ old.core → IsNoQuery s → (s ≡ None → ⊥) → SlotRight known above (own_of old.core) k s
+  pub step_unkept : (s : Option Slot) → new.core ≡ old.core → IsNoQuery s → (s ≡ None → ⊥) → SlotRight known above (own_of old.client old.core) k s
       → new.out.items ≡ old.out.items ++ reply_line number (codes "keep") id (keep_words (of_keep steps.keep_refused))
-      → IsStep known (naming (own_of old.core) above hands (script.keep id k)) old (record { number = number; line = script.keep id k }) run.On new
+      → IsStep known (naming (own_of old.client old.core) above hands (script.keep id k)) old (record { number = number; line = script.keep id k }) run.On new
   step_unkept s same v kept right said =
-      step_stayed known (naming (own_of old.core) above hands (script.keep id k)) old new (record { number = number; line = script.keep id k }) (of_keep steps.keep_refused) same refl refl
-      (no_query_kept known above (own_of old.core) k s v kept right) (keeps_same old new (ap (λ v. v.items) held) same) said
+      step_stayed known (naming (own_of old.client old.core) above hands (script.keep id k)) old new (record { number = number; line = script.keep id k }) (of_keep steps.keep_refused) same refl refl
+      (no_query_kept known above (own_of old.client old.core) k s v kept right) (keeps_same old new (ap (λ v. v.items) held) same) said
 
 -- ---- take
 
@@ -134,11 +134,11 @@ at_place m (e ∷ es) x (inr h) =
     let t : nat_eq m.count (place_of x) ≡ false = grind (arith, nat_tests, s) in
     rw t (at_place (next m e.what) es x h)
 
-pub asked_at_place : (known : Known) (above : List Ran) (c : CoreData) (k q : ℕ) → Each (λ (e : Entry). e.client ≡ 0) c.journal → (h : IsAskAt known above (own_of c) k q)
-    → moment_at q (own_of c) ≡ Some h.asked
-asked_at_place known above c k q alone h =
-    let all : own_of c ≡ moments c.journal = all_own 0 started c.journal alone in
-    let among : IsAmong h.asked (moments c.journal) = subst (IsAmong h.asked) all (found_among _ (own_of c) h.asked h.there) in
+pub asked_at_place : (client : ℕ) (known : Known) (above : List Ran) (c : CoreData) (k q : ℕ) → Each (λ (e : Entry). e.client ≡ client) c.journal → (h : IsAskAt known above (own_of client c) k q)
+    → moment_at q (own_of client c) ≡ Some h.asked
+asked_at_place client known above c k q alone h =
+    let all : own_of client c ≡ moments c.journal = all_own client started c.journal alone in
+    let among : IsAmong h.asked (moments c.journal) = subst (IsAmong h.asked) all (found_among _ (own_of client c) h.asked h.there) in
     subst (λ (xs : List Moment). moment_at q xs ≡ Some h.asked) (sym all)
     (subst (λ (i : ℕ). moment_at i (moments c.journal) ≡ Some h.asked) h.place (at_place started c.journal h.asked among))
 
@@ -177,40 +177,43 @@ length_set : {X : Type 0} (xs : List X) (i : ℕ) (y : X) → length (slice_set 
 length_set xs i y = search rules
 
 -- the jobs in workers' hands stand on
-pub holds_on : (old new : Client) → Grows old.core new.core → new.hands ≡ old.hands → HoldsJobs old → HoldsJobs new
-holds_on old new g same h = record {
+pub holds_on : (old new : Client) → new.client ≡ old.client → Grows old.core new.core → new.hands ≡ old.hands → HoldsJobs old → HoldsJobs new
+holds_on old new client g same h = record {
   many = ap (λ v. length v.items) same ∙ h.many;
   stands = λ w j e.
       let before = h.stands w j (sym (ap (λ v. held_by v.items w) same) ∙ e) in
       (stands_on old.core new.core j g before.0, before.1);
-  idle = g.idle h.idle;
+  below = subst (λ (i : ℕ). i < 16) (sym client) h.below;
+  idle = subst (IsIdle new.core) (sym client) (g.idle old.client h.below h.idle);
 }
 
 -- the same of jobs that are put back
-pub holds_same : (old new : Client) → Grows old.core new.core → new.hands.items ≡ old.hands.items → HoldsJobs old → HoldsJobs new
-holds_same old new g same h = record {
+pub holds_same : (old new : Client) → new.client ≡ old.client → Grows old.core new.core → new.hands.items ≡ old.hands.items → HoldsJobs old → HoldsJobs new
+holds_same old new client g same h = record {
   many = ap length same ∙ h.many;
   stands = λ w j e.
       let before = h.stands w j (sym (ap (λ (xs : List (Option Held)). held_by xs w) same) ∙ e) in
       (stands_on old.core new.core j g before.0, before.1);
-  idle = g.idle h.idle;
+  below = subst (λ (i : ℕ). i < 16) (sym client) h.below;
+  idle = subst (IsIdle new.core) (sym client) (g.idle old.client h.below h.idle);
 }
 
 -- the same of a call
-pub holds_if : {A E : Type 0} (old new : Client) (result : Result A E) → OnOk result (Grows old.core new.core) → OnOk result (new.hands ≡ old.hands) → HoldsJobs old → OnOk result (HoldsJobs new)
-holds_if old new (Ok x) g same h = holds_on old new g same h
-holds_if old new (Err e) g same h = tt
+pub holds_if : {A E : Type 0} (old new : Client) (result : Result A E) → OnOk result (new.client ≡ old.client) → OnOk result (Grows old.core new.core) → OnOk result (new.hands ≡ old.hands) → HoldsJobs old → OnOk result (HoldsJobs new)
+holds_if old new (Ok x) client g same h = holds_on old new client g same h
+holds_if old new (Err e) client g same h = tt
 
 -- and with one that was taken
-pub holds_taken : (old new : Client) (w : ℕ) (j : Held) → Grows old.core new.core → new.hands.items ≡ slice_set old.hands.items w (Some j) → w ≤ 15 → StandsForAsk new.core j → j.actor ≡ 16 + w
+pub holds_taken : (old new : Client) (w : ℕ) (j : Held) → new.client ≡ old.client → Grows old.core new.core → new.hands.items ≡ slice_set old.hands.items w (Some j) → w ≤ 15 → StandsForAsk new.core j → j.actor ≡ 16 + w
     → HoldsJobs old → HoldsJobs new
-holds_taken old new w j g set low stands actor h =
+holds_taken old new w j client g set low stands actor h =
     let many = h.many in
     let inside : w < length old.hands.items = omega (arith, many, low) in
     record {
       many = ap length set ∙ length_set old.hands.items w (Some j) ∙ h.many;
       stands = λ v x e. by v x (sym (held_set old.hands.items w (Some j) inside v) ∙ sym (ap (λ (xs : List (Option Held)). held_by xs v) set) ∙ e) (nat_eq w v) refl;
-      idle = g.idle h.idle;
+      below = subst (λ (i : ℕ). i < 16) (sym client) h.below;
+      idle = subst (IsIdle new.core) (sym client) (g.idle old.client h.below h.idle);
     } where
       by : (v : ℕ) (x : Held) → cond (nat_eq w v) (Some j) (held_by old.hands.items v) ≡ Some x → (b : Bool) → nat_eq w v ≡ b → StandsForAsk new.core x × (x.actor ≡ 16 + v)
       by v x e true t =
@@ -224,14 +227,15 @@ holds_taken old new w j g set low stands actor h =
           (stands_on old.core new.core x g before.0, before.1)
 
 -- and without one that was worked on
-pub holds_dropped : (old new : Client) (w : ℕ) → Grows old.core new.core → new.hands.items ≡ slice_set old.hands.items w None → w ≤ 15 → HoldsJobs old → HoldsJobs new
-holds_dropped old new w g set low h =
+pub holds_dropped : (old new : Client) (w : ℕ) → new.client ≡ old.client → Grows old.core new.core → new.hands.items ≡ slice_set old.hands.items w None → w ≤ 15 → HoldsJobs old → HoldsJobs new
+holds_dropped old new w client g set low h =
     let many = h.many in
     let inside : w < length old.hands.items = omega (arith, many, low) in
     record {
       many = ap length set ∙ length_set old.hands.items w None ∙ h.many;
       stands = λ v x e. by v x (sym (held_set old.hands.items w None inside v) ∙ sym (ap (λ (xs : List (Option Held)). held_by xs v) set) ∙ e) (nat_eq w v) refl;
-      idle = g.idle h.idle;
+      below = subst (λ (i : ℕ). i < 16) (sym client) h.below;
+      idle = subst (IsIdle new.core) (sym client) (g.idle old.client h.below h.idle);
     } where
       by : (v : ℕ) (x : Held) → cond (nat_eq w v) None (held_by old.hands.items v) ≡ Some x → (b : Bool) → nat_eq w v ≡ b → StandsForAsk new.core x × (x.actor ≡ 16 + v)
       by v x e true t = let g2 : None ≡ Some x = rw t at e in cc
@@ -269,10 +273,10 @@ legal_same old new h stands =
     (subst (λ (ns : List (List ℕ)). Legal new.limits ns old.journal) h.names
     (subst (λ (es : List Entry). Legal new.limits new.names es) h.journal stands.legal))
 
-pub open_still : (known : Known) (above : List Ran) (old new : CoreData) (k q : ℕ) → IsAskAt known above (own_of old) k q → Each (λ (e : Entry). e.client ≡ 0) old.journal → IsSameHistory old new → Stands new
+pub open_still : (client : ℕ) (known : Known) (above : List Ran) (old new : CoreData) (k q : ℕ) → IsAskAt known above (own_of client old) k q → Each (λ (e : Entry). e.client ≡ client) old.journal → IsSameHistory old new → Stands new
     → open_at q (machine_of old).queries ≡ None → ⊥
-open_still known above old new k q h alone same stands none =
-    let law = open_in known above old k q old.limits old.names (legal_same old new same stands) alone h in
+open_still client known above old new k q h alone same stands none =
+    let law = open_in client known above old k q old.limits old.names (legal_same old new same stands) alone h in
     let there = law.is_open in
     let bad : None ≡ Some law.open_query = sym none ∙ there in
     cc
@@ -281,21 +285,21 @@ module _ (known : Known) (above : List Ran) (hands : List Hand) (old new : Clien
   -- the worker has a job
   pub step_busy : (j : Held) → new.core ≡ old.core → new.hands ≡ old.hands → HaveHands old hands → held_by old.hands.items w ≡ Some j
       → new.out.items ≡ old.out.items ++ reply_line number (codes "take") (decimal w) (codes "busy" ∷ [])
-      → IsStep known (naming (own_of old.core) above hands (script.take w)) old (record { number = number; line = script.take w }) run.On new
+      → IsStep known (naming (own_of old.client old.core) above hands (script.take w)) old (record { number = number; line = script.take w }) run.On new
   step_busy j same held have there said =
-      step_stayed known (naming (own_of old.core) above hands (script.take w)) old new (record { number = number; line = script.take w }) (of_take steps.busy) same refl refl
+      step_stayed known (naming (own_of old.client old.core) above hands (script.take w)) old new (record { number = number; line = script.take w }) (of_take steps.busy) same refl refl
       (holds_job old hands w j have there) (keeps_same old new (ap (λ v. v.items) held) same) said
 
   -- no job waits
   pub step_none : new.core ≡ old.core → new.hands ≡ old.hands → HaveHands old hands → held_by old.hands.items w ≡ None
       → new.out.items ≡ old.out.items ++ reply_line number (codes "take") (decimal w) (codes "none" ∷ [])
-      → IsStep known (naming (own_of old.core) above hands (script.take w)) old (record { number = number; line = script.take w }) run.On new
+      → IsStep known (naming (own_of old.client old.core) above hands (script.take w)) old (record { number = number; line = script.take w }) run.On new
   step_none same held have vacant said =
-      step_stayed known (naming (own_of old.core) above hands (script.take w)) old new (record { number = number; line = script.take w }) (of_take steps.none_waits) same refl refl
+      step_stayed known (naming (own_of old.client old.core) above hands (script.take w)) old new (record { number = number; line = script.take w }) (of_take steps.none_waits) same refl refl
       (holds_nothing old hands w have vacant) (keeps_same old new (ap (λ v. v.items) held) same) said
 
   -- a job was taken
-  module _ (j : Held) (taken : IsTaken old.core (16 + w) j new.core) (alone : Each (λ (e : Entry). e.client ≡ 0) old.core.journal) (stands : Stands new.core) (asked : AreAsked known above old.core)
+  module _ (j : Held) (taken : IsTaken old.core (16 + w) j new.core) (alone : Each (λ (e : Entry). e.client ≡ old.client) old.core.journal) (stands : Stands new.core) (asked : AreAsked old.client known above old.core)
       (kn : IsKnown known new.core) where
     history : IsSameHistory old.core new.core
     history = taken.leaves.history
@@ -303,11 +307,11 @@ module _ (known : Known) (above : List Ran) (hands : List Hand) (old new : Clien
     there : open_at j.head.query (machine_of old.core).queries ≡ Some taken.whole.opened
     there = subst (λ (es : List Entry). open_at j.head.query (machine_after started es).queries ≡ Some taken.whole.opened) history.journal taken.whole.is_open
 
-    asking : (k : ℕ) × IsAskAt known above (own_of old.core) k j.head.query
+    asking : (k : ℕ) × IsAskAt known above (own_of old.client old.core) k j.head.query
     asking = asked j.head.query taken.whole.opened there
 
-    found : moment_at j.head.query (own_of old.core) ≡ Some asking.1.asked
-    found = asked_at_place known above old.core asking.0 j.head.query alone asking.1
+    found : moment_at j.head.query (own_of old.client old.core) ≡ Some asking.1.asked
+    found = asked_at_place old.client known above old.core asking.0 j.head.query alone asking.1
 
     told : Told
     told = of_take (steps.took j.head.query j.head.job j.head.leg j.head.first j.head.last)
@@ -318,21 +322,21 @@ module _ (known : Known) (above : List Ran) (hands : List Hand) (old new : Clien
         (subst (λ (ns : List (List ℕ)). Legal new.core.limits ns old.core.journal) history.names
         (subst (λ (es : List Entry). Legal new.core.limits new.core.names es) history.journal stands.legal))
 
-    opened : (t : Turn) → t.asked ≡ Some asking.1.asked → t.cancelled ≡ cancel_of t.asked (own_of old.core) → t.answered ≡ answer_of t.asked (own_of old.core) → IsOpen t
+    opened : (t : Turn) → t.asked ≡ Some asking.1.asked → t.cancelled ≡ cancel_of t.asked (own_of old.client old.core) → t.answered ≡ answer_of t.asked (own_of old.client old.core) → IsOpen t
     opened t a c n = record {
       query = subst (λ (m : Option Moment). HasQuery (what_of m)) (sym a) (subst (λ (x : What). HasQuery (Some x)) (sym asking.1.is) tt);
-      unanswered = n ∙ ap (λ (m : Option Moment). answer_of m (own_of old.core)) a ∙ asking.1.unanswered;
-      uncancelled = c ∙ ap (λ (m : Option Moment). cancel_of m (own_of old.core)) a
-          ∙ uncancelled_by known above old.core asking.0 j.head.query legal alone asking.1 taken.whole.opened there taken.whole.cancelled_at;
+      unanswered = n ∙ ap (λ (m : Option Moment). answer_of m (own_of old.client old.core)) a ∙ asking.1.unanswered;
+      uncancelled = c ∙ ap (λ (m : Option Moment). cancel_of m (own_of old.client old.core)) a
+          ∙ uncancelled_by old.client known above old.core asking.0 j.head.query legal alone asking.1 taken.whole.opened there taken.whole.cancelled_at;
     }
 
     -- the tenant's name is the one that the ask names
-    named : (name : List ℕ) → slice_get old.core.names j.head.tenant ≡ Some name → asker_of (asking_ran None (moment_at j.head.query (own_of old.core)) above) ≡ name
+    named : (name : List ℕ) → slice_get old.core.names j.head.tenant ≡ Some name → asker_of (asking_ran None (moment_at j.head.query (own_of old.client old.core)) above) ≡ name
     named name n =
-        let line : asking.1.asked.entry.line ≡ asking.0 = line_of_moment asking.0 (own_of old.core) asking.1.asked asking.1.there in
-        let ran : asking_ran None (moment_at j.head.query (own_of old.core)) above ≡ ran_at asking.0 above =
+        let line : asking.1.asked.entry.line ≡ asking.0 = line_of_moment asking.0 (own_of old.client old.core) asking.1.asked asking.1.there in
+        let ran : asking_ran None (moment_at j.head.query (own_of old.client old.core)) above ≡ ran_at asking.0 above =
         ap (λ (m : Option Moment). asking_ran None m above) found ∙ ap (λ (i : ℕ). ran_at i above) line in
-        let law = open_in known above old.core asking.0 j.head.query old.core.limits old.core.names legal alone asking.1 in
+        let law = open_in old.client known above old.core asking.0 j.head.query old.core.limits old.core.names legal alone asking.1 in
         let is_open = law.is_open in
         let open_there = there in
         let one : law.open_query ≡ taken.whole.opened = cc in
@@ -348,12 +352,12 @@ module _ (known : Known) (above : List Ran) (hands : List Hand) (old new : Clien
     pub step_taken : (name : List ℕ) → slice_get old.core.names j.head.tenant ≡ Some name → HaveHands old hands → held_by old.hands.items w ≡ None → w < length old.hands.items
         → new.hands.items ≡ slice_set old.hands.items w (Some j)
         → new.out.items ≡ old.out.items ++ took_text number w name j.head
-        → IsStep known (naming (own_of old.core) above hands (script.take w)) old (record { number = number; line = script.take w }) run.On new
+        → IsStep known (naming (own_of old.client old.core) above hands (script.take w)) old (record { number = number; line = script.take w }) run.On new
     unfolding told
     step_taken name n have vacant inside set said =
-        step_worked known (naming (own_of old.core) above hands (script.take w)) old new (record { number = number; line = script.take w }) told history refl (
+        step_worked known (naming (own_of old.client old.core) above hands (script.take w)) old new (record { number = number; line = script.take w }) told history refl (
           holds_nothing old hands w have vacant,
-          opened (turn_by (naming (own_of old.core) above hands (script.take w) told) (record { number = number; line = script.take w }) told None) found refl refl,
+          opened (turn_by (naming (own_of old.client old.core) above hands (script.take w) told) (record { number = number; line = script.take w }) told None) found refl refl,
         )
         (tries_same old.core new.core told taken.leaves.failed refl)
         (record {
@@ -371,16 +375,16 @@ module _ (known : Known) (above : List Ran) (hands : List Hand) (old new : Clien
   -- the worker has no job
   pub step_empty : new.core ≡ old.core → new.hands.items ≡ old.hands.items → HaveHands old hands → held_by old.hands.items w ≡ None
       → new.out.items ≡ old.out.items ++ reply_line number (codes "done") (decimal w) (done_words (of_done steps.empty))
-      → IsStep known (naming (own_of old.core) above hands (script.done w)) old (record { number = number; line = script.done w }) run.On new
+      → IsStep known (naming (own_of old.client old.core) above hands (script.done w)) old (record { number = number; line = script.done w }) run.On new
   step_empty same held have vacant said =
-      step_stayed known (naming (own_of old.core) above hands (script.done w)) old new (record { number = number; line = script.done w }) (of_done steps.empty) same refl refl
+      step_stayed known (naming (own_of old.client old.core) above hands (script.done w)) old new (record { number = number; line = script.done w }) (of_done steps.empty) same refl refl
       (holds_nothing old hands w have vacant) (vacant, keeps_same old new held same) said
 
   -- a job was worked on
   pub step_done : (before after : ℕ) (j : Held) (x : Worked) → IsWorked before after old.core j x new.core → StandsForAsk old.core j → j.actor ≡ 16 + w → w ≤ 15 → Stands new.core
       → HaveHands old hands → held_by old.hands.items w ≡ Some j → w < length old.hands.items → new.hands.items ≡ slice_set old.hands.items w None
       → new.out.items ≡ old.out.items ++ reply_line number (codes "done") (decimal w) (done_words (of_done (done_told x)))
-      → IsStep known (naming (own_of old.core) above hands (script.done w)) old (record { number = number; line = script.done w }) run.On new
+      → IsStep known (naming (own_of old.client old.core) above hands (script.done w)) old (record { number = number; line = script.done w }) run.On new
   step_done before after j x did stands actor low new_stands have there inside set said =
       let out = worked_out old.core new.core j stands before after x did in
       let journal = out.0.journal in
@@ -399,19 +403,19 @@ module _ (known : Known) (above : List Ran) (hands : List Hand) (old new : Clien
             → ((v : ℕ) → held_by new.hands.items v ≡ cond (nat_eq w v) None (held_by old.hands.items v))
             → ((u q : ℕ) → IsLive new.core u q → jobs_in_hand new.core u q ≡ without_hand (hand_of j) (jobs_in_hand old.core u q))
             → new.out.items ≡ old.out.items ++ reply_line number (codes "done") (decimal w) (done_words (of_done (done_told y)))
-            → IsStep known (naming (own_of old.core) above hands (script.done w)) old (record { number = number; line = script.done w }) run.On new
-        by worked.Stored h t v jobs s = step_worked known (naming (own_of old.core) above hands (script.done w)) old new (record { number = number; line = script.done w }) (of_done steps.stored) left refl h t (record { job = j; there = there; actor = actor; held = v; jobs = jobs }) s
-        by (worked.Again tries) h t v jobs s = step_worked known (naming (own_of old.core) above hands (script.done w)) old new (record { number = number; line = script.done w }) (of_done (steps.again tries)) left refl h t (record { job = j; there = there; actor = actor; held = v; jobs = jobs }) s
-        by (worked.Exhausted job) h t v jobs s = step_worked known (naming (own_of old.core) above hands (script.done w)) old new (record { number = number; line = script.done w }) (of_done (steps.exhausted job)) left refl h t (record { job = j; there = there; actor = actor; held = v; jobs = jobs }) s
-        by worked.Lacked h t v jobs s = step_worked known (naming (own_of old.core) above hands (script.done w)) old new (record { number = number; line = script.done w }) (of_done steps.lacked) left refl h t (record { job = j; there = there; actor = actor; held = v; jobs = jobs }) s
-        by (worked.Gone why) h t v jobs s = step_worked known (naming (own_of old.core) above hands (script.done w)) old new (record { number = number; line = script.done w }) (of_done (done_told (worked.Gone why))) left refl h t (record { job = j; there = there; actor = actor; held = v; jobs = jobs }) s
-        by worked.NotHeld h t v jobs s = step_worked known (naming (own_of old.core) above hands (script.done w)) old new (record { number = number; line = script.done w }) (of_done steps.not_held) left refl h t (record { job = j; there = there; actor = actor; held = v; jobs = jobs }) s
+            → IsStep known (naming (own_of old.client old.core) above hands (script.done w)) old (record { number = number; line = script.done w }) run.On new
+        by worked.Stored h t v jobs s = step_worked known (naming (own_of old.client old.core) above hands (script.done w)) old new (record { number = number; line = script.done w }) (of_done steps.stored) left refl h t (record { job = j; there = there; actor = actor; held = v; jobs = jobs }) s
+        by (worked.Again tries) h t v jobs s = step_worked known (naming (own_of old.client old.core) above hands (script.done w)) old new (record { number = number; line = script.done w }) (of_done (steps.again tries)) left refl h t (record { job = j; there = there; actor = actor; held = v; jobs = jobs }) s
+        by (worked.Exhausted job) h t v jobs s = step_worked known (naming (own_of old.client old.core) above hands (script.done w)) old new (record { number = number; line = script.done w }) (of_done (steps.exhausted job)) left refl h t (record { job = j; there = there; actor = actor; held = v; jobs = jobs }) s
+        by worked.Lacked h t v jobs s = step_worked known (naming (own_of old.client old.core) above hands (script.done w)) old new (record { number = number; line = script.done w }) (of_done steps.lacked) left refl h t (record { job = j; there = there; actor = actor; held = v; jobs = jobs }) s
+        by (worked.Gone why) h t v jobs s = step_worked known (naming (own_of old.client old.core) above hands (script.done w)) old new (record { number = number; line = script.done w }) (of_done (done_told (worked.Gone why))) left refl h t (record { job = j; there = there; actor = actor; held = v; jobs = jobs }) s
+        by worked.NotHeld h t v jobs s = step_worked known (naming (own_of old.client old.core) above hands (script.done w)) old new (record { number = number; line = script.done w }) (of_done steps.not_held) left refl h t (record { job = j; there = there; actor = actor; held = v; jobs = jobs }) s
 
-pub grows_worked : (old new : CoreData) (j : Held) (before after : ℕ) (x : Worked) → StandsForAsk old j → IsWorked before after old j x new → (IsIdle old 0 → IsIdle new 0) → Grows old new
+pub grows_worked : (old new : CoreData) (j : Held) (before after : ℕ) (x : Worked) → StandsForAsk old j → IsWorked before after old j x new → ((client : ℕ) → client < 16 → IsIdle old client → IsIdle new client) → Grows old new
 grows_worked old new j before after x stands did idle = grows_idle old new (worked_out old new j stands before after x did).0 idle
 
 pub grows_taken : (old new : CoreData) (w : ℕ) (j : Held) → IsTaken old (16 + w) j new → Grows old new
-grows_taken old new w j t = grows_idle old new t.leaves.history (taken_idle old new (16 + w) j t (omega arith))
+grows_taken old new w j t = grows_idle old new t.leaves.history (λ client below. taken_idle old new (16 + w) client j t (omega (arith, below)))
 
 -- ---- names
 

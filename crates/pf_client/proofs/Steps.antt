@@ -1,5 +1,5 @@
 -- Lines that were run, by what they entered.
-use Rattle.std.proofs.Common.{◌≡◌, ℕ, zero, suc, ◌+◌, ◌≤◌, Some, None, Result, Ok, Err, IfOk, OnOk, List, [], ◌∷◌, ◌++◌, refl, sym, ap, ◌∙◌, subst, append-nil, append_assoc, codes, decimal, slice_get}
+use Rattle.std.proofs.Common.{◌≡◌, ℕ, zero, suc, ◌+◌, ◌<◌, ◌≤◌, Some, None, Result, Ok, Err, IfOk, OnOk, List, [], ◌∷◌, ◌++◌, refl, sym, ap, ◌∙◌, subst, append-nil, append_assoc, codes, decimal, slice_get}
 use Rattle.std.specs.Prelude.{slice_index_or}
 use Rattle.pf_base.specs.Batches.{BatchData}
 use Rattle.pf_base.specs.declared.plain.By.{By}
@@ -44,11 +44,11 @@ name_known known c u name k h =
 
 -- a line with an entry
 abbrev pub step_entered : (known : Known) (n : Told → Naming) (old new : Client) (by : By) (l : Numbered) (t : Told) (what : What)
-    → IsKnown known new.core → Enters old.core by what new.core → by.client ≡ 0 → by.line ≡ l.number
-    → Fits known (turn_by (n t) l t (Some (moment_by (machine_of old.core) l.number what))) l.line what
+    → IsKnown known new.core → Enters old.core by what new.core → by.client ≡ old.client → by.line ≡ l.number
+    → Fits known (turn_by (n t) l t (Some (moment_by (machine_of old.core) old.client l.number what))) l.line what
     → ToldBeside what t → HasRoomFor old.core (room_of l.line) → stops_at l.line t ≡ None
     → CountsTries old.core t new.core → HandsAfter l.line t old new
-    → new.out.items ≡ old.out.items ++ reply_to known (turn_by (n t) l t (Some (moment_by (machine_of old.core) l.number what))) l.number l.line
+    → new.out.items ≡ old.out.items ++ reply_to known (turn_by (n t) l t (Some (moment_by (machine_of old.core) old.client l.number what))) l.number l.line
     → IsStep known n old l run.On new
 step_entered known n old new by l t what k e client line fits beside room goes tried hands said = record {
   told = t;
@@ -57,7 +57,7 @@ step_entered known n old new by l t what k e client line fits beside room goes t
   limits = e.limits;
   journal = e.journal
       ∙ ap (λ (i : ℕ). old.core.journal ++ record { client = i; line = by.line; what = what } ∷ []) client
-      ∙ ap (λ (i : ℕ). old.core.journal ++ record { client = 0; line = i; what = what } ∷ []) line;
+      ∙ ap (λ (i : ℕ). old.core.journal ++ record { client = old.client; line = i; what = what } ∷ []) line;
   more = e.more;
   grown = e.grown;
   matched = (fits, beside);
@@ -193,7 +193,7 @@ works_tries old new t same none = tries_same old new t same.0.failed none
 -- ---- ingest
 
 pub step_ingested : (known : Known) (n : Told → Naming) (old new : Client) (by : By) (number : ℕ) (tenant file : List ℕ) (time : ℕ) (batch : BatchData) (v : VerdictsData)
-    → IsKnown known new.core → IsAppended old.core by tenant batch v new.core → by.client ≡ 0 → by.line ≡ number → AreSameWork old.core new.core → new.hands ≡ old.hands
+    → IsKnown known new.core → IsAppended old.core by tenant batch v new.core → by.client ≡ old.client → by.line ≡ number → AreSameWork old.core new.core → new.hands ≡ old.hands
     → Gives (known.files file) time batch
     → new.out.items ≡ old.out.items ++ ingested number tenant batch.skipped v.list v.entry
     → IsStep known n old (record { number = number; line = script.ingest tenant file time }) run.On new
@@ -203,7 +203,7 @@ step_ingested known n old new by number tenant file time batch v k e client line
     (works_tries old.core new.core nothing same refl) (works_keep old new same hands) said
 
 pub step_uningested : (known : Known) (n : Told → Naming) (old new : Client) (by : By) (number : ℕ) (tenant file : List ℕ) (time : ℕ) (batch : BatchData)
-    → IsKnown known new.core → HasRoomFor old.core 1 → Enters old.core by (no_tenant tenant) new.core → by.client ≡ 0 → by.line ≡ number → AreSameWork old.core new.core → new.hands ≡ old.hands
+    → IsKnown known new.core → HasRoomFor old.core 1 → Enters old.core by (no_tenant tenant) new.core → by.client ≡ old.client → by.line ≡ number → AreSameWork old.core new.core → new.hands ≡ old.hands
     → Gives (known.files file) time batch
     → new.out.items ≡ old.out.items ++ reply_line number (codes "ingest") tenant tenants_words
     → IsStep known n old (record { number = number; line = script.ingest tenant file time }) run.On new
@@ -214,7 +214,7 @@ step_uningested known n old new by number tenant file time batch k room e client
 -- ---- delete
 
 pub step_deleted : (known : Known) (n : Told → Naming) (old new : Client) (by : By) (number : ℕ) (tenant : List ℕ) (from to : ℕ) (selector : List ℕ) (ms : List Matcher) (d : Deleted)
-    → IsKnown known new.core → IsDeleted old.core by tenant ms from to d new.core → by.client ≡ 0 → by.line ≡ number → AreSameWork old.core new.core → new.hands ≡ old.hands
+    → IsKnown known new.core → IsDeleted old.core by tenant ms from to d new.core → by.client ≡ old.client → by.line ≡ number → AreSameWork old.core new.core → new.hands ≡ old.hands
     → from ≤ to → to ≤ 4398046511103 → IsSelector selector ms
     → new.out.items ≡ old.out.items ++ reply_line number (codes "delete") tenant (codes "generation" ∷ decimal d.generation ∷ codes "entry" ∷ decimal d.entry ∷ [])
     → IsStep known n old (record { number = number; line = script.delete tenant from to selector }) run.On new
@@ -225,7 +225,7 @@ step_deleted known n old new by number tenant from to selector ms d k e client l
     refl (works_tries old.core new.core nothing same refl) (works_keep old new same hands) said
 
 pub step_undeleted : (known : Known) (n : Told → Naming) (old new : Client) (by : By) (number : ℕ) (tenant : List ℕ) (from to : ℕ) (selector : List ℕ) (ms : List Matcher)
-    → IsKnown known new.core → HasRoomFor old.core 1 → Enters old.core by (no_tenant tenant) new.core → by.client ≡ 0 → by.line ≡ number → AreSameWork old.core new.core → new.hands ≡ old.hands
+    → IsKnown known new.core → HasRoomFor old.core 1 → Enters old.core by (no_tenant tenant) new.core → by.client ≡ old.client → by.line ≡ number → AreSameWork old.core new.core → new.hands ≡ old.hands
     → from ≤ to → to ≤ 4398046511103 → IsSelector selector ms
     → new.out.items ≡ old.out.items ++ reply_line number (codes "delete") tenant tenants_words
     → IsStep known n old (record { number = number; line = script.delete tenant from to selector }) run.On new
@@ -244,14 +244,14 @@ step_bad_delete known n old new number tenant from to selector words same hands 
 
 -- ---- what a core's calls add
 
-pub idle_same : (old new : CoreData) → ((u : ℕ) → (queue_at new u).hands ≡ (queue_at old u).hands) → IsIdle old 0 → IsIdle new 0
-idle_same old new hands h = λ u. subst (Each (λ (x : JobHand). x.actor ≡ 0 → ⊥)) (sym (hands u)) (h u)
+pub idle_same : (old new : CoreData) → ((u : ℕ) → (queue_at new u).hands ≡ (queue_at old u).hands) → (client : ℕ) → client < 16 → IsIdle old client → IsIdle new client
+idle_same old new hands client below h = λ u. subst (Each (λ (x : JobHand). x.actor ≡ client → ⊥)) (sym (hands u)) (h u)
 
 pub queues_same : (old new : CoreData) → new.queues ≡ old.queues → (u : ℕ) → (queue_at new u).hands ≡ (queue_at old u).hands
 queues_same old new same u = ap (λ (qs : List QueueHeads). (slice_index_or qs u no_heads).hands) same
 
 -- an entry
-pub grows_entered : (old new : CoreData) (by : By) (what : What) → Enters old by what new → (IsIdle old 0 → IsIdle new 0) → Grows old new
+pub grows_entered : (old new : CoreData) (by : By) (what : What) → Enters old by what new → ((client : ℕ) → client < 16 → IsIdle old client → IsIdle new client) → Grows old new
 grows_entered old new by what e idle = record { limits = e.limits; more = e.more; names = e.grown; entries = _; journal = e.journal; idle = idle }
 
 pub grows_with : (old new : CoreData) (by : By) (what : What) → Enters old by what new → AreSameWork old new → Grows old new
@@ -265,7 +265,7 @@ grows_same old new same = record {
   names = ap (λ (c : CoreData). c.names) same ∙ sym (append-nil old.names);
   entries = [];
   journal = ap (λ (c : CoreData). c.journal) same ∙ sym (append-nil old.journal);
-  idle = λ h. subst (λ (c : CoreData). IsIdle c 0) (sym same) h;
+  idle = λ client below h. subst (λ (c : CoreData). IsIdle c client) (sym same) h;
 }
 
 -- a call that added nothing, and replied
@@ -273,7 +273,7 @@ pub grows_if : {A E : Type 0} (old new : CoreData) (result : Result A E) → new
 grows_if old new result same = on_ok_all (Grows old new) result (grows_same old new same)
 
 -- work on jobs
-pub grows_idle : (old new : CoreData) → IsSameHistory old new → (IsIdle old 0 → IsIdle new 0) → Grows old new
+pub grows_idle : (old new : CoreData) → IsSameHistory old new → ((client : ℕ) → client < 16 → IsIdle old client → IsIdle new client) → Grows old new
 grows_idle old new same idle = record {
   limits = same.limits;
   more = [];
@@ -293,7 +293,7 @@ grows_on a b c f g = record {
   names = g.names ∙ ap (λ (ns : List (List ℕ)). ns ++ g.more) f.names ∙ append_assoc a.names f.more g.more;
   entries = f.entries ++ g.entries;
   journal = g.journal ∙ ap (λ (es : List Entry). es ++ g.entries) f.journal ∙ append_assoc a.journal f.entries g.entries;
-  idle = λ h. g.idle (f.idle h);
+  idle = λ client below h. g.idle client below (f.idle client below h);
 }
 
 -- the core's calls

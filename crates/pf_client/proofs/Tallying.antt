@@ -127,13 +127,13 @@ with_nothing limits tally m known t line (answer q code c e) quiet fits = absurd
 step_counts : (known : Known) (n : Told → Naming) (old new : Client) (l : Numbered) (r : LineRun) → AnswersNothing l.line → IsStep known n old l r new
     → counted new.core ≡ counted old.core
 step_counts known n old new l r quiet step =
-    let turn = turn_by (n step.told) l step.told (moment_with (machine_of old.core) l.number step.entered) in
-    by turn step.entered step.journal (matched_as known turn (machine_of old.core) l.number step.entered step.matched) where
-      by : (t : Turn) (entered : Option What) → new.core.journal ≡ old.core.journal ++ entries_by l.number entered → IsMatchedAs known t l.line entered
+    let turn = turn_by (n step.told) l step.told (moment_with (machine_of old.core) old.client l.number step.entered) in
+    by turn step.entered step.journal (matched_as known turn (machine_of old.core) old.client l.number step.entered step.matched) where
+      by : (t : Turn) (entered : Option What) → new.core.journal ≡ old.core.journal ++ entries_by old.client l.number entered → IsMatchedAs known t l.line entered
           → counted new.core ≡ counted old.core
       by t None journal h = counted_same old.core new.core step.limits (journal ∙ append-nil old.core.journal)
       by t (Some what) journal h =
-          counted_one old.core new.core (entry_by l.number what) step.limits journal
+          counted_one old.core new.core (entry_by old.client l.number what) step.limits journal
           ∙ with_nothing old.core.limits (counted old.core) (machine_of old.core) known t l.line what quiet h
 
 empty : Told → Naming
@@ -150,9 +150,9 @@ pub ask_counts : (left : Loaded) (old new : Client) (l : Numbered) (r : LineRun)
 ask_counts left old new l r runs = plain_counts left old new l r (λ known told n kn. (runs known told n kn).step)
 
 pub quiet_counts : (left : Loaded) (old new : Client) (l : Numbered) → Grows old.core new.core
-    → ((known : Known) (above : List Ran) (hands : List Hand) (done : List Numbered) → IsKnown known new.core → Each (λ e. e.client ≡ 0) old.core.journal
-    → HaveSlots known above (own_of old.core) (machine_of old.core).count done old.slots → AreKept old.core old.slots → HaveHands old hands → Follows done l
-    → IsStep known (naming (own_of old.core) above hands l.line) old l run.On new)
+    → ((known : Known) (above : List Ran) (hands : List Hand) (done : List Numbered) → IsKnown known new.core → Each (λ e. e.client ≡ old.client) old.core.journal
+    → HaveSlots known above (own_of old.client old.core) (machine_of old.core).count done old.slots → AreKept old.core old.slots → HaveHands old hands → Follows done l
+    → IsStep known (naming (own_of old.client old.core) above hands l.line) old l run.On new)
     → CountsNothing left old l new
 quiet_counts left old new l grows runs quiet t loaded part limits lines n sent there follows going before known told kn =
     let kb = known_before known old.core new.core grows.more grows.limits grows.names kn in
@@ -160,7 +160,7 @@ quiet_counts left old new l grows runs quiet t loaded part limits lines n sent t
     let above = last_first [] (ran_lines lines g.told) in
     let hands = hands_last [] (ran_lines lines g.told) in
     let step = runs known above hands (take n lines) kn g.has_told.alone g.slots g.kept g.hands follows in
-    step_counts known (naming (own_of old.core) above hands l.line) old new l run.On quiet step ∙ before known told kb
+    step_counts known (naming (own_of old.client old.core) above hands l.line) old new l run.On quiet step ∙ before known told kb
 
 -- ---- lines that answer
 

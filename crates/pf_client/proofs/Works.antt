@@ -268,8 +268,8 @@ idle_at old new actor other held h differ idle u = elim (bool_cases (nat_eq u h.
   more [] e = ((λ s. differ (sym h.actor_is ∙ s)), tt)
   more (x ∷ xs) e = (e.0, more xs e.1)
 
-pub taken_idle : (old new : CoreData) (actor : ℕ) (held : Held) → IsTaken old actor held new → 16 ≤ actor → IsIdle old 0 → IsIdle new 0
-taken_idle old new actor held h low idle = idle_at old new actor 0 held h (λ e. omega (arith, e, low)) idle
+pub taken_idle : (old new : CoreData) (actor client : ℕ) (held : Held) → IsTaken old actor held new → client < actor → IsIdle old client → IsIdle new client
+taken_idle old new actor client held h low idle = idle_at old new actor client held h (λ e. omega (arith, e, low)) idle
 
 -- ---- closed queries
 
@@ -283,15 +283,15 @@ closed_jobs old new query o there h u q other = elim (bool_cases (nat_eq u o.ten
   | inr t ↦ ap (λ (x : QueueHeads). filter (is_job_of q) x.hands) ((h.left o there).others u (λ e. grind (arith, nat_tests, t, e)))
 ]
 
-pub closed_idle : (old new : CoreData) (query : ℕ) (o : Open) → open_at query (machine_of old).queries ≡ Some o → AreClosed old query new → IsIdle old 0 → IsIdle new 0
-closed_idle old new query o there h idle u = elim (bool_cases (nat_eq u o.tenant)) [
+pub closed_idle : (old new : CoreData) (query : ℕ) (o : Open) → open_at query (machine_of old).queries ≡ Some o → AreClosed old query new → (client : ℕ) → IsIdle old client → IsIdle new client
+closed_idle old new query o there h client idle u = elim (bool_cases (nat_eq u o.tenant)) [
   | inl t ↦
       let e : u ≡ o.tenant = grind (arith, nat_tests, t) in
-      subst (λ (v : ℕ). Each (λ (x : Hand). x.actor ≡ 0 → ⊥) (queue_at new v).hands) (sym e)
-      (subst (Each (λ (x : Hand). x.actor ≡ 0 → ⊥)) (sym (ap (λ (x : QueueHeads). x.hands) (h.left o there).here))
-      (each_filter (λ (x : Hand). x.actor ≡ 0 → ⊥) (is_other_hand query) (queue_at old o.tenant).hands (idle o.tenant)))
+      subst (λ (v : ℕ). Each (λ (x : Hand). x.actor ≡ client → ⊥) (queue_at new v).hands) (sym e)
+      (subst (Each (λ (x : Hand). x.actor ≡ client → ⊥)) (sym (ap (λ (x : QueueHeads). x.hands) (h.left o there).here))
+      (each_filter (λ (x : Hand). x.actor ≡ client → ⊥) (is_other_hand query) (queue_at old o.tenant).hands (idle o.tenant)))
   | inr t ↦
-      subst (λ (x : QueueHeads). Each (λ (y : Hand). y.actor ≡ 0 → ⊥) x.hands) (sym ((h.left o there).others u (λ e. grind (arith, nat_tests, t, e)))) (idle u)
+      subst (λ (x : QueueHeads). Each (λ (y : Hand). y.actor ≡ client → ⊥) x.hands) (sym ((h.left o there).others u (λ e. grind (arith, nat_tests, t, e)))) (idle u)
 ]
 
 -- ---- jobs stand

@@ -1,5 +1,5 @@
 -- What a line does to a client that runs it: this project's own.
-use Rattle.std.specs.Prelude.{◌≡◌, ℕ, Option, Some, None, List, [], ◌∷◌, ◌++◌, true}
+use Rattle.std.specs.Prelude.{◌≡◌, ℕ, ◌<◌, Option, Some, None, List, [], ◌∷◌, ◌++◌, true}
 use Rattle.pf_block.specs.Snaps.{are_timed}
 use Rattle.pf_core.specs.Cores.{CoreData, IsFull, machine_of}
 use Rattle.pf_journal.specs.Entered.{room_of}
@@ -60,21 +60,21 @@ turn_by n l told mine = record {
 
 -- ---- what a line enters
 
--- the entry of a line of the only client
-abbrev pub entry_by : ℕ → What → Entry
-entry_by n what = record { client = 0; line = n; what = what }
+-- the entry of a line of a client
+abbrev pub entry_by : (client line : ℕ) → What → Entry
+entry_by client n what = record { client = client; line = n; what = what }
 
 -- the entry that a line makes, if it makes one, and its moment
-abbrev pub entries_by : ℕ → Option What → List Entry
-entries_by n None = []
-entries_by n (Some what) = entry_by n what ∷ []
+abbrev pub entries_by : (client line : ℕ) → Option What → List Entry
+entries_by client n None = []
+entries_by client n (Some what) = entry_by client n what ∷ []
 
-abbrev pub moment_by : Machine → ℕ → What → Moment
-moment_by m n what = record { before = m; entry = entry_by n what }
+abbrev pub moment_by : Machine → (client line : ℕ) → What → Moment
+moment_by m client n what = record { before = m; entry = entry_by client n what }
 
-abbrev pub moment_with : Machine → ℕ → Option What → Option Moment
-moment_with m n None = None
-moment_with m n (Some what) = Some (moment_by m n what)
+abbrev pub moment_with : Machine → (client line : ℕ) → Option What → Option Moment
+moment_with m client n None = None
+moment_with m client n (Some what) = Some (moment_by m client n what)
 
 -- ---- a line that was run
 
@@ -90,25 +90,25 @@ pub record IsStep (known : Known) (n : Told → Naming) (old : Client) (l : Numb
   pub entered : Option What
   pub ends : Ends old.core l.line told entered run
   pub limits : new.core.limits ≡ old.core.limits
-  pub journal : new.core.journal ≡ old.core.journal ++ entries_by l.number entered
+  pub journal : new.core.journal ≡ old.core.journal ++ entries_by old.client l.number entered
   pub more : List (List ℕ)
   pub grown : new.core.names ≡ old.core.names ++ more
-  pub matched : IsMatched known (turn_by (n told) l told (moment_with (machine_of old.core) l.number entered))
-      (moment_with (machine_of old.core) l.number entered)
-  pub roomy : FoundRoom known.limits l.line (moment_with (machine_of old.core) l.number entered)
+  pub matched : IsMatched known (turn_by (n told) l told (moment_with (machine_of old.core) old.client l.number entered))
+      (moment_with (machine_of old.core) old.client l.number entered)
+  pub roomy : FoundRoom known.limits l.line (moment_with (machine_of old.core) old.client l.number entered)
   pub tried : CountsTries old.core told new.core
   pub hands : HandsAfter l.line told old new
   pub said : new.out.items
-      ≡ old.out.items ++ reply_to known (turn_by (n told) l told (moment_with (machine_of old.core) l.number entered)) l.number l.line
+      ≡ old.out.items ++ reply_to known (turn_by (n told) l told (moment_with (machine_of old.core) old.client l.number entered)) l.number l.line
 
--- the limits stay, names and entries are only added, and the client itself has no more jobs in its hand than before
+-- the limits stay, names and entries are only added, and a client that had no job in its own hand has none
 pub record Grows (old new : CoreData) : Type 0 where
   pub limits : new.limits ≡ old.limits
   pub more : List (List ℕ)
   pub names : new.names ≡ old.names ++ more
   pub entries : List Entry
   pub journal : new.journal ≡ old.journal ++ entries
-  pub idle : IsIdle old 0 → IsIdle new 0
+  pub idle : (client : ℕ) → client < 16 → IsIdle old client → IsIdle new client
 
 -- the same of a line that names no query
 abbrev pub Runs : Known → Client → Numbered → LineRun → Client → Type 0

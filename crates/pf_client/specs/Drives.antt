@@ -62,11 +62,12 @@ IsAnyReport limits held lines text = (full : Bool) × IsReport limits held lines
 abbrev pub left_text : Client → List ℕ
 left_text c = c.out.items ++ (journal_text c.core.names c.core.journal ++ actors_from 0 c.core.failed)
 
--- a client broke off on its way, and of what it had said a front was written
-pub record BreaksOff (loaded : Loaded) (limits : Limits) (lines : List Numbered) (old new : Option (List ℕ)) : Type 0 where
+-- the client of a number broke off on its way, and of what it had said a front was written
+pub record BreaksOff (number : ℕ) (loaded : Loaded) (limits : Limits) (lines : List Numbered) (old new : Option (List ℕ)) : Type 0 where
   pub n : ℕ
   pub sent : List ℕ
   pub client : Client
+  pub numbered : client.client ≡ number
   pub going : IsGoing loaded limits lines n sent client
   pub stands : Stands client.core
   pub front : WritesFront old new (sent ++ client.out.items)

@@ -22,13 +22,13 @@ use Rattle.pf_client.specs.declared.client.LineRun.{LineRun}
 use Rattle.pf_client.specs.declared.client.LineRun.TheVariants.{On, Full, Starved}
 use Rattle.pf_client.specs.declared.loaded.Loaded.{Loaded}
 
--- the moments of the only client
-abbrev pub own_of : CoreData → List Moment
-own_of c = own_moments 0 (moments c.journal)
+-- the moments of a client
+abbrev pub own_of : (client : ℕ) → CoreData → List Moment
+own_of client c = own_moments client (moments c.journal)
 
--- each open query was asked by a line above
-abbrev pub AreAsked : Known → (above : List Ran) → CoreData → Type 0
-AreAsked known above c = (q : ℕ) (o : Open) → open_at q (machine_of c).queries ≡ Some o → (k : ℕ) × IsAskAt known above (own_of c) k q
+-- each open query was asked by a line above of the client
+abbrev pub AreAsked : (client : ℕ) → Known → (above : List Ran) → CoreData → Type 0
+AreAsked client known above c = (q : ℕ) (o : Open) → open_at q (machine_of c).queries ≡ Some o → (k : ℕ) × IsAskAt known above (own_of client c) k q
 
 -- lines, the last one first
 abbrev pub last_first : List Ran → List Ran → List Ran
@@ -46,9 +46,9 @@ AreCounted c told = (18446744073709551615 ≤ sum c.failed) ⊎ (failed_told tol
 
 -- what was told of lines: all are woven, and their replies were said: what was sent of them, and what the client holds
 pub record HasTold (known : Known) (lines : List Numbered) (told : List Told) (why : Why) (sent : List ℕ) (c : Client) : Type 0 where
-  pub woven : Woven known (own_of c.core) lines (record { told = told; why = why })
-  pub said : sent ++ c.out.items ≡ client_text known (own_of c.core) 0 lines (record { told = told; why = why })
-  pub alone : Each (λ e. e.client ≡ 0) c.core.journal
+  pub woven : Woven known (own_of c.client c.core) lines (record { told = told; why = why })
+  pub said : sent ++ c.out.items ≡ client_text known (own_of c.client c.core) c.client lines (record { told = told; why = why })
+  pub alone : Each (λ e. e.client ≡ c.client) c.core.journal
   pub tried : AreCounted c.core told
 
 -- a client ran so many lines, and none stopped it
@@ -58,7 +58,7 @@ pub record Going (known : Known) (limits : Limits) (lines : List Numbered) (n : 
   pub many : length told ≡ n
   pub has_told : HasTold known lines told at_end sent c
   pub goes : Each (λ r. stops_at r.line.line r.told ≡ None) (ran_lines lines told)
-  pub slots : HaveSlots known (last_first [] (ran_lines lines told)) (own_of c.core) (machine_of c.core).count (take n lines) c.slots
+  pub slots : HaveSlots known (last_first [] (ran_lines lines told)) (own_of c.client c.core) (machine_of c.core).count (take n lines) c.slots
   pub kept : AreKept c.core c.slots
   pub hands : HaveHands c (hands_last [] (ran_lines lines told))
 
@@ -67,7 +67,7 @@ pub record HasRun (known : Known) (limits : Limits) (lines : List Numbered) (why
   pub limited : c.core.limits ≡ limits
   pub told : List Told
   pub has_told : HasTold known lines told why sent c
-  pub runs : RunsTo known.limits c.core.journal 0 why (drop (length told) lines) (ran_lines lines told)
+  pub runs : RunsTo known.limits c.core.journal c.client why (drop (length told) lines) (ran_lines lines told)
 
 -- the same, wherever what files hold is told and whatever names stand behind those of the core
 abbrev pub IsGoing : Loaded → Limits → List Numbered → ℕ → (sent : List ℕ) → Client → Type 0

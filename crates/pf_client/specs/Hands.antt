@@ -1,6 +1,6 @@
 -- The jobs in workers' hands: this project's own.
 use Rattle.std.specs.Fmt.{decimal}
-use Rattle.std.specs.Prelude.{codes, ◌≡◌, ℕ, ◌+◌, ◌-◌, ◌≤◌, ◌⊎◌, Bool, false, cond, nat_eq, not, Option, Some, None, List, [], ◌∷◌, ◌++◌, filter, length, option_map, slice_get, sum}
+use Rattle.std.specs.Prelude.{codes, ◌≡◌, ℕ, ◌+◌, ◌-◌, ◌<◌, ◌≤◌, ◌⊎◌, Bool, false, cond, nat_eq, not, Option, Some, None, List, [], ◌∷◌, ◌++◌, filter, length, option_map, slice_get, sum}
 use Rattle.pf_core.specs.Calls.{StandsForAsk}
 use Rattle.pf_core.specs.Cores.{CoreData, machine_of, queue_at}
 use Rattle.pf_base.specs.declared.plain.JobHead.{JobHead}
@@ -87,11 +87,12 @@ pub record HaveHands (c : Client) (told : List turns.Hand) : Type 0 where
   pub told_is : told ≡ told_onto [] order
   pub in_hand : HasInHand c.core order
 
--- each job in a worker's hand stands for its ask, and the client has none in its own
+-- each job in a worker's hand stands for its ask, and the client, which is one of 16, has none in its own
 pub record HoldsJobs (c : Client) : Type 0 where
   pub many : length c.hands.items ≡ 16
   pub stands : (worker : ℕ) (h : Held) → held_by c.hands.items worker ≡ Some h → StandsForAsk c.core h × (h.actor ≡ 16 + worker)
-  pub idle : IsIdle c.core 0
+  pub below : c.client < 16
+  pub idle : IsIdle c.core c.client
 
 -- ---- what a line does to jobs in hand
 

@@ -2,7 +2,7 @@
 
 ghost use Rattle.std.specs.BTreeMap.{get};
 ghost use Rattle.std.specs.Ordering.{nat_cmp};
-ghost use Rattle.std.specs.Prelude.{◌≡◌, ◌++◌, ℕ, decimal, IfOk, List, None, OnOk, Some, is_some};
+ghost use Rattle.std.specs.Prelude.{◌≡◌, ◌<◌, ◌++◌, ℕ, decimal, IfOk, List, None, OnOk, Some, is_some};
 ghost use Rattle.pf_front.specs.Works.{IsIdle};
 ghost use Rattle.pf_journal.specs.Replies.{unanswered};
 ghost use Rattle.pf_journal.specs.Rest.{Known};
@@ -18,7 +18,7 @@ ghost use Rattle.pf_client.specs.Tallies.{counted, with_answered};
 ghost use Rattle.pf_client.specs.declared.client.LineRun.TheVariants.{On};
 ghost use Rattle.pf_client.specs.declared.slots.Slot.TheVariants as became;
 
-use crate::client::{Client, by};
+use crate::client::Client;
 use crate::slots::{Slot, forget, kept};
 use pf_base::{OutOfMemory, Text};
 use pf_front::{Answering, Outcome, Reply, answer};
@@ -73,12 +73,14 @@ impl Client {
         hop: &mut H,
         gate: &G,
     ) -> Result<Option<Answered>, OutOfMemory>
-        requires idle { IsIdle self.old.core 0 }
+        requires below { self.old.client < 16 }
+        requires idle { IsIdle self.old.core self.old.client }
         ensures grows { OnOk result (Grows self.old.core self.new.core) }
-        ensures step { IfOk result (λ answered. (known : Known) (above : List Ran) (hands : List Hand) (line : ℕ) → IsKnown known self.new.core → Each (λ e. e.client ≡ 0) self.old.core.journal → IsAskAt known above (own_of self.old.core) line query → HaveHands self.old hands → IsQueryAnswer known (naming (own_of self.old.core) above hands (script.answer id.now line)) self.old (record { number = number; line = script.answer id.now line }) query (is_some answered) self.new) }
+        ensures step { IfOk result (λ answered. (known : Known) (above : List Ran) (hands : List Hand) (line : ℕ) → IsKnown known self.new.core → Each (λ e. e.client ≡ self.old.client) self.old.core.journal → IsAskAt known above (own_of self.old.client self.old.core) line query → HaveHands self.old hands → IsQueryAnswer known (naming (own_of self.old.client self.old.core) above hands (script.answer id.now line)) self.old (record { number = number; line = script.answer id.now line }) query (is_some answered) self.new) }
         ensures counted { IfOk result (λ answered. counted self.new.core ≡ with_answered (counted self.old.core) answered) }
         ensures slots { OnOk result (self.new.slots ≡ self.old.slots) }
         ensures hands { OnOk result (self.new.hands ≡ self.old.hands) }
+        ensures client { OnOk result (self.new.client ≡ self.old.client) }
     {
         let Some(opened) = self.core.look(query) else {
             return Ok(None);
@@ -86,7 +88,9 @@ impl Client {
         let asked: &Asked = opened.asked;
         let instant = asked.instant;
         let kind = asked.kind;
-        match answer(self.alloc, &mut self.core, by(number), query, 0, hop, gate) {
+        let by = self.by(number);
+        let actor = self.client;
+        match answer(self.alloc, &mut self.core, by, query, actor, hop, gate) {
             Answering::Waits { jobs } => {
                 push_waiting(&mut self.out, number, id.as_str(), jobs)?;
                 Ok(None)
@@ -125,6 +129,7 @@ impl Client {
         ensures core { self.new.core ≡ self.old.core }
         ensures slots { self.new.slots ≡ self.old.slots }
         ensures hands { self.new.hands ≡ self.old.hands }
+        ensures client { self.new.client ≡ self.old.client }
     {
         push_answered(
             self.alloc,
@@ -140,10 +145,11 @@ impl Client {
 
     /// Replies to the answer of an ask that was refused.
     fn answer_refused(&mut self, number: u32, id: &Text, slot: Slot) -> Result<(), OutOfMemory>
-        ensures step { OnOk result ((known : Known) (above : List Ran) (hands : List Hand) (line : ℕ) → SlotRight known above (own_of self.old.core) line (Some slot) → ((q : ℕ) → slot ≡ became.Asked q → ⊥) → IsUnanswered known (naming (own_of self.old.core) above hands (script.answer id.now line)) self.old (record { number = number; line = script.answer id.now line }) self.new) }
+        ensures step { OnOk result ((known : Known) (above : List Ran) (hands : List Hand) (line : ℕ) → SlotRight known above (own_of self.old.client self.old.core) line (Some slot) → ((q : ℕ) → slot ≡ became.Asked q → ⊥) → IsUnanswered known (naming (own_of self.old.client self.old.core) above hands (script.answer id.now line)) self.old (record { number = number; line = script.answer id.now line }) self.new) }
         ensures core { self.new.core ≡ self.old.core }
         ensures slots { self.new.slots ≡ self.old.slots }
         ensures hands { self.new.hands ≡ self.old.hands }
+        ensures client { self.new.client ≡ self.old.client }
     {
         match refused_body(self.alloc, slot) {
             Ok(body) => self.push_unanswered(number, id, &body),
@@ -160,11 +166,13 @@ impl Client {
         hop: &mut H,
         gate: &G,
     ) -> Result<Option<Answered>, OutOfMemory>
-        requires idle { IsIdle self.old.core 0 }
+        requires below { self.old.client < 16 }
+        requires idle { IsIdle self.old.core self.old.client }
         ensures grows { OnOk result (Grows self.old.core self.new.core) }
-        ensures step { OnOk result ((known : Known) (above : List Ran) (hands : List Hand) → IsKnown known self.new.core → Each (λ e. e.client ≡ 0) self.old.core.journal → SlotRight known above (own_of self.old.core) asked (get nat_cmp self.old.slots asked) → (get nat_cmp self.old.slots asked ≡ None → ⊥) → HaveHands self.old hands → IsAnswerStep known (naming (own_of self.old.core) above hands (script.answer id.now asked)) self.old (record { number = number; line = script.answer id.now asked }) asked self.new) }
+        ensures step { OnOk result ((known : Known) (above : List Ran) (hands : List Hand) → IsKnown known self.new.core → Each (λ e. e.client ≡ self.old.client) self.old.core.journal → SlotRight known above (own_of self.old.client self.old.core) asked (get nat_cmp self.old.slots asked) → (get nat_cmp self.old.slots asked ≡ None → ⊥) → HaveHands self.old hands → IsAnswerStep known (naming (own_of self.old.client self.old.core) above hands (script.answer id.now asked)) self.old (record { number = number; line = script.answer id.now asked }) asked self.new) }
         ensures counted { IfOk result (λ answered. counted self.new.core ≡ with_answered (counted self.old.core) answered) }
         ensures hands { OnOk result (self.new.hands ≡ self.old.hands) }
+        ensures client { OnOk result (self.new.client ≡ self.old.client) }
     {
         let Some(slot) = kept(&self.slots, asked) else {
             return Ok(None);

@@ -50,11 +50,12 @@ use pf_types::{BoundQuery, When};
 use std::alloc::Global;
 use std::sync::Arc;
 
-/// A client: the core that it works on, whether its script has step lines, what became of its asks by line, the job that each of
-/// 16 workers has in its hand, and what it holds of its part of the report.
+/// A client: its number, which is its actor's too, the core that it works on, whether its script has step lines, what became of its
+/// asks by line, the job that each of 16 workers has in its hand, and what it holds of its part of the report.
 #[derive(Drop)]
 pub struct Client {
     pub alloc: Global,
+    pub client: u32,
     pub core: Core,
     pub stepped: bool,
     pub slots: Slots,
@@ -129,14 +130,6 @@ fn read_for(
     read
 }
 
-/// The only client's line.
-pub fn by(line: u32) -> By
-    ensures client { result.client ≡ 0 }
-    ensures line { result.line ≡ line }
-{
-    By { client: 0, line }
-}
-
 /// What a query that was read asks over a grid, or at one time.
 fn asked_over(alloc: Global, query: &BoundQuery, when: When) -> Result<Arc<Asked>, OutOfMemory>
     requires { IsWhen when }
@@ -164,6 +157,17 @@ fn is_no_range(from: u64, to: u64) -> bool
 }
 
 impl Client {
+    /// Who enters an entry for a line: this client.
+    pub fn by(&self, line: u32) -> By
+        ensures client { result.client ≡ self.now.client }
+        ensures line { result.line ≡ line }
+    {
+        By {
+            client: self.client,
+            line,
+        }
+    }
+
     /// Replies to an `ingest` for which there was no memory.
     fn starve_ingest(&mut self, number: u32, tenant: &Tenant) -> Result<LineRun, OutOfMemory>
         ensures starved { IfOk result (λ r. r ≡ Starved) }
@@ -171,6 +175,7 @@ impl Client {
         ensures core { self.new.core ≡ self.old.core }
         ensures slots { self.new.slots ≡ self.old.slots }
         ensures hands { self.new.hands ≡ self.old.hands }
+        ensures client { self.new.client ≡ self.old.client }
     {
         push_ingest_reply(
             &mut self.out,
@@ -195,13 +200,15 @@ impl Client {
         ensures grows { OnOk result (Grows self.old.core self.new.core) }
         ensures slots { OnOk result (self.new.slots ≡ self.old.slots) }
         ensures hands { OnOk result (self.new.hands ≡ self.old.hands) }
+        ensures client { OnOk result (self.new.client ≡ self.old.client) }
     {
         let skipped = batch.skipped;
         let Some(batch) = shared(self.alloc, batch) else {
             return self.starve_ingest(number, tenant);
         };
         let name = tenant.as_str();
-        match self.core.append(by(number), tenant, batch) {
+        let by = self.by(number);
+        match self.core.append(by, tenant, batch) {
             Ok(verdicts) => {
                 let reply = IngestReply::Taken {
                     skipped,
@@ -237,6 +244,7 @@ impl Client {
         ensures grows { OnOk result (Grows self.old.core self.new.core) }
         ensures slots { OnOk result (self.new.slots ≡ self.old.slots) }
         ensures hands { OnOk result (self.new.hands ≡ self.old.hands) }
+        ensures client { OnOk result (self.new.client ≡ self.old.client) }
         ensures left { LetsGo files.old file.now number files.new }
     {
         let Ok(read) = read_for(self.alloc, files, file.as_str(), number, time) else {
@@ -259,6 +267,7 @@ impl Client {
         ensures core { self.new.core ≡ self.old.core }
         ensures slots { self.new.slots ≡ self.old.slots }
         ensures hands { self.new.hands ≡ self.old.hands }
+        ensures client { self.new.client ≡ self.old.client }
     {
         push_delete_reply(
             &mut self.out,
@@ -284,9 +293,11 @@ impl Client {
         ensures grows { OnOk result (Grows self.old.core self.new.core) }
         ensures slots { OnOk result (self.new.slots ≡ self.old.slots) }
         ensures hands { OnOk result (self.new.hands ≡ self.old.hands) }
+        ensures client { OnOk result (self.new.client ≡ self.old.client) }
     {
         let name = tenant.as_str();
-        match self.core.delete(by(number), tenant, matchers, from, to) {
+        let by = self.by(number);
+        match self.core.delete(by, tenant, matchers, from, to) {
             Ok(deleted) => {
                 let reply = DeleteReply::Deleted {
                     generation: deleted.generation,
@@ -323,6 +334,7 @@ impl Client {
         ensures grows { OnOk result (Grows self.old.core self.new.core) }
         ensures slots { OnOk result (self.new.slots ≡ self.old.slots) }
         ensures hands { OnOk result (self.new.hands ≡ self.old.hands) }
+        ensures client { OnOk result (self.new.client ≡ self.old.client) }
     {
         if is_no_range(from, to) {
             push_delete_reply(
@@ -365,6 +377,7 @@ impl Client {
         ensures kept { OnOk result ((k : ℕ) → get nat_cmp self.new.slots k ≡ cond (nat_eq number k) (Some slot) (get nat_cmp self.old.slots k)) }
         ensures core { self.new.core ≡ self.old.core }
         ensures hands { self.new.hands ≡ self.old.hands }
+        ensures client { self.new.client ≡ self.old.client }
     {
         push_ask_reply(&mut self.out, number, id, &AskReply::Refused { code })?;
         keep(&mut self.slots, number, slot)
@@ -376,6 +389,7 @@ impl Client {
         ensures kept { OnOk result ((k : ℕ) → get nat_cmp self.new.slots k ≡ cond (nat_eq number k) (Some (slot.Asked place)) (get nat_cmp self.old.slots k)) }
         ensures core { self.new.core ≡ self.old.core }
         ensures hands { self.new.hands ≡ self.old.hands }
+        ensures client { self.new.client ≡ self.old.client }
     {
         push_ask_reply(&mut self.out, number, id, &AskReply::Asked { pin, place })?;
         keep(&mut self.slots, number, Slot::Asked { query: place })
@@ -388,6 +402,7 @@ impl Client {
         ensures kept { OnOk result ((k : ℕ) → get nat_cmp self.new.slots k ≡ cond (nat_eq number k) (Some slot.NoMemory) (get nat_cmp self.old.slots k)) }
         ensures core { self.new.core ≡ self.old.core }
         ensures hands { self.new.hands ≡ self.old.hands }
+        ensures client { self.new.client ≡ self.old.client }
     {
         self.refuse_ask(number, id.as_str(), 507, Slot::NoMemory)?;
         Ok(LineRun::On)
@@ -401,6 +416,7 @@ impl Client {
         ensures out { self.new.out ≡ self.old.out }
         ensures slots { self.new.slots ≡ self.old.slots }
         ensures hands { self.new.hands ≡ self.old.hands }
+        ensures client { self.new.client ≡ self.old.client }
     {
         if !self.stepped {
             let _planned = plan(self.alloc, &mut self.core, query);
@@ -418,9 +434,11 @@ impl Client {
         ensures runs { IfOk result (λ r. (known : Known) (line : script.Line) → AsksAs id.now tenant.now line → wanted_by known line ≡ Some (Ok (arc_value asked)) → AskRuns known self.old (record { number = number; line = line }) r self.new) }
         ensures grows { OnOk result (Grows self.old.core self.new.core) }
         ensures hands { OnOk result (self.new.hands ≡ self.old.hands) }
+        ensures client { OnOk result (self.new.client ≡ self.old.client) }
     {
         let name = id.as_str();
-        match self.core.ask(by(number), tenant, asked) {
+        let by = self.by(number);
+        match self.core.ask(by, tenant, asked) {
             Ok(admitted) => {
                 self.plan_asked(admitted.query);
                 self.open_query(number, name, admitted.pin.number, admitted.query)?;
@@ -462,6 +480,7 @@ impl Client {
         ensures runs { IfOk result (λ r. (known : Known) (line : script.Line) → AsksAs id.now tenant.now line → known.readings ≡ readings_in queries.now → wanted_by known line ≡ asked_with (is_instant when) (Ok (grid_in when)) (known.readings query.now) → AskRuns known self.old (record { number = number; line = line }) r self.new) }
         ensures grows { OnOk result (Grows self.old.core self.new.core) }
         ensures hands { OnOk result (self.new.hands ≡ self.old.hands) }
+        ensures client { OnOk result (self.new.client ≡ self.old.client) }
     {
         let Some(read) = read_of(queries, query.as_str()) else {
             return Ok(LineRun::On);
@@ -498,6 +517,7 @@ impl Client {
         ensures runs { IfOk result (λ r. (known : Known) → known.readings ≡ readings_in queries.now → AskRuns known self.old (record { number = number; line = script.ask id.now tenant.now start end step query.now }) r self.new) }
         ensures grows { OnOk result (Grows self.old.core self.new.core) }
         ensures hands { OnOk result (self.new.hands ≡ self.old.hands) }
+        ensures client { OnOk result (self.new.client ≡ self.old.client) }
     {
         match Grid::aligned(start, end, step) {
             Ok(grid) => self.ask_read(queries, number, id, tenant, query, When::Range(grid)),
@@ -523,6 +543,7 @@ impl Client {
         ensures runs { IfOk result (λ r. (known : Known) → known.readings ≡ readings_in queries.now → AskRuns known self.old (record { number = number; line = script.instant id.now tenant.now time query.now }) r self.new) }
         ensures grows { OnOk result (Grows self.old.core self.new.core) }
         ensures hands { OnOk result (self.new.hands ≡ self.old.hands) }
+        ensures client { OnOk result (self.new.client ≡ self.old.client) }
     {
         match Grid::single(time) {
             Ok(grid) => self.ask_read(queries, number, id, tenant, query, When::Instant(grid)),
@@ -539,6 +560,7 @@ impl Client {
         ensures core { self.new.core ≡ self.old.core }
         ensures slots { self.new.slots ≡ self.old.slots }
         ensures hands { self.new.hands ≡ self.old.hands }
+        ensures client { self.new.client ≡ self.old.client }
     {
         let Some(name) = self.core.tenant_name(owner) else {
             return Ok(());
@@ -557,12 +579,14 @@ impl Client {
         tenant: &Tenant,
     ) -> Result<(), OutOfMemory>
         ensures grows { OnOk result (Grows self.old.core self.new.core) }
-        ensures step { OnOk result ((known : Known) (above : List Ran) (hands : List Hand) (line : ℕ) → IsKnown known self.new.core → Each (λ e. e.client ≡ 0) self.old.core.journal → IsAskAt known above (own_of self.old.core) line query → IsStep known (naming (own_of self.old.core) above hands (script.cancel id.now line tenant.now)) self.old (record { number = number; line = script.cancel id.now line tenant.now }) On self.new) }
+        ensures step { OnOk result ((known : Known) (above : List Ran) (hands : List Hand) (line : ℕ) → IsKnown known self.new.core → Each (λ e. e.client ≡ self.old.client) self.old.core.journal → IsAskAt known above (own_of self.old.client self.old.core) line query → IsStep known (naming (own_of self.old.client self.old.core) above hands (script.cancel id.now line tenant.now)) self.old (record { number = number; line = script.cancel id.now line tenant.now }) On self.new) }
         ensures slots { OnOk result (self.new.slots ≡ self.old.slots) }
         ensures hands { OnOk result (self.new.hands ≡ self.old.hands) }
+        ensures client { OnOk result (self.new.client ≡ self.old.client) }
     {
         let name = id.as_str();
-        match self.core.cancel(by(number), query, tenant) {
+        let by = self.by(number);
+        match self.core.cancel(by, query, tenant) {
             CancelAnswer::Done => {
                 push_cancel_reply(&mut self.out, number, name, &CancelReply::Done)?;
                 Ok(())
@@ -588,9 +612,10 @@ impl Client {
         tenant: &Tenant,
     ) -> Result<(), OutOfMemory>
         ensures grows { OnOk result (Grows self.old.core self.new.core) }
-        ensures step { OnOk result ((known : Known) (above : List Ran) (hands : List Hand) → IsKnown known self.new.core → Each (λ e. e.client ≡ 0) self.old.core.journal → SlotRight known above (own_of self.old.core) asked (get nat_cmp self.old.slots asked) → IsStep known (naming (own_of self.old.core) above hands (script.cancel id.now asked tenant.now)) self.old (record { number = number; line = script.cancel id.now asked tenant.now }) On self.new) }
+        ensures step { OnOk result ((known : Known) (above : List Ran) (hands : List Hand) → IsKnown known self.new.core → Each (λ e. e.client ≡ self.old.client) self.old.core.journal → SlotRight known above (own_of self.old.client self.old.core) asked (get nat_cmp self.old.slots asked) → IsStep known (naming (own_of self.old.client self.old.core) above hands (script.cancel id.now asked tenant.now)) self.old (record { number = number; line = script.cancel id.now asked tenant.now }) On self.new) }
         ensures slots { OnOk result (self.new.slots ≡ self.old.slots) }
         ensures hands { OnOk result (self.new.hands ≡ self.old.hands) }
+        ensures client { OnOk result (self.new.client ≡ self.old.client) }
     {
         match query_of(&self.slots, asked) {
             Some(query) => {
@@ -617,6 +642,7 @@ impl Client {
         requires actors { length hops.old ≡ 32 }
         requires holds { HoldsJobs self.old }
         ensures holds { OnOk result (HoldsJobs self.new) }
+        ensures client { OnOk result (self.new.client ≡ self.old.client) }
         ensures runs { IfOk result (λ r. GoesOnWith loaded.old self.old (numbered_of line.now) r self.new) }
         ensures grows { OnOk result (Grows self.old.core self.new.core) }
         ensures counted { OnOk result (CountsNothing loaded.old self.old (numbered_of line.now) self.new) }
@@ -657,7 +683,7 @@ impl Client {
                 Ok(LineRun::On)
             }
             Line::Answer { id, asked } => {
-                self.answer(number, id, *asked, &mut hops[0], gate)?;
+                self.answer(number, id, *asked, &mut hops[self.client as usize], gate)?;
                 Ok(LineRun::On)
             }
             Line::Plan { id, asked } => {

@@ -1,6 +1,6 @@
 //! The run of a script.
 
-ghost use Rattle.std.specs.Prelude.{◌≡◌, ◌≢◌, ◌≤◌, ℕ, Err, IfOk, List, None, OnErr, OnOk, [], length, replicate};
+ghost use Rattle.std.specs.Prelude.{◌≡◌, ◌≢◌, ◌<◌, ◌≤◌, ℕ, Err, IfOk, List, None, OnErr, OnOk, [], length, replicate};
 ghost use Rattle.pf_base.specs.declared.plain.Limits.{Limits as LimitsData};
 ghost use Rattle.pf_core.specs.Cores.{AreLimits, Stands};
 ghost use Rattle.pf_io.specs.Outside.{Grows, Rose};
@@ -41,19 +41,27 @@ fn no_hands(alloc: Global) -> Result<Vec<Option<Held>>, OutOfMemory>
     Ok(hands)
 }
 
-/// A client that has run no line of a script that has step lines, or has none.
-pub(crate) fn client_of(alloc: Global, limits: Limits, stepped: bool) -> Result<Client, OutOfMemory>
+/// The client of a number, that has run no line of a script that has step lines, or has none.
+pub(crate) fn client_of(
+    alloc: Global,
+    limits: Limits,
+    client: u32,
+    stepped: bool,
+) -> Result<Client, OutOfMemory>
     requires limits { AreLimits limits }
+    requires below { client < 16 }
+    ensures client { IfOk result (λ c. c.client ≡ client) }
     ensures going { IfOk result (λ c. (loaded : LoadedData) (lines : List Numbered) → IsGoing loaded limits lines 0 [] c) }
     ensures holds { IfOk result HoldsJobs }
     ensures counted { IfOk result (λ c. (loaded : LoadedData) → IsCounted loaded nothing_counted c) }
 {
     let mut out = Vec::new(alloc);
-    push_client(&mut out, 0)?;
+    push_client(&mut out, client)?;
     let core = Core::open(alloc, limits)?;
     let hands = no_hands(alloc)?;
     Ok(Client {
         alloc,
+        client,
         core,
         stepped,
         slots: BTreeMap::new(alloc),
@@ -75,10 +83,11 @@ fn run_lines<O: Sink, H: Hop, G: Gate>(
     requires can_run { CanRun script.now 0 loaded.old }
     requires actors { length hops.old ≡ 32 }
     requires holds { HoldsJobs client.old }
+    ensures client { OnOk result (client.new.client ≡ client.old.client) }
     ensures stopped { IfOk result (λ r. (limits : LimitsData) → IsGoing loaded.old limits (lines_of script.now) 0 [] client.old
         → (sent : List ℕ) × (Grows (O.told out.old) (O.told out.new) sent × HasStopped loaded.old limits (lines_of script.now) (why_of r) sent client.new)) }
     ensures broken { OnErr result ((limits : LimitsData) → IsGoing loaded.old limits (lines_of script.now) 0 [] client.old
-        → BreaksOff loaded.old limits (lines_of script.now) (O.told out.old) (O.told out.new)) }
+        → BreaksOff client.old.client loaded.old limits (lines_of script.now) (O.told out.old) (O.told out.new)) }
     ensures fault { result ≡ Err ReportError.WriteFault → Rose (O.faults out.old) (O.faults out.new) }
     ensures steady { result ≢ Err ReportError.WriteFault → O.faults out.new ≡ O.faults out.old }
 {
@@ -157,7 +166,7 @@ pub fn run_script<O: Sink, H: Hop, G: Gate>(
     ensures steady { result ≢ Err ReportError.WriteFault → O.faults out.new ≡ O.faults out.old }
 {
     let _lines = script.lines.len();
-    let mut client = client_of(alloc, limits, script.is_stepped())?;
+    let mut client = client_of(alloc, limits, 0, script.is_stepped())?;
     let stopped = run_lines(&mut client, script, &mut loaded, hops, gate, out)?;
     write_rest(client, out)?;
     Ok(is_full(stopped))

@@ -46,6 +46,7 @@ fn run_counted<H: Hop, G: Gate>(
     requires actors { length hops.old ≡ 32 }
     requires holds { HoldsJobs client.old }
     ensures holds { OnOk result (HoldsJobs client.new) }
+    ensures client { OnOk result (client.new.client ≡ client.old.client) }
     ensures runs { IfOk result (λ r. GoesOnWith loaded.old client.old (numbered_of line.now) r client.new) }
     ensures counted { OnOk result (Counts loaded.old client.old (numbered_of line.now) tally.old client.new tally.new) }
     ensures files { OnOk result (LetsGoOf loaded.old.files (file_of (numbered_of line.now).line) line.now.number loaded.new.files) }
@@ -54,7 +55,13 @@ fn run_counted<H: Hop, G: Gate>(
 {
     match &line.line {
         Line::Answer { id, asked } => {
-            let answered = client.answer(line.number, id, *asked, &mut hops[0], gate)?;
+            let answered = client.answer(
+                line.number,
+                id,
+                *asked,
+                &mut hops[client.client as usize],
+                gate,
+            )?;
             *tally = with_answered(*tally, &answered);
             Ok(LineRun::On)
         }
@@ -81,7 +88,8 @@ fn run_lines_counted<H: Hop, G: Gate>(
     requires can_run { CanRun script.now 0 loaded.old }
     requires actors { length hops.old ≡ 32 }
     requires holds { HoldsJobs client.old }
-    ensures { IfOk result (λ e. (limits : LimitsData) → IsGoing loaded.old limits (lines_of script.now) 0 [] client.old → IsCounted loaded.old nothing_counted client.old
+    ensures client { OnOk result (client.new.client ≡ client.old.client) }
+    ensures ended { IfOk result (λ e. (limits : LimitsData) → IsGoing loaded.old limits (lines_of script.now) 0 [] client.old → IsCounted loaded.old nothing_counted client.old
         → ((sent : List ℕ) × HasStopped loaded.old limits (lines_of script.now) (why_by e.full) sent client.new) × IsCounted loaded.old e.tally client.new) }
 {
     let mut tally = Tally::nothing();
@@ -149,7 +157,7 @@ pub fn run_session<H: Hop, G: Gate>(
     ensures summary { IfOk result (λ s. (held : List ℕ → List ℕ) → AreHeld held loaded.files → IsSummary limits held (lines_of script.now) s.full s.tally) }
 {
     let _lines = script.lines.len();
-    let mut client = client_of(alloc, limits, script.is_stepped())?;
+    let mut client = client_of(alloc, limits, 0, script.is_stepped())?;
     let ended = run_lines_counted(&mut client, script, &mut loaded, hops, gate)?;
     let _entries = client.core.journal();
     Ok(Summary {

@@ -82,6 +82,7 @@ impl Client {
         ensures out { self.new.out ≡ self.old.out }
         ensures slots { self.new.slots ≡ self.old.slots }
         ensures hands { self.new.hands ≡ self.old.hands }
+        ensures client { self.new.client ≡ self.old.client }
     {
         let None = self.core.look(query) else {
             return match plan(self.alloc, &mut self.core, query) {
@@ -99,9 +100,10 @@ impl Client {
     /// Runs the `plan` of the ask of a line. Where there is no memory for it, the query is stopped.
     pub fn plan(&mut self, number: u32, id: &Text, asked: u32) -> Result<(), OutOfMemory>
         ensures grows { OnOk result (Grows self.old.core self.new.core) }
-        ensures step { OnOk result ((known : Known) (above : List Ran) (hands : List Hand) → IsKnown known self.new.core → Each (λ e. e.client ≡ 0) self.old.core.journal → SlotRight known above (own_of self.old.core) asked (get nat_cmp self.old.slots asked) → (get nat_cmp self.old.slots asked ≡ None → ⊥) → IsStep known (naming (own_of self.old.core) above hands (script.plan id.now asked)) self.old (record { number = number; line = script.plan id.now asked }) On self.new) }
+        ensures step { OnOk result ((known : Known) (above : List Ran) (hands : List Hand) → IsKnown known self.new.core → Each (λ e. e.client ≡ self.old.client) self.old.core.journal → SlotRight known above (own_of self.old.client self.old.core) asked (get nat_cmp self.old.slots asked) → (get nat_cmp self.old.slots asked ≡ None → ⊥) → IsStep known (naming (own_of self.old.client self.old.core) above hands (script.plan id.now asked)) self.old (record { number = number; line = script.plan id.now asked }) On self.new) }
         ensures slots { OnOk result (self.new.slots ≡ self.old.slots) }
         ensures hands { OnOk result (self.new.hands ≡ self.old.hands) }
+        ensures client { OnOk result (self.new.client ≡ self.old.client) }
     {
         match query_of(&self.slots, asked) {
             Some(query) => {
@@ -120,6 +122,7 @@ impl Client {
         ensures out { self.new.out ≡ self.old.out }
         ensures slots { self.new.slots ≡ self.old.slots }
         ensures hands { self.new.hands ≡ self.old.hands }
+        ensures client { self.new.client ≡ self.old.client }
     {
         let None = self.core.look(query) else {
             return keep_reply(keep(self.alloc, &mut self.core, query));
@@ -130,9 +133,10 @@ impl Client {
     /// Runs the `keep` of the ask of a line. Where there is no memory to gather its query's steps, the query is stopped.
     pub fn keep(&mut self, number: u32, id: &Text, asked: u32) -> Result<(), OutOfMemory>
         ensures grows { OnOk result (Grows self.old.core self.new.core) }
-        ensures step { OnOk result ((known : Known) (above : List Ran) (hands : List Hand) → IsKnown known self.new.core → Each (λ e. e.client ≡ 0) self.old.core.journal → SlotRight known above (own_of self.old.core) asked (get nat_cmp self.old.slots asked) → (get nat_cmp self.old.slots asked ≡ None → ⊥) → IsStep known (naming (own_of self.old.core) above hands (script.keep id.now asked)) self.old (record { number = number; line = script.keep id.now asked }) On self.new) }
+        ensures step { OnOk result ((known : Known) (above : List Ran) (hands : List Hand) → IsKnown known self.new.core → Each (λ e. e.client ≡ self.old.client) self.old.core.journal → SlotRight known above (own_of self.old.client self.old.core) asked (get nat_cmp self.old.slots asked) → (get nat_cmp self.old.slots asked ≡ None → ⊥) → IsStep known (naming (own_of self.old.client self.old.core) above hands (script.keep id.now asked)) self.old (record { number = number; line = script.keep id.now asked }) On self.new) }
         ensures slots { OnOk result (self.new.slots ≡ self.old.slots) }
         ensures hands { OnOk result (self.new.hands ≡ self.old.hands) }
+        ensures client { OnOk result (self.new.client ≡ self.old.client) }
     {
         match query_of(&self.slots, asked) {
             Some(query) => {
@@ -150,6 +154,7 @@ impl Client {
         ensures core { self.new.core ≡ self.old.core }
         ensures slots { self.new.slots ≡ self.old.slots }
         ensures hands { OnOk result ((name : List ℕ) → slice_get self.old.core.names held.head.tenant ≡ Some name → self.new.hands.items ≡ slice_set self.old.hands.items worker (Some held)) }
+        ensures client { self.new.client ≡ self.old.client }
     {
         let head = held.head;
         self.hands[worker as usize] = Some(held);
@@ -174,8 +179,9 @@ impl Client {
         requires holds { HoldsJobs self.old }
         ensures holds { OnOk result (HoldsJobs self.new) }
         ensures grows { OnOk result (Grows self.old.core self.new.core) }
-        ensures step { OnOk result ((known : Known) (above : List Ran) (hands : List Hand) → IsKnown known self.new.core → Each (λ e. e.client ≡ 0) self.old.core.journal → AreAsked known above self.old.core → HaveHands self.old hands → IsStep known (naming (own_of self.old.core) above hands (script.take worker)) self.old (record { number = number; line = script.take worker }) On self.new) }
+        ensures step { OnOk result ((known : Known) (above : List Ran) (hands : List Hand) → IsKnown known self.new.core → Each (λ e. e.client ≡ self.old.client) self.old.core.journal → AreAsked self.old.client known above self.old.core → HaveHands self.old hands → IsStep known (naming (own_of self.old.client self.old.core) above hands (script.take worker)) self.old (record { number = number; line = script.take worker }) On self.new) }
         ensures slots { OnOk result (self.new.slots ≡ self.old.slots) }
+        ensures client { OnOk result (self.new.client ≡ self.old.client) }
     {
         if self.hands[worker as usize].is_some() {
             return push_take_reply(&mut self.out, number, worker, &TakeReply::Busy);
@@ -198,8 +204,9 @@ impl Client {
         requires holds { HoldsJobs self.old }
         ensures holds { OnOk result (HoldsJobs self.new) }
         ensures grows { OnOk result (Grows self.old.core self.new.core) }
-        ensures step { OnOk result ((known : Known) (above : List Ran) (hands : List Hand) → IsKnown known self.new.core → HaveHands self.old hands → IsStep known (naming (own_of self.old.core) above hands (script.done worker)) self.old (record { number = number; line = script.done worker }) On self.new) }
+        ensures step { OnOk result ((known : Known) (above : List Ran) (hands : List Hand) → IsKnown known self.new.core → HaveHands self.old hands → IsStep known (naming (own_of self.old.client self.old.core) above hands (script.done worker)) self.old (record { number = number; line = script.done worker }) On self.new) }
         ensures slots { OnOk result (self.new.slots ≡ self.old.slots) }
+        ensures client { OnOk result (self.new.client ≡ self.old.client) }
     {
         let Some(held) = mem::replace(&mut self.hands[worker as usize], None) else {
             return push_done_reply(&mut self.out, number, worker, &DoneReply::Empty);

@@ -7,7 +7,7 @@ pub returns-clause-going : goal.returns-clause-going
 returns-clause-going c = begins c.args.limits _ (search rules) (search rules) (search rules) (search rules)
 
 pub returns-clause-holds : goal.returns-clause-holds
-returns-clause-holds c = begins_holds c.args.limits _ (search rules) (search rules)
+returns-clause-holds c = begins_holds c.args.limits _ (search rules) (search rules) (search rules)
 
 pub returns-clause-counted : goal.returns-clause-counted
 returns-clause-counted c = λ loaded known told kn. counted_first c.args.limits c.in_ok-core.core (search rules)

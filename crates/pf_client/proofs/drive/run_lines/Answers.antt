@@ -13,6 +13,7 @@ loop-line-init g c = record {
   can_run = c.requires.can_run;
   part = λ known told. told;
   holds = c.requires.holds;
+  client = refl;
   actors = c.requires.actors;
   steady = refl;
 }
@@ -21,7 +22,7 @@ pub returns-in_err-hand_on-clause-broken : goal.returns-in_err-hand_on-clause-br
 returns-in_err-hand_on-clause-broken g c =
     on_err_all _ c.from_residual.result
     (λ limits going. breaks_off (g.O.Sink.told c.args.out.now) (g.O.Sink.told c.loop-line.out) (g.O.Sink.told c.hand_on.new.out) c.args.loaded.now limits (lines_of c.args.script.now)
-    c.args.client.now c.loop-line.line-index c.loop-line.client (search rules) c.loop-line.invariant.sends c.in_err-hand_on.ensures.begun going)
+    c.args.client.now c.loop-line.line-index c.loop-line.client c.loop-line.invariant.client (search rules) c.loop-line.invariant.sends c.in_err-hand_on.ensures.begun going)
 
 pub run_line-requires-clause-ready : goal.run_line-requires-clause-ready
 run_line-requires-clause-ready g c =
@@ -34,7 +35,7 @@ pub returns-in_err-run_line-clause-broken : goal.returns-in_err-run_line-clause-
 returns-in_err-run_line-clause-broken g c =
     on_err_all _ c.from_residual-in_err-run_line.result
     (λ limits going. broke_off (g.O.Sink.told c.args.out.now) (g.O.Sink.told c.hand_on.new.out) c.args.loaded.now limits (lines_of c.args.script.now)
-    c.args.client.now c.loop-line.line-index (holding c.loop-line.client c.hand_on.new.held) (search rules)
+    c.args.client.now c.loop-line.line-index (holding c.loop-line.client c.hand_on.new.held) c.loop-line.invariant.client (search rules)
     (sends_on (g.O.Sink.told c.args.out.now) (g.O.Sink.told c.loop-line.out) (g.O.Sink.told c.hand_on.new.out) c.args.loaded.now (lines_of c.args.script.now) c.args.client.now
     c.loop-line.line-index c.loop-line.client c.hand_on.new.held c.loop-line.invariant.sends c.in_ok-hand_on.ensures.written) going)
 
@@ -93,6 +94,7 @@ loop-line-preserved g c =
       part = part_on c.args.loaded.now c.loop-line.loaded c.run_line.new.loaded (file_of (numbered_of c.line-item.result).line) c.line-item.result.number
           (search rules) (search rules) c.loop-line.invariant.part;
       holds = search rules;
+      client = search rules;
       actors = search rules;
       steady = search rules;
     }

@@ -12,6 +12,7 @@ invariant-loop-line g l = record {
   can_run : CanRun l.script l.line-index l.loaded;
   part : IsPart l.fn.loaded l.loaded;
   holds : HoldsJobs l.client;
+  client : l.client.client ≡ l.fn.client.client;
   actors : length l.hops ≡ 32;
   steady : g.O.Sink.faults l.out ≡ g.O.Sink.faults l.fn.out;
 }

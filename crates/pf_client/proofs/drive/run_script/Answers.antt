@@ -11,32 +11,32 @@ returns-in_err-client-clause-begun g c is held are = inl (grows_none (g.O.Sink.t
 pub returns-in_err-stopped-clause-broken : goal.returns-in_err-stopped-clause-broken
 returns-in_err-stopped-clause-broken g c is held are =
     begun_short c.args.limits c.args.loaded (lines_of c.args.script.now) held are c.requires.can_run.right (short_script c.args.script.now (search rules))
-    c.requires.can_run.following (g.O.Sink.told c.args.out.now) (g.O.Sink.told c.run_lines.new.out)
+    c.requires.can_run.following _ c.in_ok-client.ensures.client (g.O.Sink.told c.args.out.now) (g.O.Sink.told c.run_lines.new.out)
     (c.in_err-stopped.ensures.broken c.args.limits (c.in_ok-client.ensures.going c.args.loaded (lines_of c.args.script.now)))
 
 pub returns-in_err-stopped-clause-begun : goal.returns-in_err-stopped-clause-begun
 returns-in_err-stopped-clause-begun g c is held are =
     inr (begun_short c.args.limits c.args.loaded (lines_of c.args.script.now) held are c.requires.can_run.right (short_script c.args.script.now (search rules))
-    c.requires.can_run.following (g.O.Sink.told c.args.out.now) (g.O.Sink.told c.run_lines.new.out)
+    c.requires.can_run.following _ c.in_ok-client.ensures.client (g.O.Sink.told c.args.out.now) (g.O.Sink.told c.run_lines.new.out)
     (c.in_err-stopped.ensures.broken c.args.limits (c.in_ok-client.ensures.going c.args.loaded (lines_of c.args.script.now))))
 
 pub returns-in_err-write_rest-clause-broken : goal.returns-in_err-write_rest-clause-broken
 returns-in_err-write_rest-clause-broken g c is held are =
     report_begun c.args.limits c.args.loaded (lines_of c.args.script.now) held are c.requires.can_run.right (short_script c.args.script.now (search rules))
-    c.in_ok-stopped.stopped _ (g.O.Sink.told c.args.out.now) (g.O.Sink.told c.run_lines.new.out) (g.O.Sink.told c.write_rest.new.out) c.run_lines.new.client (search rules)
+    c.in_ok-stopped.stopped _ (g.O.Sink.told c.args.out.now) (g.O.Sink.told c.run_lines.new.out) (g.O.Sink.told c.write_rest.new.out) c.run_lines.new.client (search rules) (search rules)
     (c.in_ok-stopped.ensures.stopped c.args.limits (c.in_ok-client.ensures.going c.args.loaded (lines_of c.args.script.now))) refl
     c.in_err-write_rest.ensures.begun
 
 pub returns-in_err-write_rest-clause-begun : goal.returns-in_err-write_rest-clause-begun
 returns-in_err-write_rest-clause-begun g c is held are =
     inr (report_begun c.args.limits c.args.loaded (lines_of c.args.script.now) held are c.requires.can_run.right (short_script c.args.script.now (search rules))
-    c.in_ok-stopped.stopped _ (g.O.Sink.told c.args.out.now) (g.O.Sink.told c.run_lines.new.out) (g.O.Sink.told c.write_rest.new.out) c.run_lines.new.client (search rules)
+    c.in_ok-stopped.stopped _ (g.O.Sink.told c.args.out.now) (g.O.Sink.told c.run_lines.new.out) (g.O.Sink.told c.write_rest.new.out) c.run_lines.new.client (search rules) (search rules)
     (c.in_ok-stopped.ensures.stopped c.args.limits (c.in_ok-client.ensures.going c.args.loaded (lines_of c.args.script.now))) refl
     c.in_err-write_rest.ensures.begun)
 
 pub returns-clause-written : goal.returns-clause-written
 returns-clause-written g c held are =
     report_written c.args.limits c.args.loaded (lines_of c.args.script.now) held are c.requires.can_run.right (short_script c.args.script.now (search rules))
-    c.in_ok-stopped.stopped c.is_full.result (g.O.Sink.told c.args.out.now) (g.O.Sink.told c.run_lines.new.out) (g.O.Sink.told c.write_rest.new.out) c.run_lines.new.client (search rules)
+    c.in_ok-stopped.stopped c.is_full.result (g.O.Sink.told c.args.out.now) (g.O.Sink.told c.run_lines.new.out) (g.O.Sink.told c.write_rest.new.out) c.run_lines.new.client (search rules) (search rules)
     (c.in_ok-stopped.ensures.stopped c.args.limits (c.in_ok-client.ensures.going c.args.loaded (lines_of c.args.script.now))) (search rules)
     c.in_ok-write_rest.ensures.written

@@ -17,7 +17,7 @@ numbered n l = record { number = n; line = line_of l }
 pub returns-in_ok-answered-in-Answer-clause-runs : goal.returns-in_ok-answered-in-Answer-clause-runs
 returns-in_ok-answered-in-Answer-clause-runs g c =
     subst (λ (l : Line). GoesOnWith c.args.loaded.now c.args.client.now (numbered c.args.line.now.number l) run.On c.answer.new.self) (sym c.in-Answer.is)
-    (λ first part. answer_goes first c.args.client.now c.answer.new.self _ c.in-Answer.asked _ (search rules) c.in_ok-answered-in-Answer.ensures.step)
+    (λ first part. answer_goes first c.args.client.now c.answer.new.self _ c.in-Answer.asked _ (search rules) (search rules) c.in_ok-answered-in-Answer.ensures.step)
 
 pub returns-in_ok-answered-in-Answer-clause-counted : goal.returns-in_ok-answered-in-Answer-clause-counted
 returns-in_ok-answered-in-Answer-clause-counted g c =
@@ -25,7 +25,7 @@ returns-in_ok-answered-in-Answer-clause-counted g c =
     (search rules) (search rules) (search rules)
 
 pub returns-in_ok-answered-in-Answer-clause-holds : goal.returns-in_ok-answered-in-Answer-clause-holds
-returns-in_ok-answered-in-Answer-clause-holds g c = holds_on c.args.client.now c.answer.new.self (search rules) (search rules) c.requires.holds
+returns-in_ok-answered-in-Answer-clause-holds g c = holds_on c.args.client.now c.answer.new.self (search rules) (search rules) (search rules) c.requires.holds
 
 pub returns-in_default-clause-counted : goal.returns-in_default-clause-counted
 returns-in_default-clause-counted g c =

@@ -1,4 +1,4 @@
-use Rattle.std.proofs.Common.{rules, [], ◌++◌, ◌+◌, ◌∙◌, subst, sym}
+use Rattle.std.proofs.Common.{rules, refl, [], ◌++◌, ◌+◌, ◌∙◌, subst, sym}
 use Rattle.pf_script.specs.Lines.{lines_of, numbered_of}
 use Rattle.pf_client.specs.Replays.{file_of}
 use Rattle.pf_client.specs.Going.{GoesOn}
@@ -13,6 +13,7 @@ loop-line-init g c = record {
   can_run = c.requires.can_run;
   part = λ known told. told;
   holds = c.requires.holds;
+  client = refl;
   actors = c.requires.actors;
 }
 
@@ -20,8 +21,8 @@ pub run_counted-requires-clause-ready : goal.run_counted-requires-clause-ready
 run_counted-requires-clause-ready g c =
     ready c.args.script.now c.loop-line.loaded c.loop-line.line-index c.line-item.result (search rules) (search rules) c.loop-line.invariant.can_run
 
-pub returns-in-Full : goal.returns-in-Full
-returns-in-Full g c = λ limits g k.
+pub returns-in-Full-clause-ended : goal.returns-in-Full-clause-ended
+returns-in-Full-clause-ended g c = λ limits g k.
     let s = c.loop-line.invariant.going limits g in
     let at = there c.args.script.now c.loop-line.loaded c.loop-line.line-index c.line-item.result (search rules) (search rules) c.loop-line.invariant.can_run in
     let behind = follows c.args.script.now c.loop-line.loaded c.loop-line.line-index c.line-item.result (search rules) (search rules) c.loop-line.invariant.can_run in (
@@ -58,11 +59,12 @@ loop-line-preserved g c =
       part = part_on c.args.loaded.now c.loop-line.loaded c.run_counted.new.loaded (file_of (numbered_of c.line-item.result).line) c.line-item.result.number
           (search rules) (search rules) c.loop-line.invariant.part;
       holds = holds_sent c.run_counted.new.client c.clear.new.self (search rules);
+      client = search rules;
       actors = search rules;
     }
 
-pub returns : goal.returns
-returns g c = λ limits g k.
+pub returns-clause-ended : goal.returns-clause-ended
+returns-clause-ended g c = λ limits g k.
     let s = c.loop-line.invariant.going limits g in (
       (s.0, ends c.args.script.now c.args.loaded.now limits c.loop-line.line-index s.0 c.loop-line.client (search rules) s.1),
       c.loop-line.invariant.counted limits g k,

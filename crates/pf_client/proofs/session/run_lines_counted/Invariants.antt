@@ -16,5 +16,6 @@ invariant-loop-line g l = record {
   can_run : CanRun l.script l.line-index l.loaded;
   part : IsPart l.fn.loaded l.loaded;
   holds : HoldsJobs l.client;
+  client : l.client.client ≡ l.fn.client.client;
   actors : length l.hops ≡ 32;
 }

@@ -8,7 +8,7 @@ use Rattle.pf_client.proofs.client.Client.answer_query.Goals as goal
 
 pub returns-in_default-clause-step : goal.returns-in_default-clause-step
 returns-in_default-clause-step g c known above hands line k alone h have =
-    absurd (absent known above c.args.self.now.core line c.args.query h alone (search rules) (search rules))
+    absurd (absent c.args.self.now.client known above c.args.self.now.core line c.args.query h alone (search rules) (search rules))
 
 pub returns-in_default-clause-grows : goal.returns-in_default-clause-grows
 returns-in_default-clause-grows g c = grows_same c.args.self.now.core _ refl
@@ -22,17 +22,17 @@ returns-in_ok-push_waiting-in-Waits-clause-grows g c = grows_waits c.args.self.n
 
 pub returns-in_ok-push_answered-in-Answered-clause-step : goal.returns-in_ok-push_answered-in-Answered-clause-step
 returns-in_ok-push_answered-in-Answered-clause-step g c known above hands line k alone h have =
-    step_answered known above hands c.args.self.now _ refl c.args.number c.args.id.now line c.by.result c.args.query c.in-Answered.reply
+    step_answered known above hands c.args.self.now _ refl c.args.number c.args.id.now line c.by-by.result c.args.query c.in-Answered.reply
     c.in-Some.ensures.found.opened (arc_value c.in-Some.opened.asked.now) c.body_of-body.result k h (search rules) (search rules) (search rules) (search rules)
     c.in-Some.ensures.found.is_open c.in-Some.ensures.found.asked (search rules) (search rules)
 
 pub returns-in_ok-push_answered-in-Answered-clause-grows : goal.returns-in_ok-push_answered-in-Answered-clause-grows
-returns-in_ok-push_answered-in-Answered-clause-grows g c = grows_replied c.args.self.now.core _ c.by.result c.args.query c.in-Answered.reply (search rules)
+returns-in_ok-push_answered-in-Answered-clause-grows g c = grows_replied c.args.self.now.core _ c.by-by.result c.args.query c.in-Answered.reply (search rules)
 
 pub returns-in_ok-push_waiting-in-Waits-clause-counted : goal.returns-in_ok-push_waiting-in-Waits-clause-counted
 returns-in_ok-push_waiting-in-Waits-clause-counted g c = counted_waits c.args.self.now.core c.answer.new.core c.args.query c.in-Waits.jobs (search rules)
 
 pub returns-in_ok-push_answered-in-Answered-clause-counted : goal.returns-in_ok-push_answered-in-Answered-clause-counted
 returns-in_ok-push_answered-in-Answered-clause-counted g c =
-    counted_reply c.args.self.now.core c.answer.new.core c.by.result c.args.query c.in-Answered.reply (arc_value c.in-Some.opened.asked.now).instant (arc_value c.in-Some.opened.asked.now).kind
+    counted_reply c.args.self.now.core c.answer.new.core c.by-by.result c.args.query c.in-Answered.reply (arc_value c.in-Some.opened.asked.now).instant (arc_value c.in-Some.opened.asked.now).kind
     c.body_of-body.result (search rules) (search rules)

@@ -12,7 +12,7 @@ pub returns-in_ok-cancel_query-in-Some-clause-step : goal.returns-in_ok-cancel_q
 returns-in_ok-cancel_query-in-Some-clause-step c known above hands k alone right =
     let found : get nat_cmp c.args.self.now.slots c.args.asked ≡ Some (slot.Asked c.in-Some.query) = search rules in
     c.in_ok-cancel_query-in-Some.ensures.step known above hands c.args.asked k alone
-    (subst (SlotRight known above (own_of c.args.self.now.core) c.args.asked) found right)
+    (subst (SlotRight known above (own_of c.args.self.now.client c.args.self.now.core) c.args.asked) found right)
 
 pub returns-in_ok-push_cancel_reply-in-None-clause-step : goal.returns-in_ok-push_cancel_reply-in-None-clause-step
 returns-in_ok-push_cancel_reply-in-None-clause-step c known above hands k alone right =

@@ -6,11 +6,11 @@ use Rattle.pf_client.proofs.client.Client.cancel_query.Goals as goal
 pub returns-in_ok-push_cancel_reply-in-Done-clause-step : goal.returns-in_ok-push_cancel_reply-in-Done-clause-step
 returns-in_ok-push_cancel_reply-in-Done-clause-step c known above hands line k alone h =
     step_cancelled known above hands c.args.self.now _ refl c.args.number c.args.id.now line c.args.query h c.args.tenant.now
-    c.by.result k alone (search rules) (search rules) (search rules) (search rules) (search rules) (search rules) (search rules)
+    c.by-by.result k alone (search rules) (search rules) (search rules) (search rules) (search rules) (search rules) (search rules)
 
 pub returns-in_ok-push_cancel_reply-in-Done-clause-grows : goal.returns-in_ok-push_cancel_reply-in-Done-clause-grows
 returns-in_ok-push_cancel_reply-in-Done-clause-grows c =
-    grows_cancelled c.args.self.now.core _ c.by.result c.args.query c.args.tenant.now (search rules) (search rules) (search rules)
+    grows_cancelled c.args.self.now.core _ c.by-by.result c.args.query c.args.tenant.now (search rules) (search rules) (search rules)
 
 pub returns-in_ok-tell_owner-in-OtherTenant-clause-step : goal.returns-in_ok-tell_owner-in-OtherTenant-clause-step
 returns-in_ok-tell_owner-in-OtherTenant-clause-step c known above hands line k alone h =
@@ -30,7 +30,7 @@ returns-in_ok-push_cancel_reply-in-Already-clause-grows c = grows_same c.args.se
 
 pub returns-in-NotOutstanding-clause-step : goal.returns-in-NotOutstanding-clause-step
 returns-in-NotOutstanding-clause-step c known above hands line k alone h =
-    absurd (absent known above c.args.self.now.core line c.args.query h alone (search rules) (search rules))
+    absurd (absent c.args.self.now.client known above c.args.self.now.core line c.args.query h alone (search rules) (search rules))
 
 pub returns-in-NotOutstanding-clause-grows : goal.returns-in-NotOutstanding-clause-grows
 returns-in-NotOutstanding-clause-grows c = grows_same c.args.self.now.core _ (search rules)

@@ -7,12 +7,12 @@ use Rattle.pf_client.proofs.client.Client.delete_selected.Goals as goal
 
 pub returns-in_ok-push_delete_reply-in-Ok-clause-runs : goal.returns-in_ok-push_delete_reply-in-Ok-clause-runs
 returns-in_ok-push_delete_reply-in-Ok-clause-runs c known selector selects n k =
-    step_deleted known n c.args.self.now _ c.by.result c.args.number c.args.tenant.now c.args.from c.args.to selector (arc_value c.args.matchers) c.in-Ok.deleted
+    step_deleted known n c.args.self.now _ c.by-by.result c.args.number c.args.tenant.now c.args.from c.args.to selector (arc_value c.args.matchers) c.in-Ok.deleted
     k (search rules) (search rules) (search rules) (search rules) (search rules) (search rules) (search rules) selects (search rules)
 
 pub returns-in_ok-push_delete_reply-in-Err-TooManyTenants-clause-runs : goal.returns-in_ok-push_delete_reply-in-Err-TooManyTenants-clause-runs
 returns-in_ok-push_delete_reply-in-Err-TooManyTenants-clause-runs c known selector selects n k =
-    step_undeleted known n c.args.self.now _ c.by.result c.args.number c.args.tenant.now c.args.from c.args.to selector (arc_value c.args.matchers)
+    step_undeleted known n c.args.self.now _ c.by-by.result c.args.number c.args.tenant.now c.args.from c.args.to selector (arc_value c.args.matchers)
     k (search rules) (search rules) (search rules) (search rules) (search rules) (search rules) (search rules) (search rules) selects (search rules)
 
 pub returns-in_ok-push_delete_reply-in-Err-JournalFull-clause-runs : goal.returns-in_ok-push_delete_reply-in-Err-JournalFull-clause-runs
@@ -31,10 +31,10 @@ pub returns-in-Err-OutOfMemory-clause-grows : goal.returns-in-Err-OutOfMemory-cl
 returns-in-Err-OutOfMemory-clause-grows c = grows_if c.args.self.now.core _ c.starve_delete.result (search rules)
 
 pub returns-in_ok-push_delete_reply-in-Ok-clause-grows : goal.returns-in_ok-push_delete_reply-in-Ok-clause-grows
-returns-in_ok-push_delete_reply-in-Ok-clause-grows c = grows_deleted c.args.self.now.core _ c.by.result c.args.tenant.now (arc_value c.args.matchers) c.args.from c.args.to c.in-Ok.deleted (search rules) (search rules)
+returns-in_ok-push_delete_reply-in-Ok-clause-grows c = grows_deleted c.args.self.now.core _ c.by-by.result c.args.tenant.now (arc_value c.args.matchers) c.args.from c.args.to c.in-Ok.deleted (search rules) (search rules)
 
 pub returns-in_ok-push_delete_reply-in-Err-TooManyTenants-clause-grows : goal.returns-in_ok-push_delete_reply-in-Err-TooManyTenants-clause-grows
-returns-in_ok-push_delete_reply-in-Err-TooManyTenants-clause-grows c = grows_refused c.args.self.now.core _ c.by.result c.args.tenant.now (search rules) (search rules)
+returns-in_ok-push_delete_reply-in-Err-TooManyTenants-clause-grows c = grows_refused c.args.self.now.core _ c.by-by.result c.args.tenant.now (search rules) (search rules)
 
 pub returns-in_ok-push_delete_reply-in-Err-JournalFull-clause-grows : goal.returns-in_ok-push_delete_reply-in-Err-JournalFull-clause-grows
 returns-in_ok-push_delete_reply-in-Err-JournalFull-clause-grows c = grows_same c.args.self.now.core _ (search rules)

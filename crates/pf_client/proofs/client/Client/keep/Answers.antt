@@ -15,10 +15,10 @@ returns-in-Some-clause-step c =
     on_ok_map _ _ c.push_keep_reply.result
     (λ said known above hands k alone right kept.
     let found : get nat_cmp c.args.self.now.slots c.args.asked ≡ Some (slot.Asked c.in-Some.query) = search rules in
-    let h = subst (SlotRight known above (own_of c.args.self.now.core) c.args.asked) found right in
+    let h = subst (SlotRight known above (own_of c.args.self.now.client c.args.self.now.core) c.args.asked) found right in
     step_kept known above hands c.args.self.now (record c.keep_query-reply.new.self { out = c.push_keep_reply.new.out }) c.keep_query-reply.ensures.hands c.args.number c.args.id.now c.args.asked
     c.in-Some.query (keep_of c.keep_query-reply.result) h
-    (λ e. open_still known above c.args.self.now.core c.keep_query-reply.new.self.core c.args.asked c.in-Some.query h alone c.keep_query-reply.ensures.works.history c.keep_query-reply.ensures.stands
+    (λ e. open_still c.args.self.now.client known above c.args.self.now.core c.keep_query-reply.new.self.core c.args.asked c.in-Some.query h alone c.keep_query-reply.ensures.works.history c.keep_query-reply.ensures.stands
     (c.keep_query-reply.ensures.refused e))
     c.keep_query-reply.ensures.works (search rules))
     c.push_keep_reply.ensures.ok

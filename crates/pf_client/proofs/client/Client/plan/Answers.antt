@@ -15,10 +15,10 @@ returns-in-Some-clause-step c =
     on_ok_map _ _ c.push_plan_reply.result
     (λ said known above hands k alone right kept.
     let found : get nat_cmp c.args.self.now.slots c.args.asked ≡ Some (slot.Asked c.in-Some.query) = search rules in
-    let h = subst (SlotRight known above (own_of c.args.self.now.core) c.args.asked) found right in
+    let h = subst (SlotRight known above (own_of c.args.self.now.client c.args.self.now.core) c.args.asked) found right in
     step_planned known above hands c.args.self.now (record c.plan_query-reply.new.self { out = c.push_plan_reply.new.out }) c.plan_query-reply.ensures.hands c.args.number c.args.id.now c.args.asked
     c.in-Some.query (plan_of c.plan_query-reply.result) h
-    (λ e. open_still known above c.args.self.now.core c.plan_query-reply.new.self.core c.args.asked c.in-Some.query h alone c.plan_query-reply.ensures.works.history c.plan_query-reply.ensures.stands
+    (λ e. open_still c.args.self.now.client known above c.args.self.now.core c.plan_query-reply.new.self.core c.args.asked c.in-Some.query h alone c.plan_query-reply.ensures.works.history c.plan_query-reply.ensures.stands
     (c.plan_query-reply.ensures.refused e))
     c.plan_query-reply.ensures.works (search rules))
     c.push_plan_reply.ensures.ok

@@ -39,7 +39,7 @@ returns-in-None-clause-grows c = on_ok_all _ c.push_take_reply-in-None.result (g
 pub returns-in-None-clause-holds : goal.returns-in-None-clause-holds
 returns-in-None-clause-holds c =
     on_ok_all _ c.push_take_reply-in-None.result
-    (holds_on c.args.self.now (record c.args.self.now { core = c.take.new.self; out = c.push_take_reply-in-None.new.out })
+    (holds_on c.args.self.now (record c.args.self.now { core = c.take.new.self; out = c.push_take_reply-in-None.new.out }) refl
     (grows_same c.args.self.now.core c.take.new.self (search rules)) refl c.requires.holds)
 
 pub returns-in-Some-clause-step : goal.returns-in-Some-clause-step
@@ -69,6 +69,6 @@ returns-in-Some-clause-holds c =
     let stands = subst Stands (sym c.hold.ensures.core) c.in-Some.ensures.stands in
     let name = named_tenant c.args.self.now.core c.hold.new.self.core (16 + c.args.worker) c.in-Some.held taken stands in
     on_ok_map _ _ c.hold.result
-    (λ set. holds_taken c.args.self.now c.hold.new.self c.args.worker c.in-Some.held (grows_taken c.args.self.now.core c.hold.new.self.core c.args.worker c.in-Some.held taken)
+    (λ set. holds_taken c.args.self.now c.hold.new.self c.args.worker c.in-Some.held c.hold.ensures.client (grows_taken c.args.self.now.core c.hold.new.self.core c.args.worker c.in-Some.held taken)
     (set name.0 (search rules)) c.requires.worker taken.stands taken.actor_is c.requires.holds)
     c.hold.ensures.hands

@@ -8,12 +8,12 @@ use Rattle.pf_client.proofs.client.Client.take_in.Goals as goal
 
 pub returns-in_ok-push_ingest_reply-in-Ok-clause-runs : goal.returns-in_ok-push_ingest_reply-in-Ok-clause-runs
 returns-in_ok-push_ingest_reply-in-Ok-clause-runs c known gives n k =
-    step_ingested known n c.args.self.now _ c.by.result c.args.number c.args.tenant.now c.args.file.now c.args.time c.args.batch (arc_value c.in-Ok.verdicts)
+    step_ingested known n c.args.self.now _ c.by-by.result c.args.number c.args.tenant.now c.args.file.now c.args.time c.args.batch (arc_value c.in-Ok.verdicts)
     k (search rules) (search rules) (search rules) (search rules) (search rules) gives (search rules)
 
 pub returns-in_ok-push_ingest_reply-in-Err-TooManyTenants-clause-runs : goal.returns-in_ok-push_ingest_reply-in-Err-TooManyTenants-clause-runs
 returns-in_ok-push_ingest_reply-in-Err-TooManyTenants-clause-runs c known gives n k =
-    step_uningested known n c.args.self.now _ c.by.result c.args.number c.args.tenant.now c.args.file.now c.args.time c.args.batch
+    step_uningested known n c.args.self.now _ c.by-by.result c.args.number c.args.tenant.now c.args.file.now c.args.time c.args.batch
     k (search rules) (search rules) (search rules) (search rules) (search rules) (search rules) gives (search rules)
 
 pub returns-in_ok-push_ingest_reply-in-Err-JournalFull-clause-runs : goal.returns-in_ok-push_ingest_reply-in-Err-JournalFull-clause-runs
@@ -40,10 +40,10 @@ pub returns-in-Err-OutOfMemory-clause-grows : goal.returns-in-Err-OutOfMemory-cl
 returns-in-Err-OutOfMemory-clause-grows c = grows_if c.args.self.now.core _ c.starve_ingest-in-Err-OutOfMemory.result (search rules)
 
 pub returns-in_ok-push_ingest_reply-in-Ok-clause-grows : goal.returns-in_ok-push_ingest_reply-in-Ok-clause-grows
-returns-in_ok-push_ingest_reply-in-Ok-clause-grows c = grows_appended c.args.self.now.core _ c.by.result c.args.tenant.now c.args.batch (arc_value c.in-Ok.verdicts) (search rules) (search rules)
+returns-in_ok-push_ingest_reply-in-Ok-clause-grows c = grows_appended c.args.self.now.core _ c.by-by.result c.args.tenant.now c.args.batch (arc_value c.in-Ok.verdicts) (search rules) (search rules)
 
 pub returns-in_ok-push_ingest_reply-in-Err-TooManyTenants-clause-grows : goal.returns-in_ok-push_ingest_reply-in-Err-TooManyTenants-clause-grows
-returns-in_ok-push_ingest_reply-in-Err-TooManyTenants-clause-grows c = grows_refused c.args.self.now.core _ c.by.result c.args.tenant.now (search rules) (search rules)
+returns-in_ok-push_ingest_reply-in-Err-TooManyTenants-clause-grows c = grows_refused c.args.self.now.core _ c.by-by.result c.args.tenant.now (search rules) (search rules)
 
 pub returns-in_ok-push_ingest_reply-in-Err-JournalFull-clause-grows : goal.returns-in_ok-push_ingest_reply-in-Err-JournalFull-clause-grows
 returns-in_ok-push_ingest_reply-in-Err-JournalFull-clause-grows c = grows_same c.args.self.now.core _ (search rules)
