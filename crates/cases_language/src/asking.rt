@@ -1,6 +1,7 @@
 //! Rows of what is asked.
 
 ghost use Rattle.std.specs.Prelude.{◌≡◌, ◌≤◌, true};
+ghost use Rattle.pf_model.specs.Parsing.{most_bytes};
 ghost use Rattle.pf_model.specs.Built.{is_evaluated};
 ghost use Rattle.pf_model.specs.Trees.{height, size, tree_of};
 ghost use Rattle.pf_print.specs.OwnTexts.{HasText};
@@ -61,7 +62,7 @@ fn push_over(out: &mut Output, query: &BoundQuery, when: When)
 fn push_tree(out: &mut Output, when: When, tree: Expr)
     requires when { IsWhen when }
     requires written { HasText (tree_of tree) }
-    requires small { size (tree_of tree) ≤ 65536 }
+    requires small { size (tree_of tree) ≤ most_bytes }
     requires low { height (tree_of tree) ≤ 64 }
     requires evaluated { is_evaluated (tree_of tree) ≡ true }
 {

@@ -1,6 +1,7 @@
 //! Rows of tokens, canonical texts, kinds, queries, what they are bound to, and errors.
 
 ghost use Rattle.std.specs.Prelude.{◌≡◌, ◌≤◌, true};
+ghost use Rattle.pf_model.specs.Parsing.{most_bytes};
 ghost use Rattle.pf_lex.specs.Seen.{IsTokenOf};
 ghost use Rattle.pf_model.specs.Built.{is_evaluated};
 ghost use Rattle.pf_model.specs.Trees.{height, size, tree_of};
@@ -187,7 +188,7 @@ fn query(out: &mut Output, text: &str) {
 
 fn push_bound(out: &mut Output, tree: Expr)
     requires written { HasText (tree_of tree) }
-    requires small { size (tree_of tree) ≤ 65536 }
+    requires small { size (tree_of tree) ≤ most_bytes }
     requires low { height (tree_of tree) ≤ 64 }
     requires evaluated { is_evaluated (tree_of tree) ≡ true }
 {

@@ -2,6 +2,7 @@
 
 ghost use Rattle.std.specs.Arc.{arc_value};
 ghost use Rattle.std.specs.Prelude.{◌≡◌, ◌≤◌, IfSome, length};
+ghost use Rattle.pf_base.specs.Limits.{most_steps};
 ghost use Rattle.pf_query.specs.Tables.{IsTable};
 ghost use Rattle.pf_shard.specs.Lawful.{IsLawful, legs_data};
 
@@ -50,7 +51,7 @@ fn legs_of(out: &mut Output, shards: u32) -> Option<Arc<Legs>>
 
 /// So many runs of one step each, a second apart.
 fn runs_of(out: &mut Output, count: u32) -> Option<Vec<Grid>>
-    ensures { IfSome result (λ v. length v.items ≤ 11001) }
+    ensures { IfSome result (λ v. length v.items ≤ most_steps + 1) }
 {
     let mut runs = Vec::new(out.alloc());
     for number in 0..count.min(10) {

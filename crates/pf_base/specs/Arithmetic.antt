@@ -1,16 +1,17 @@
 -- Whole-number arithmetic on values in micros: this project's own.
 use Rattle.std.specs.Prelude.{ℤ, pos, negsuc, zero, suc, Bool, true, false, cond, Option, Some, None}
 use Rattle.std.specs.Prelude.{◌≤ℤ◌, ◌+ℤ◌, ◌-ℤ◌, ◌*ℤ◌, int_lt, int_div}
+use Rattle.pf_base.specs.Limits.{greatest_value, least_value}
 
 -- a number moved into -10^18 to 10^18
 unfoldable pub clamp : ℤ → ℤ
 clamp z =
-    cond (int_lt (pos 1000000000000000000) z) (pos 1000000000000000000)
-    (cond (int_lt z (negsuc 999999999999999999)) (negsuc 999999999999999999) z)
+    cond (int_lt greatest_value z) greatest_value
+    (cond (int_lt z least_value) least_value z)
 
 -- a value lies within the bounds
 abbrev pub IsValue : ℤ → Type 0
-IsValue z = (negsuc 999999999999999999 ≤ℤ z) × (z ≤ℤ pos 1000000000000000000)
+IsValue z = (least_value ≤ℤ z) × (z ≤ℤ greatest_value)
 
 -- no micros at all
 abbrev pub is_zero : ℤ → Bool

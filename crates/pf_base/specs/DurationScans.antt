@@ -3,6 +3,7 @@
 use Rattle.std.specs.Prelude.{ℕ, ◌+◌, ◌*◌, ◌&&◌, ◌||◌, Bool, List, [], ◌∷◌, length, cond, nat_eq, nat_lt, Result, Ok, Err}
 use Rattle.std.specs.Str.{bytes_eq}
 use Rattle.std.specs.Char.{is_ascii_digit}
+use Rattle.pf_base.specs.Limits.{greatest_time}
 use Rattle.pf_base.specs.NumberTexts.{number_after}
 use Rattle.pf_base.specs.NumberScans.{digits_in_front, past_digits}
 use Rattle.pf_base.specs.DurationTexts.{units}
@@ -39,4 +40,4 @@ total_of (u ∷ us) bytes = part_of u.0 u.1 bytes + total_of us (past_part u.0 b
 abbrev pub duration_of : List ℕ → Result ℕ DurationError
 duration_of bytes =
     cond (nat_eq (length bytes) 0 || nat_lt 0 (length (rest_after units bytes))) (Err BadForm)
-    (cond (nat_lt 4398046511103 (total_of units bytes)) (Err TooLarge) (Ok (total_of units bytes)))
+    (cond (nat_lt greatest_time (total_of units bytes)) (Err TooLarge) (Ok (total_of units bytes)))

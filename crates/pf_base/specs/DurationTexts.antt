@@ -1,6 +1,7 @@
 -- The texts of durations. Prometheus, PromQL: Time durations. The limit is this project's own.
 use Rattle.std.specs.Prelude.{◌≡◌, ℕ, ◌+◌, ◌*◌, ◌<◌, ◌≤◌, ◌⊎◌, true, List, [], ◌∷◌, ◌++◌, length, codes, Result, Ok, Err}
 use Rattle.std.specs.Str.{all_ascii_digits}
+use Rattle.pf_base.specs.Limits.{greatest_time}
 use Rattle.pf_base.specs.NumberTexts.{number_after}
 use Rattle.pf_base.specs.declared.duration.DurationError.{DurationError}
 use Rattle.pf_base.specs.declared.duration.DurationError.TheVariants.{BadForm, TooLarge}
@@ -26,6 +27,6 @@ IsDuration bytes n = (1 ≤ length bytes) × Spells units bytes n
 
 -- what bytes are answered with: a duration within the limit, one past it, or no duration
 abbrev pub ReadsDuration : List ℕ → Result ℕ DurationError → Type 0
-ReadsDuration bytes (Ok n) = IsDuration bytes n × (n ≤ 4398046511103)
-ReadsDuration bytes (Err TooLarge) = (n : ℕ) × (IsDuration bytes n × (4398046511103 < n))
+ReadsDuration bytes (Ok n) = IsDuration bytes n × (n ≤ greatest_time)
+ReadsDuration bytes (Err TooLarge) = (n : ℕ) × (IsDuration bytes n × (greatest_time < n))
 ReadsDuration bytes (Err BadForm) = (n : ℕ) → IsDuration bytes n → ⊥

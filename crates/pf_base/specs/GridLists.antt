@@ -1,5 +1,6 @@
 -- A grid as numbers, and the times that it stands for: this project's own.
 use Rattle.std.specs.Prelude.{◌≡◌, ◌↔◌, ℕ, zero, suc, ◌+◌, ◌-◌, ◌*◌, ◌%◌, ◌≤◌, ◌<◌, List, [], ◌∷◌, length, slice_index, Contains}
+use Rattle.pf_base.specs.Limits.{greatest_time, most_steps}
 
 -- the first time, the distance (0 where there is one time alone), and the number of times
 pub record GridData : Type 0 where
@@ -11,9 +12,9 @@ pub record GridData : Type 0 where
 -- with one multiples of it
 pub record IsGrid (g : GridData) : Type 0 where
   pub some : 1 ≤ g.len
-  pub most : g.len ≤ 11001
-  pub last : g.start + (g.len - 1) * g.step ≤ 4398046511103
-  pub near : g.step ≤ 4398046511103
+  pub most : g.len ≤ most_steps + 1
+  pub last : g.start + (g.len - 1) * g.step ≤ greatest_time
+  pub near : g.step ≤ greatest_time
   pub alone : g.step ≡ 0 → g.len ≡ 1
   pub multiple : 0 < g.step → g.start % g.step ≡ 0
 

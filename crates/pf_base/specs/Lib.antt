@@ -9,9 +9,10 @@ pub mod LabelChanges
 pub mod LabelOrder
 pub mod LabelPacking
 pub mod LabelSets
+pub mod LabelWalk
+pub mod Limits
 pub mod NumberScans
 pub mod NumberTexts
-pub mod LabelWalk
 pub mod ShardHash
 pub mod Sorting
 pub mod Tenants

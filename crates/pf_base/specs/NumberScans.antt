@@ -4,6 +4,7 @@ use Rattle.std.specs.Prelude.{ℕ, ℤ, pos, neg_ℤ, ◌+◌, ◌-◌, ◌*◌,
 use Rattle.std.specs.Str.{bytes_eq}
 use Rattle.std.specs.Char.{to_ascii_lowercase, is_ascii_digit}
 use Rattle.std.specs.Option.{is_some}
+use Rattle.pf_base.specs.Limits.{greatest_exponent, greatest_size, most_number_bytes}
 use Rattle.pf_base.specs.NumberTexts.{Sign, bare, plus, minus, Exponent, Decimal, number_after, fraction_digits, raised, lowered, decimal_micros}
 use Rattle.pf_base.specs.declared.number.Read.{Read}
 use Rattle.pf_base.specs.declared.number.Read.TheVariants.{Number, NotANumber}
@@ -12,7 +13,7 @@ use Rattle.pf_base.specs.declared.number.Tens.{Tens}
 
 -- a size, at most that of the greatest value
 abbrev pub capped : ℕ → ℕ
-capped n = min n 1000000000000000000
+capped n = min n greatest_size
 
 abbrev pub digits_in_front : List ℕ → List ℕ
 digits_in_front [] = []
@@ -46,7 +47,7 @@ past_fraction (b ∷ bs) = cond (nat_eq b 46) (past_digits bs) (b ∷ bs)
 -- digits alone, at least one, and the number that they write where it is at most 9,999
 abbrev pub small_of : List ℕ → Option ℕ
 small_of ds =
-    cond (nat_lt 0 (length (digits_in_front ds)) && nat_eq (length (past_digits ds)) 0 && nat_le (number_after 0 (digits_in_front ds)) 9999)
+    cond (nat_lt 0 (length (digits_in_front ds)) && nat_eq (length (past_digits ds)) 0 && nat_le (number_after 0 (digits_in_front ds)) greatest_exponent)
     (Some (number_after 0 (digits_in_front ds))) None
 
 -- an exponent or nothing; none where bytes are neither
@@ -93,8 +94,8 @@ is_word word bytes = bytes_eq (map to_ascii_lowercase bytes) word
 abbrev pub read_body : Bool → List ℕ → ℕ → Result Read BadNumber
 read_body below bytes n =
     cond (is_word (codes "nan") bytes) (Ok NotANumber)
-    (cond (is_word (codes "inf") bytes || is_word (codes "infinity") bytes) (Ok (Number (signed_by below 1000000000000000000)))
-    (cond (nat_lt 128 n) (Err (record {})) (valued below (sizes (decimal_of bytes)))))
+    (cond (is_word (codes "inf") bytes || is_word (codes "infinity") bytes) (Ok (Number (signed_by below greatest_size)))
+    (cond (nat_lt most_number_bytes n) (Err (record {})) (valued below (sizes (decimal_of bytes)))))
 
 -- what bytes are read as
 abbrev pub read_of : List ℕ → Result Read BadNumber

@@ -5,6 +5,7 @@ use Rattle.std.specs.Fmt.{decimal}
 use Rattle.std.specs.Str.{all_ascii_digits}
 use Rattle.std.specs.Char.{to_ascii_lowercase}
 use Rattle.pf_base.specs.Arithmetic.{clamp}
+use Rattle.pf_base.specs.Limits.{greatest_exponent, greatest_size, most_number_bytes}
 use Rattle.pf_base.specs.declared.number.Read.{Read}
 use Rattle.pf_base.specs.declared.number.Read.TheVariants.{Number, NotANumber}
 
@@ -90,7 +91,7 @@ pub record IsExponent (e : Exponent) : Type 0 where
   pub letter : (e.letter ≡ 101) ⊎ (e.letter ≡ 69)
   pub some : 1 ≤ length e.digits
   pub digits : all_ascii_digits e.digits ≡ true
-  pub small : number_after 0 e.digits ≤ 9999
+  pub small : number_after 0 e.digits ≤ greatest_exponent
 
 -- a digit is there, before or behind the point
 pub record IsDecimal (d : Decimal) : Type 0 where
@@ -130,7 +131,7 @@ pub record IsNumber (bytes : List ℕ) (v : ℤ) : Type 0 where
   pub parts : Decimal
   pub lawful : IsDecimal parts
   pub spelled : bytes ≡ sign_text sign ++ decimal_text parts
-  pub short : length bytes ≤ 128
+  pub short : length bytes ≤ most_number_bytes
   pub value : v ≡ clamp (signed sign (decimal_micros parts))
 
 -- bytes are a sign or none, and a word in any case of letters
@@ -143,5 +144,5 @@ pub record IsWord (word bytes : List ℕ) (sign : Sign) : Type 0 where
 abbrev pub Reads : List ℕ → Read → Type 0
 Reads bytes (Number v) =
     IsNumber bytes v
-    ⊎ ((sign : Sign) × ((IsWord (codes "inf") bytes sign ⊎ IsWord (codes "infinity") bytes sign) × (v ≡ signed sign 1000000000000000000)))
+    ⊎ ((sign : Sign) × ((IsWord (codes "inf") bytes sign ⊎ IsWord (codes "infinity") bytes sign) × (v ≡ signed sign greatest_size)))
 Reads bytes NotANumber = (sign : Sign) × IsWord (codes "nan") bytes sign

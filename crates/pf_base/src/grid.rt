@@ -3,6 +3,7 @@
 ghost use Rattle.std.specs.Prelude.{◌≡◌, ◌<◌, ◌≤◌, ◌+◌, ◌*◌, length, slice_get, IfOk, Some};
 ghost use Rattle.pf_base.specs.GridLists.{AreMultiples};
 ghost use Rattle.pf_base.specs.Grids.{grid_of, single_of, points};
+ghost use Rattle.pf_base.specs.Limits.{greatest_time, most_steps};
 
 use std::marker::Model;
 
@@ -92,7 +93,7 @@ impl Grid {
     pub fn len(&self) -> u32
         ensures value { result ≡ self.now.len }
         ensures all { result ≡ length (points self.now) }
-        ensures within { 1 ≤ result × result ≤ 11001 }
+        ensures within { 1 ≤ result × result ≤ most_steps + 1 }
     {
         self.len
     }
@@ -103,7 +104,7 @@ impl Grid {
         requires { i < self.now.len }
         ensures value { result ≡ self.now.start + i * self.now.step }
         ensures point { slice_get (points self.now) i ≡ Some result }
-        ensures within { result ≤ 4398046511103 }
+        ensures within { result ≤ greatest_time }
     {
         self.start + i as u64 * self.step
     }
@@ -113,7 +114,7 @@ impl Grid {
     pub fn start(&self) -> u64
         ensures value { result ≡ self.now.start }
         ensures point { slice_get (points self.now) 0 ≡ Some result }
-        ensures within { result ≤ 4398046511103 }
+        ensures within { result ≤ greatest_time }
     {
         self.start
     }
@@ -121,7 +122,7 @@ impl Grid {
     /// The distance from one time to the next, and 0 where the grid was made by `single`.
     pub fn step(&self) -> u64
         ensures value { result ≡ self.now.step }
-        ensures within { result ≤ 4398046511103 }
+        ensures within { result ≤ greatest_time }
     {
         self.step
     }

@@ -3,6 +3,7 @@
 ghost use Rattle.std.specs.Prelude.{◌≡◌, ◌↔◌, ◌+◌, ◌*◌, ◌^◌, ◌≤◌, ◌++◌, true, length, map, IfOk, OnOk, OnErr};
 ghost use Rattle.std.specs.Str.{all_ascii_digits};
 ghost use Rattle.std.specs.Char.{to_ascii_lowercase};
+ghost use Rattle.pf_base.specs.Limits.{greatest_exponent, greatest_size};
 ghost use Rattle.pf_base.specs.NumberTexts.{fraction_digits, number_after, Reads, value_text};
 ghost use Rattle.pf_base.specs.NumberScans.{capped, decimal_of, digits_in_front, exponent_of, fraction_in_front, is_minus, is_word, past_digits, past_fraction, past_sign, placed, read_of, sign_in_front, signed_by, sizes, small_of, tens_of};
 ghost use Rattle.pf_base.specs.declared.number.Read.{Read};
@@ -94,7 +95,7 @@ fn split_fraction(bytes: &[u8]) -> (&[u8], &[u8])
 
 /// The number that the digits write behind those of another, at most the greatest size.
 pub fn read_on(size: u64, digits: &[u8]) -> u64
-    requires capped { size ≤ 1000000000000000000 }
+    requires capped { size ≤ greatest_size }
     requires digits { all_ascii_digits digits.now ≡ true }
     ensures { result ≡ capped (number_after size digits.now) }
 {
@@ -124,7 +125,7 @@ fn small_number(bytes: &[u8]) -> Option<usize>
 /// The powers of an exponent, or of nothing.
 fn read_exponent(bytes: &[u8]) -> Result<Tens, BadNumber>
     ensures tens { result ≡ tens_of (exponent_of bytes.now) }
-    ensures small { IfOk result (λ t. t.up ≤ 9999) }
+    ensures small { IfOk result (λ t. t.up ≤ greatest_exponent) }
 {
     let Some((letter, rest)) = bytes.split_first() else {
         return Ok(Tens { up: 0, down: 0 });
@@ -142,7 +143,7 @@ fn read_exponent(bytes: &[u8]) -> Result<Tens, BadNumber>
 
 /// A size with zeros behind it, at most the greatest.
 fn with_zeros(size: u64, zeros: usize) -> u64
-    requires { size ≤ 1000000000000000000 }
+    requires { size ≤ greatest_size }
     ensures { result ≡ capped (size * 10 ^ zeros) }
 {
     let mut size = size;
@@ -171,7 +172,7 @@ fn placed(whole: &[u8], fraction: &[u8], places: usize) -> u64
 fn read_size(bytes: &[u8]) -> Result<u64, BadNumber>
     requires { length bytes.now ≤ 128 }
     ensures size { result ≡ sizes (decimal_of bytes.now) }
-    ensures capped { IfOk result (λ n. n ≤ 1000000000000000000) }
+    ensures capped { IfOk result (λ n. n ≤ greatest_size) }
 {
     let (whole, rest) = split_digits(bytes);
     let (fraction, rest) = split_fraction(rest);
@@ -185,7 +186,7 @@ fn read_size(bytes: &[u8]) -> Result<u64, BadNumber>
 
 #[tactic(auto, unfolding(crate::specs::Arithmetic::clamp))]
 fn signed_value(minus: bool, size: u64) -> Value
-    requires { size ≤ 1000000000000000000 }
+    requires { size ≤ greatest_size }
     ensures { result ≡ signed_by minus size }
 {
     if minus {

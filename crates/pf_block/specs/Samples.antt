@@ -3,6 +3,7 @@
 use Rattle.std.specs.Prelude.{ℕ, suc, ℤ, pos, Bool, true, ◌&&◌, ◌||◌, cond, Option, None, Some, List, [], ◌∷◌, filter, int_lt, int_le}
 use Rattle.std.specs.Ordering.{int_eq}
 use Rattle.std.specs.List.{list_all}
+use Rattle.pf_base.specs.Limits.{greatest_time}
 use Rattle.pf_base.specs.declared.plain.Sample.{Sample}
 
 -- each time is above the one before it
@@ -16,7 +17,7 @@ rises (s ∷ ss) = rises_after s.time ss
 
 -- a time that rows may have, in milliseconds
 abbrev pub is_timed : Sample → Bool
-is_timed s = int_le (pos 0) s.time && int_le s.time (pos 4398046511103)
+is_timed s = int_le (pos 0) s.time && int_le s.time (pos greatest_time)
 
 -- the samples of a series
 abbrev pub is_series : List Sample → Bool

@@ -1,6 +1,7 @@
 -- A snapshot: a tenant's series with their samples. New series stand at the end, and none goes. This project's own.
 use Rattle.std.specs.Prelude.{◌≡◌, ℕ, ◌+◌, ◌<◌, ◌^◌, ℤ, pos, negsuc, Bool, true, not, ◌&&◌, cond, Option, None, Some, is_some, List, [], ◌∷◌, ◌++◌, length, filter, map, slice_set, slice_index_or, nat_eq, nat_le}
 use Rattle.std.specs.List.{list_all, list_any}
+use Rattle.pf_base.specs.Limits.{greatest_time}
 use Rattle.pf_base.specs.declared.plain.Row.{Row}
 use Rattle.pf_base.specs.declared.plain.Sample.{Sample}
 use Rattle.pf_base.specs.LabelSets.{Pairs}
@@ -69,7 +70,7 @@ are_new s (r ∷ rs) = not (is_some (held_of s r.labels r.time)) && are_new (put
 
 -- times that rows may have, in milliseconds
 abbrev pub are_timed : List Row → Bool
-are_timed rows = list_all (λ r. nat_le r.time 4398046511103) rows
+are_timed rows = list_all (λ r. nat_le r.time greatest_time) rows
 
 -- the samples of the named series outside [from, to], and those of the others; the first list is of the id `first`
 abbrev pub cut_from : ℕ → List ℕ → ℤ → ℤ → List (List Sample) → List (List Sample)

@@ -6,6 +6,7 @@ ghost use Rattle.std.specs.Arc.{arc_value};
 ghost use Rattle.pf_block.specs.Blocks.{entries_of, entry_of, labels_with, noted, number_of};
 ghost use Rattle.pf_block.specs.Samples.{window_of, last_of};
 ghost use Rattle.pf_base.specs.LabelSets.{IsLabels};
+ghost use Rattle.pf_base.specs.Limits.{greatest_time};
 ghost use Rattle.pf_block.specs.LabelOrders.{ids_by_label};
 ghost use Rattle.pf_block.specs.SeriesIds.{id_of, ids_with};
 ghost use Rattle.pf_block.specs.Stacks.{HasSizes, doubles, total};
@@ -46,7 +47,7 @@ impl Model for Snap {
 }
 
 fn entry(row: &Row, id: u32) -> Entry
-    requires { nat_le row.now.time 4398046511103 ≡ true }
+    requires { nat_le row.now.time greatest_time ≡ true }
     ensures { entry_of result ≡ (id, sample_of row.now) }
 {
     (id, (row.time as i64, row.value))

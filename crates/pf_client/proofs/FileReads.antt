@@ -9,7 +9,8 @@ use Rattle.pf_base.specs.Batches.{BatchData}
 use Rattle.pf_block.specs.Snaps.{are_timed}
 use Rattle.pf_journal.specs.Files.{Gives, IsRefusedAs, at_line}
 use Rattle.pf_base.specs.GridLists.{GridData}
-use Rattle.pf_base.specs.Grids.{grid_of, maxt}
+use Rattle.pf_base.specs.Grids.{grid_of}
+use Rattle.pf_base.specs.Limits.{greatest_time}
 use Rattle.pf_base.specs.declared.grid.GridError.{GridError}
 use Rattle.pf_base.specs.declared.grid.GridError.TheVariants.{ZeroStep, TimeTooLarge, EndBeforeStart, TooManySteps}
 use Rattle.pf_journal.specs.Asking.{Asked, asked_over, asked_with}
@@ -66,17 +67,17 @@ read_named files name given time r same h = subst (λ (n : List ℕ). IsFileRead
 
 -- ---- ranges and selectors
 
-pub no_range : (from to : ℕ) (selector : List ℕ) → (nat_lt to from || nat_lt maxt to) ≡ true → ToldOfDelete from to selector told.nothing
-no_range from to selector h = by (nat_lt to from) (nat_lt maxt to) refl refl h where
-  by : (a b : Bool) → nat_lt to from ≡ a → nat_lt maxt to ≡ b → (a || b) ≡ true → ToldOfDelete from to selector told.nothing
+pub no_range : (from to : ℕ) (selector : List ℕ) → (nat_lt to from || nat_lt greatest_time to) ≡ true → ToldOfDelete from to selector told.nothing
+no_range from to selector h = by (nat_lt to from) (nat_lt greatest_time to) refl refl h where
+  by : (a b : Bool) → nat_lt to from ≡ a → nat_lt greatest_time to ≡ b → (a || b) ≡ true → ToldOfDelete from to selector told.nothing
   by true b e f h = inl (grind (arith, nat_tests, e))
   by false true e f h = inr (inl (grind (arith, nat_tests, f)))
   by false false e f h = cc
 
-pub range_words : (from to : ℕ) → (nat_lt to from || nat_lt maxt to) ≡ true → undeleted_words from to told.nothing ≡ codes "bad" ∷ codes "range" ∷ []
+pub range_words : (from to : ℕ) → (nat_lt to from || nat_lt greatest_time to) ≡ true → undeleted_words from to told.nothing ≡ codes "bad" ∷ codes "range" ∷ []
 range_words from to h = rw h refl
 
-pub selector_words : (from to : ℕ) → (nat_lt to from || nat_lt maxt to) ≡ false → undeleted_words from to told.nothing ≡ codes "bad" ∷ codes "selector" ∷ []
+pub selector_words : (from to : ℕ) → (nat_lt to from || nat_lt greatest_time to) ≡ false → undeleted_words from to told.nothing ≡ codes "bad" ∷ codes "selector" ∷ []
 selector_words from to h = rw h refl
 
 pub selects_found : (kept : Queries) (text : List ℕ) (read : TextRead) (matchers : Arc Matchers Global) (ms : List Matcher) → AreReadAs kept → get_by_text kept text ≡ Some read
@@ -142,10 +143,10 @@ has_step start end step g h =
     let last : Result GridData GridError = grid_result (record { start = (start / step) * step; step = step; len = end / step - start / step + 1 }) in
     let third : Result GridData GridError = cond (nat_lt 11000 (end / step - start / step)) (Err TooManySteps) last in
     let second : Result GridData GridError = cond (nat_lt end start) (Err EndBeforeStart) third in
-    let first : Result GridData GridError = cond (nat_lt maxt start || nat_lt maxt end || nat_lt maxt step) (Err TimeTooLarge) second in
+    let first : Result GridData GridError = cond (nat_lt greatest_time start || nat_lt greatest_time end || nat_lt greatest_time step) (Err TimeTooLarge) second in
     let made : last ≡ Ok g =
     if_ok (nat_lt 11000 (end / step - start / step)) TooManySteps last g
     (if_ok (nat_lt end start) EndBeforeStart third g
-    (if_ok (nat_lt maxt start || nat_lt maxt end || nat_lt maxt step) TimeTooLarge second g (if_ok (nat_eq step 0) ZeroStep first g h))) in
+    (if_ok (nat_lt greatest_time start || nat_lt greatest_time end || nat_lt greatest_time step) TimeTooLarge second g (if_ok (nat_eq step 0) ZeroStep first g h))) in
     let same : record { start = (start / step) * step; step = step; len = end / step - start / step + 1 } ≡ g = cc in
     subst (λ (x : GridData). 0 < x.step) same (unless_zero step ZeroStep first g h)

@@ -4,6 +4,7 @@ ghost use Rattle.std.specs.Arc.{arc_value};
 ghost use Rattle.std.specs.BTreeMap.{get};
 ghost use Rattle.std.specs.Ordering.{nat_cmp};
 ghost use Rattle.std.specs.Prelude.{◌≡◌, ◌≤◌, ◌++◌, ◌∷◌, [], ℕ, codes, decimal, slice_get, IfOk, IfSome, IsSome, List, None, Ok, OnOk, Some, cond, length, nat_eq, nat_lt, ◌||◌, true};
+ghost use Rattle.pf_base.specs.Limits.{greatest_time};
 ghost use Rattle.pf_block.specs.Snaps.{are_timed};
 ghost use Rattle.pf_core.specs.Cores.{Stands, machine_of};
 ghost use Rattle.pf_front.specs.Works.{WorksOn};
@@ -14,7 +15,6 @@ ghost use Rattle.pf_journal.specs.Rest.{Known};
 ghost use Rattle.pf_journal.specs.Scripts as script;
 ghost use Rattle.pf_journal.specs.Scripts.{most_bytes};
 ghost use Rattle.pf_journal.specs.Turns.{Hand, Ran};
-ghost use Rattle.pf_base.specs.Grids.{maxt};
 ghost use Rattle.pf_model.specs.Queries.{IsSelector};
 ghost use Rattle.pf_script.specs.Lines.{numbered_of};
 ghost use Rattle.pf_client.specs.Asks.{AskRuns, AsksAs, IsAskAt, SlotRight, wanted_by};
@@ -81,7 +81,7 @@ pub enum FileRead {
 /// Reads what a file holds. Samples without a time have this one.
 #[tactic(auto, using(crate::proofs::FileReads::gives_timed, crate::proofs::FileReads::gives_held, crate::proofs::FileReads::stops_held))]
 fn read_batch(alloc: Global, bytes: &[u8], time: u64) -> Result<FileRead, OutOfMemory>
-    requires within { time ≤ 4398046511103 }
+    requires within { time ≤ greatest_time }
     requires short { length bytes.now ≤ most_bytes }
     ensures read { IfOk result (IsFileRead bytes.now time) }
     ensures timed { IfOk result IsTimed }
@@ -99,7 +99,7 @@ fn read_batch(alloc: Global, bytes: &[u8], time: u64) -> Result<FileRead, OutOfM
 
 /// Reads what is kept of a file.
 pub fn read_content(alloc: Global, content: &Content, time: u64) -> Result<FileRead, OutOfMemory>
-    requires within { time ≤ 4398046511103 }
+    requires within { time ≤ greatest_time }
     requires short { IsShort content.now }
     ensures read { IfOk result (λ r. (held : List ℕ) → HoldsContent held content.now → IsFileRead held time r) }
     ensures timed { IfOk result IsTimed }
@@ -119,7 +119,7 @@ fn read_for(
     time: u64,
 ) -> Result<FileRead, OutOfMemory>
     requires kept { IsKept files.old name.now }
-    requires within { time ≤ 4398046511103 }
+    requires within { time ≤ greatest_time }
     ensures read { IfOk result (λ r. (held : List ℕ → List ℕ) → AreHeld held files.old → IsFileRead (held name.now) time r) }
     ensures timed { IfOk result IsTimed }
     ensures left { LetsGo files.old name.now number files.new }
@@ -151,7 +151,7 @@ fn shared(alloc: Global, batch: Batch) -> Option<Arc<Batch>>
 
 /// Whether no sample has a time from one to the other.
 fn is_no_range(from: u64, to: u64) -> bool
-    ensures { result ≡ (nat_lt to from || nat_lt maxt to) }
+    ensures { result ≡ (nat_lt to from || nat_lt greatest_time to) }
 {
     to < from || MAXT < to
 }
@@ -239,7 +239,7 @@ impl Client {
         time: u64,
     ) -> Result<LineRun, OutOfMemory>
         requires kept { IsKept files.old file.now }
-        requires within { time ≤ 4398046511103 }
+        requires within { time ≤ greatest_time }
         ensures runs { IfOk result (λ r. (known : Known) → AreHeld known.files files.old → Runs known self.old (record { number = number; line = script.ingest tenant.now file.now time }) r self.new) }
         ensures grows { OnOk result (Grows self.old.core self.new.core) }
         ensures slots { OnOk result (self.new.slots ≡ self.old.slots) }
@@ -288,7 +288,7 @@ impl Client {
         matchers: Arc<Matchers>,
     ) -> Result<LineRun, OutOfMemory>
         requires range { from ≤ to }
-        requires within { to ≤ 4398046511103 }
+        requires within { to ≤ greatest_time }
         ensures runs { IfOk result (λ r. (known : Known) (selector : List ℕ) → IsSelector selector (arc_value matchers) → Runs known self.old (record { number = number; line = script.delete tenant.now from to selector }) r self.new) }
         ensures grows { OnOk result (Grows self.old.core self.new.core) }
         ensures slots { OnOk result (self.new.slots ≡ self.old.slots) }

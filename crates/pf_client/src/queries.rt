@@ -2,6 +2,7 @@
 
 ghost use Rattle.std.specs.Prelude.{◌≡◌, ◌≢◌, ◌≤◌, ℕ, true, IfOk, List, MatchOption, None, OnOk, Some, false, is_some};
 ghost use Rattle.std.specs.BTreeMap.{get_by_text};
+ghost use Rattle.pf_model.specs.Parsing.{most_bytes};
 ghost use Rattle.pf_model.specs.Built.{is_evaluated};
 ghost use Rattle.pf_model.specs.Lists.{Each};
 ghost use Rattle.pf_model.specs.Queries.{IsQuery, first_empty, is_plain, is_unmodified};
@@ -116,7 +117,7 @@ fn read_bound(alloc: Global, query: BoundQuery) -> Result<QueryRead, OutOfMemory
 #[tactic(auto, using(crate::proofs::TextReads::bound_right, crate::proofs::TextReads::refused_pattern_right, crate::proofs::TextReads::empty_selector_right))]
 fn read_lawful(alloc: Global, expr: Expr) -> Result<QueryRead, OutOfMemory>
     requires written { HasText (tree_of expr) }
-    requires small { size (tree_of expr) ≤ 65536 }
+    requires small { size (tree_of expr) ≤ most_bytes }
     requires low { height (tree_of expr) ≤ 64 }
     requires evaluated { is_evaluated (tree_of expr) ≡ true }
     ensures { IfOk result (λ q. (text : List ℕ) → IsQuery text (tree_of expr) → IsQueryRead text q) }
@@ -135,7 +136,7 @@ fn read_lawful(alloc: Global, expr: Expr) -> Result<QueryRead, OutOfMemory>
 #[tactic(auto, using(crate::proofs::TextReads::lawful_read))]
 fn read_tree(alloc: Global, expr: Expr) -> Result<TextRead, OutOfMemory>
     requires written { HasText (tree_of expr) }
-    requires small { size (tree_of expr) ≤ 65536 }
+    requires small { size (tree_of expr) ≤ most_bytes }
     requires low { height (tree_of expr) ≤ 64 }
     requires evaluated { is_evaluated (tree_of expr) ≡ true }
     ensures { IfOk result (λ r. (text : List ℕ) → IsQuery text (tree_of expr) → IsReadAs text r) }

@@ -1,6 +1,7 @@
 -- What the calls on jobs answer and leave: this project's own.
 use Rattle.std.specs.Arc.{arc_value}
 use Rattle.std.specs.Prelude.{◌≡◌, ◌⊎◌, ℕ, ◌+◌, ◌-◌, ◌*◌, ◌/◌, ◌<◌, ◌≤◌, Bool, true, false, ◌&&◌, cond, pos, Option, Some, None, List, [], ◌∷◌, ◌++◌, length, slice_index_or, take}
+use Rattle.pf_base.specs.Limits.{most_steps}
 use Rattle.pf_base.specs.declared.plain.JobHead.{JobHead}
 use Rattle.pf_block.specs.Snaps.{SnapData}
 use Rattle.pf_base.specs.GridLists.{GridData}
@@ -294,7 +295,7 @@ pub record IsKeepable (c : CoreData) (query : ℕ) (cells : List DoneCells) : Ty
   pub opened : Open
   pub is_open : open_at query (machine_of c).queries ≡ Some opened
   pub ranged : opened.asked.instant ≡ false
-  pub few : steps_in cells ≤ 11001
+  pub few : steps_in cells ≤ most_steps + 1
   pub each : Each (AreCellsOf c.limits opened) cells
 
 -- how often a tenant's samples were deleted

@@ -3,6 +3,7 @@
 use Rattle.std.specs.Arc.{arc_value}
 use Rattle.std.specs.Prelude.{◌≡◌, ℕ, ◌+◌, ◌*◌, ◌<◌, ◌≤◌, ◌⊎◌, true, not, cond, Option, Some, None, List, [], ◌∷◌, ◌++◌, filter, length, slice_get, slice_index_or, sum}
 use Rattle.pf_base.specs.Batches.{BatchData}
+use Rattle.pf_base.specs.Limits.{most_entries}
 use Rattle.pf_base.specs.declared.plain.By.{By}
 use Rattle.pf_base.specs.declared.plain.JobHead.{JobHead}
 use Rattle.pf_base.specs.declared.plain.Limits.{Limits}
@@ -80,10 +81,6 @@ tries_left c = tries_in c.queues
 -- the machine behind the journal
 abbrev pub machine_of : CoreData → Machine
 machine_of c = machine_after started c.journal
-
--- the greatest length of a journal
-abbrev pub most_entries : ℕ
-most_entries = 4000000
 
 -- the limits that a core has
 pub record AreLimits (l : Limits) : Type 0 where

@@ -3,6 +3,7 @@ use Rattle.std.specs.Arc.{arc_value}
 use Rattle.std.specs.Prelude.{◌≡◌, ◌≤◌, ℕ, ◌+◌, ◌*◌, Bool, true, false, cond, Option, Some, None, List, [], ◌∷◌, ◌++◌, length, nat_eq}
 use Rattle.pf_base.specs.GridLists.{GridData, IsGrid}
 use Rattle.pf_base.specs.Grids.{points}
+use Rattle.pf_base.specs.Limits.{most_steps}
 use Rattle.pf_base.specs.declared.plain.Limits.{Limits}
 use Rattle.pf_extent.specs.Done.{AreWhole, steps_in}
 use Rattle.pf_extent.specs.declared.extent.Asker.{Asker}
@@ -76,8 +77,8 @@ pub record IsDivisionFor (l : Limits) (kept : KeptData) (o : Open) (found : Foun
   pub cached : steps_in found.cached.items ≡ length (cached_steps l kept o)
   pub runs : found.runs.items ≡ wanted_runs l kept o
   pub few_cached : steps_in found.cached.items ≤ length (points o.asked.query.grid)
-  pub few_runs : length found.runs.items ≤ 11001
-  pub most : length (points o.asked.query.grid) ≤ 11001
+  pub few_runs : length found.runs.items ≤ most_steps + 1
+  pub most : length (points o.asked.query.grid) ≤ most_steps + 1
   pub instant_is : instant ≡ o.asked.instant
 
 -- what is kept once these keys are used

@@ -2,6 +2,7 @@
 
 ghost use Rattle.std.specs.Arc.{arc_value};
 ghost use Rattle.std.specs.Prelude.{◌≡◌, ℕ, ◌≤◌, false, IfOk, IsSome, MatchOption, OnErr, OnOk, Some, take};
+ghost use Rattle.pf_base.specs.Limits.{most_steps};
 ghost use Rattle.pf_extent.specs.Done.{steps_in};
 ghost use Rattle.pf_journal.specs.Machine.{Open, open_at};
 ghost use Rattle.pf_model.specs.Lists.{Each};
@@ -33,7 +34,7 @@ fn keep_of(
     requires ranged { (arc_value query.now.asked).instant ≡ false }
     requires cut { 1 ≤ interval }
     requires each { Each (IsDoneAt (arc_value query.now.asked).query.grid.step) cells.now }
-    requires few { steps_in cells.now ≤ 11001 }
+    requires few { steps_in cells.now ≤ most_steps + 1 }
     ensures ok { OnOk result (results.new ≡ kept_over (key_by query.now) (arc_value query.now.asked).query.tree (asker_by query.now.pin) interval cells.now results.old) }
     ensures count { IfOk result (λ n. n ≡ fixed_over (arc_value query.now.asked).query.tree (asker_by query.now.pin) cells.now) }
     ensures err { OnErr result ((count : ℕ) × (results.new ≡ kept_over (key_by query.now) (arc_value query.now.asked).query.tree (asker_by query.now.pin) interval (take count cells.now) results.old)) }

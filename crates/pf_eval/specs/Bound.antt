@@ -4,6 +4,7 @@ use Rattle.std.specs.Prelude.{◌≡◌, ◌<◌, ◌≤◌, ◌+◌, ◌*◌, �
 use Rattle.std.specs.List.{list_any}
 use Rattle.std.specs.Str.{bytes_eq}
 use Rattle.pf_base.specs.LabelSets.{Pairs}
+use Rattle.pf_base.specs.Limits.{greatest_time}
 use Rattle.pf_model.specs.Binding.{accepted_ids, patterns_in}
 use Rattle.pf_model.specs.Trees as tree
 use Rattle.pf_model.specs.Trees.{Tree, Trees, all_preorder, height, heights, preorder}
@@ -51,7 +52,7 @@ HasLevels levels t = unsigned_abs t + 8796093022208 * levels ≤ 112589990684262
 
 -- such times, a first one, and the greatest that `@` fixes
 pub record HasRoom (levels : ℕ) (times : Times) : Type 0 where
-  pub fixed : HasLevels levels (pos 4398046511103)
+  pub fixed : HasLevels levels (pos greatest_time)
   pub start : HasLevels levels times.start
   pub all : (k : ℕ) → k < times.len → HasLevels levels (time_at times k)
 

@@ -2,6 +2,7 @@
 
 ghost use Rattle.std.specs.Prelude.{◌≡◌, ◌<◌, ◌≤◌, ◌∷◌, ◌-ℤ◌, ℕ, ℤ, pos, true, false, List, [], Some, length, map, IfOk, MatchOption};
 ghost use Rattle.std.specs.List.{All, list_all};
+ghost use Rattle.pf_base.specs.Limits.{greatest_time};
 ghost use Rattle.pf_base.specs.declared.plain.Row.{Row};
 ghost use Rattle.pf_base.specs.LabelSets.{is_label_name};
 ghost use Rattle.pf_model.specs.declared.expr.Matcher.{Matcher};
@@ -41,7 +42,7 @@ fn fixed_by(at: Option<At>) -> Option<u64>
 #[tactic(auto, using(crate::proofs::ReadTimes::offset_within))]
 fn fixed_times<'a>(mods: Mods, millis: u64, len: u32) -> Times<'a>
     requires near { are_near mods ≡ true }
-    requires time { millis ≤ 4398046511103 }
+    requires time { millis ≤ greatest_time }
     ensures start { result.start ≡ pos millis -ℤ mods.offset }
     ensures step { result.step ≡ pos 0 }
     ensures len { result.len ≡ len }

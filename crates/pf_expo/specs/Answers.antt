@@ -1,6 +1,7 @@
 -- What the reader of a file answers: this project's own.
 use Rattle.std.specs.Prelude.{◌≡◌, ℕ, ◌+◌, ◌≤◌, Result, Ok, Err, List, [], ◌∷◌, ◌++◌, length}
 use Rattle.pf_base.specs.Batches.{BatchData}
+use Rattle.pf_base.specs.Limits.{most_samples}
 use Rattle.pf_model.specs.Exposition.{Given, Gives, IsAtFault, LineGives, Stops, rows_of, skipped_of, bad_line, late_line, too_many, file_lines}
 use Rattle.pf_expo.specs.declared.exposition.Taken.{Taken}
 use Rattle.pf_expo.specs.declared.fault.ExpoError.{ExpoError}
@@ -20,7 +21,7 @@ pub record Added (default : ℕ) (text : List ℕ) (before after : BatchData) : 
   pub gives : LineGives default text (Ok given)
   pub rows : after.rows ≡ before.rows ++ rows_of (given ∷ [])
   pub skipped : after.skipped ≡ before.skipped + skipped_of (given ∷ [])
-  pub few : length after.rows ≤ 2000000
+  pub few : length after.rows ≤ most_samples
 
 abbrev pub Adds : ℕ → List ℕ → ℕ → BatchData → BatchData → Result (Unit {0}) ExpoError → Type 0
 Adds default text line before after (Ok _) = Added default text before after

@@ -1,9 +1,10 @@
 -- What the readers of lines promise: this project's own.
 use Rattle.std.specs.Prelude.{◌≡◌, ℕ, ◌+◌, min, Option, Some, None, Result, Ok, Err, List}
 use Rattle.pf_base.specs.LabelSets.{Pairs}
+use Rattle.pf_base.specs.Limits.{greatest_time}
 use Rattle.pf_base.specs.declared.number.Read.{Read}
 use Rattle.pf_base.specs.declared.number.Read.TheVariants.{Number, NotANumber}
-use Rattle.pf_model.specs.Exposition.{Given, IsSample, LineGives, bad, late, greatest_time, nothing, no_number, sample}
+use Rattle.pf_model.specs.Exposition.{Given, IsSample, LineGives, bad, late, nothing, no_number, sample}
 use Rattle.pf_expo.specs.declared.line.LineRead.{LineRead}
 use Rattle.pf_expo.specs.declared.line.LineRead.TheVariants as line
 use Rattle.pf_expo.specs.declared.fault.ReadFault.{ReadFault}

@@ -1,6 +1,7 @@
 //! Whole files.
 
 ghost use Rattle.std.specs.Prelude.{◌<◌, ◌≤◌, length, OnOk};
+ghost use Rattle.pf_base.specs.Limits.{greatest_time, most_samples};
 ghost use Rattle.pf_expo.specs.Answers.{Adds, Answers, taken_of};
 ghost use Rattle.pf_expo.specs.Series.{AreRead};
 
@@ -30,9 +31,9 @@ fn add_line<'a>(
     line: u32,
     default_time: u64,
 ) -> Result<(), ExpoError>
-    requires time { default_time ≤ 4398046511103 }
+    requires time { default_time ≤ greatest_time }
     requires room { taken.old.skipped < 18446744073709551615 }
-    requires few { length taken.old.rows.items ≤ 2000000 }
+    requires few { length taken.old.rows.items ≤ most_samples }
     requires read { AreRead taken.old.known.labels }
     ensures adds { Adds default_time text.now line (taken_of taken.old) (taken_of taken.new) result }
     ensures read { OnOk result (AreRead taken.new.known.labels) }
@@ -58,7 +59,7 @@ fn add_line<'a>(
 /// The rows of a file in the order of its lines, and the number of its lines whose value is no number. A line without a
 /// timestamp has the default time. Times are in milliseconds.
 pub fn read_exposition(alloc: Global, bytes: &[u8], default_time: u64) -> Result<Batch, ExpoError>
-    requires { default_time ≤ 4398046511103 }
+    requires { default_time ≤ greatest_time }
     ensures { Answers default_time bytes.now result }
 {
     let mut taken = Taken {

@@ -3,6 +3,7 @@
 ghost use Rattle.std.specs.Prelude.{◌≡◌, ◌≤◌, true, Err, IfOk, IfSome, OnOk};
 ghost use Rattle.std.specs.Char.{is_ascii_digit};
 ghost use Rattle.std.specs.List.{list_all};
+ghost use Rattle.pf_base.specs.Limits.{greatest_time};
 ghost use Rattle.pf_base.specs.NumberTexts.{number_after};
 ghost use Rattle.pf_model.specs.Exposition.{is_blank};
 ghost use Rattle.pf_expo.specs.Readings.{IsCapped, IsNoSample, LineAnswers, Reads, given_of, seen};
@@ -116,7 +117,7 @@ fn known_sample<'a>(
     line: &'a [u8],
     default_time: u64,
 ) -> Result<Option<Timed>, OutOfMemory>
-    requires time { default_time ≤ 4398046511103 }
+    requires time { default_time ≤ greatest_time }
     requires read { AreRead known.old.labels }
     ensures found { IfOk result (λ o. IfSome o (λ s. IsCapped default_time line.now s.labels s.read s.time)) }
     ensures read { OnOk result (AreRead known.new.labels) }
@@ -133,7 +134,7 @@ fn known_sample<'a>(
 
 /// A sample line, read from its first byte on.
 fn sample_of(alloc: Global, line: &[u8], default_time: u64) -> Result<Timed, ReadFault>
-    requires { default_time ≤ 4398046511103 }
+    requires { default_time ≤ greatest_time }
     ensures found { IfOk result (λ s. IsCapped default_time line.now s.labels s.read s.time) }
     ensures none { result ≡ Err Bad → IsNoSample default_time line.now }
     ensures time { result ≡ Err Late → ⊥ }
@@ -156,7 +157,7 @@ fn any_sample<'a>(
     line: &'a [u8],
     default_time: u64,
 ) -> Result<Timed, ReadFault>
-    requires time { default_time ≤ 4398046511103 }
+    requires time { default_time ≤ greatest_time }
     requires read { AreRead known.old.labels }
     ensures found { IfOk result (λ s. IsCapped default_time line.now s.labels s.read s.time) }
     ensures none { result ≡ Err Bad → IsNoSample default_time line.now }
@@ -191,7 +192,7 @@ pub fn read_line<'a>(
     line: &'a [u8],
     default_time: u64,
 ) -> Result<LineRead, ReadFault>
-    requires time { default_time ≤ 4398046511103 }
+    requires time { default_time ≤ greatest_time }
     requires read { AreRead known.old.labels }
     ensures gives { LineAnswers default_time line.now result }
     ensures read { OnOk result (AreRead known.new.labels) }

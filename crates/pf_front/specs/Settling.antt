@@ -4,6 +4,7 @@ use Rattle.std.specs.List.{slice_get}
 use Rattle.std.specs.Prelude.{◌≡◌, ◌⊎◌, ℕ, ◌+◌, ◌*◌, ◌/◌, ◌%◌, ◌≤◌, Bool, true, false, cond, nat_lt, Option, None, Some, List, length}
 use Rattle.pf_base.specs.GridLists.{GridData}
 use Rattle.pf_base.specs.Grids.{points}
+use Rattle.pf_base.specs.Limits.{most_steps}
 use Rattle.pf_base.specs.declared.plain.Limits.{Limits}
 use Rattle.pf_base.specs.declared.plain.Row.{Row}
 use Rattle.pf_block.specs.Snaps.{SnapData}
@@ -126,7 +127,7 @@ AreCellsOver l o cells = AreCellsAt (store_of l.window o.log).samples o.asked.qu
 -- cells may be kept of it: those of each of its pieces in which one of some runs lies
 pub record AreNoted (l : Limits) (o : Open) (runs : List GridData) (cells : List DoneCells) : Type 0 where
   pub pieces : AreNotedOf (pieces_in l o) runs cells
-  pub few : steps_in cells ≤ 11001
+  pub few : steps_in cells ≤ most_steps + 1
   pub each : Each (AreCellsOf l o) cells
 
 abbrev pub IsFoundOf : Limits → Open → List GridData → Found → Type 0
@@ -152,7 +153,7 @@ pub record AreOfferable (c : CoreData) (query : ℕ) (cells : List DoneCells) : 
   pub is_open : open_at query (machine_of c).queries ≡ Some opened
   pub far : QueryProgress
   pub is_far : progress_at query c.progress ≡ Some far
-  pub few : steps_in cells ≤ 11001
+  pub few : steps_in cells ≤ most_steps + 1
   pub each : Each (AreCellsOf c.limits opened) cells
   pub cover : covers far.runs cells ≡ true
 

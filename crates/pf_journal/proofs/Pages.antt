@@ -6,9 +6,10 @@ use Rattle.std.specs.Str.{all_ascii_digits}
 use Rattle.pf_base.specs.Arithmetic.{clamp}
 use Rattle.pf_base.specs.LabelBuild.{build_of}
 use Rattle.pf_base.specs.LabelSets.{Pairs}
+use Rattle.pf_base.specs.Limits.{greatest_time}
 use Rattle.pf_base.specs.NumberTexts.{Decimal, Reads, bare as no_sign, decimal_micros, number_after}
 use Rattle.pf_base.specs.declared.number.Read.TheVariants.{Number}
-use Rattle.pf_model.specs.Exposition.{IsMiddle, LineGives, Middle, are_digits, bare, full, greatest_time, is_metric_name, is_word, labelled, middle_pairs, middle_text, name_label, sample}
+use Rattle.pf_model.specs.Exposition.{IsMiddle, LineGives, Middle, are_digits, bare, full, is_metric_name, is_word, labelled, middle_pairs, middle_text, name_label, sample}
 use Rattle.pf_journal.proofs.CacheSessions.{a_batch, a_page, b_batch, b_page, c_batch, c_page, d_batch, d_page, newest_batch, newest_page, older_batch, older_page, x_batch, x_page}
 use Rattle.pf_journal.specs.Files.{Gives}
 use Rattle.pf_journal.proofs.Examples.{named, row, up_a, up_batch, up_page}

@@ -1,7 +1,7 @@
 -- Lines with an entry: the entry is of its line's kind and carries the line's arguments. This project's own.
 use Rattle.std.specs.Prelude.{◌≡◌, ℕ, ◌≤◌, Option, Some, None, Result, Ok, List, slice_get}
 use Rattle.pf_base.specs.Batches.{BatchData}
-use Rattle.pf_base.specs.Grids.{maxt}
+use Rattle.pf_base.specs.Limits.{greatest_time}
 use Rattle.pf_model.specs.declared.expr.Matcher.{Matcher}
 use Rattle.pf_model.specs.Queries.{IsSelector}
 use Rattle.pf_journal.specs.Asking.{Asked, ranged, at_once}
@@ -25,7 +25,7 @@ IsNamed names tenant (answer query code cached evaluated) = ⊥
 
 -- no time past the greatest, and no end before the start
 abbrev pub IsRange : ℕ → ℕ → Type 0
-IsRange from to = (from ≤ to) × (to ≤ maxt)
+IsRange from to = (from ≤ to) × (to ≤ greatest_time)
 
 -- what is asked for is not refused
 abbrev pub IsAsked : Option (Result Asked (List ℕ)) → Type 0

@@ -2,7 +2,7 @@
 use Rattle.std.specs.Prelude.{ℕ, ◌+◌, ◌||◌, Option, Some, None, Result, Err, List, [], ◌∷◌, ◌++◌, codes, cond, nat_eq, nat_lt}
 use Rattle.std.specs.Fmt.{decimal}
 use Rattle.std.specs.Str.{bytes_eq}
-use Rattle.pf_base.specs.Grids.{maxt}
+use Rattle.pf_base.specs.Limits.{greatest_time}
 use Rattle.pf_base.specs.NumberTexts.{value_text}
 use Rattle.pf_base.specs.declared.plain.Limits.{Limits}
 use Rattle.pf_model.specs.Exposition.{bad_line, late_line, too_many}
@@ -101,7 +101,7 @@ abbrev pub undeleted_words : ℕ → ℕ → Told → List (List ℕ)
 undeleted_words from to journal_full = journal_words
 undeleted_words from to no_memory = memory_words
 undeleted_words from to _ =
-    cond (nat_lt to from || nat_lt maxt to) (codes "bad" ∷ codes "range" ∷ []) (codes "bad" ∷ codes "selector" ∷ [])
+    cond (nat_lt to from || nat_lt greatest_time to) (codes "bad" ∷ codes "range" ∷ []) (codes "bad" ∷ codes "selector" ∷ [])
 
 abbrev pub delete_reply : ℕ → List ℕ → ℕ → ℕ → Told → Option What → List ℕ
 delete_reply n tenant from to told None = reply_line n (codes "delete") tenant (undeleted_words from to told)

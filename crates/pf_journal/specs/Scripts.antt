@@ -4,11 +4,11 @@ use Rattle.std.specs.Prelude.{ℕ, ◌+◌, ◌-◌, ◌*◌, Bool, true, false,
 use Rattle.std.specs.List.{list_all}
 use Rattle.std.specs.Char.{is_ascii_digit}
 use Rattle.std.specs.Str.{bytes_eq, is_utf8}
-use Rattle.pf_base.specs.Grids.{maxt}
 use Rattle.pf_base.specs.LabelSets.{is_empty, goes_on}
+use Rattle.pf_base.specs.Limits.{greatest_time}
 use Rattle.pf_base.specs.Tenants.{is_tenant}
 use Rattle.pf_model.specs.Exposition.{file_lines, is_blank, are_blanks, is_word}
-use Rattle.pf_model.specs.Cuts.{◌>>=◌, kept, Cut}
+use Rattle.pf_model.specs.Cuts.{Cut, only_if, ◌>>=◌}
 
 -- ---- lines
 
@@ -53,18 +53,18 @@ past_blanks (b ∷ bs) = cond (is_blank b) (past_blanks bs) (b ∷ bs)
 -- a word with a blank or more behind it, and what stands behind the blanks
 abbrev pub next_word : List ℕ → Option Cut
 next_word bytes =
-    kept (not (is_empty (word_cut bytes).front) && not (is_empty (word_cut bytes).behind))
+    only_if (not (is_empty (word_cut bytes).front) && not (is_empty (word_cut bytes).behind))
     (record { front = (word_cut bytes).front; behind = past_blanks (word_cut bytes).behind })
 
 -- what stands behind a word of its own
 unfoldable pub behind_word : List ℕ → List ℕ → Option (List ℕ)
 behind_word word bytes = do
   c ← next_word bytes
-  kept (bytes_eq c.front word) c.behind
+  only_if (bytes_eq c.front word) c.behind
 
 -- one word and nothing else
 abbrev pub only_word : List ℕ → Option (List ℕ)
-only_word bytes = kept (is_word bytes) bytes
+only_word bytes = only_if (is_word bytes) bytes
 
 -- bytes without the blanks at their end
 abbrev pub without_blanks : List ℕ → List ℕ
@@ -73,7 +73,7 @@ without_blanks (b ∷ bs) = cond (are_blanks (b ∷ bs)) [] (b ∷ without_blank
 
 -- what stands there without the blanks at its end, and not empty
 unfoldable pub text_of : List ℕ → Option (List ℕ)
-text_of bytes = kept (not (is_empty (without_blanks bytes))) (without_blanks bytes)
+text_of bytes = only_if (not (is_empty (without_blanks bytes))) (without_blanks bytes)
 
 -- ---- numbers and names
 
@@ -84,7 +84,7 @@ digits_onto n (d ∷ ds) = digits_onto (n * 10 + (d - 48)) ds
 -- the number of one digit or more, below 2^63
 unfoldable pub number_of : List ℕ → Option ℕ
 number_of ds =
-    kept (not (is_empty ds) && list_all is_ascii_digit ds && nat_lt (digits_onto 0 ds) 9223372036854775808) (digits_onto 0 ds)
+    only_if (not (is_empty ds) && list_all is_ascii_digit ds && nat_lt (digits_onto 0 ds) 9223372036854775808) (digits_onto 0 ds)
 
 -- an ID: 1 to 32 letters, digits or `_`
 abbrev pub is_id : List ℕ → Bool
@@ -139,23 +139,23 @@ issued_after n (done worker) is = is
 unfoldable pub file_at : List ℕ → Option Cut
 file_at bytes = do
   file ← next_word bytes
-  kept (is_utf8 file.front) file
+  only_if (is_utf8 file.front) file
 
 unfoldable pub ingest_at : List ℕ → List ℕ → Option Line
 ingest_at tenant bytes = do
   file ← file_at bytes
   word ← behind_word (codes "at") file.behind
   time ← number_of word
-  kept (nat_le time maxt) (ingest tenant file.front time)
+  only_if (nat_le time greatest_time) (ingest tenant file.front time)
 
 abbrev pub ingest_with : List ℕ → List ℕ → Option (List ℕ) → Option Line
-ingest_with tenant bytes (Some file) = kept (is_utf8 file) (ingest tenant file 0)
+ingest_with tenant bytes (Some file) = only_if (is_utf8 file) (ingest tenant file 0)
 ingest_with tenant bytes None = ingest_at tenant bytes
 
 unfoldable pub ingest_of : List ℕ → Option Line
 ingest_of words = do
   tenant ← next_word words
-  named ← kept (is_tenant tenant.front) tenant.behind
+  named ← only_if (is_tenant tenant.front) tenant.behind
   ingest_with tenant.front named (only_word named)
 
 -- `delete TENANT FROM TO SELECTOR`
@@ -167,7 +167,7 @@ delete_of words = do
   first ← number_of from.front
   last ← number_of to.front
   selector ← text_of to.behind
-  kept (is_tenant tenant.front) (delete tenant.front first last selector)
+  only_if (is_tenant tenant.front) (delete tenant.front first last selector)
 
 -- `ask ID TENANT START END STEP QUERY`, with an ID that is new
 unfoldable pub ask_of : List Issued → List ℕ → Option Line
@@ -181,7 +181,7 @@ ask_of is words = do
   end ← number_of last.front
   step ← number_of by.front
   query ← text_of by.behind
-  kept (is_id id.front && is_new id.front is && is_tenant tenant.front)
+  only_if (is_id id.front && is_new id.front is && is_tenant tenant.front)
       (ask id.front tenant.front start end step query)
 
 -- `instant ID TENANT TIME QUERY`, with an ID that is new
@@ -192,7 +192,7 @@ instant_of is words = do
   at ← next_word tenant.behind
   time ← number_of at.front
   query ← text_of at.behind
-  kept (is_id id.front && is_new id.front is && is_tenant tenant.front) (instant id.front tenant.front time query)
+  only_if (is_id id.front && is_new id.front is && is_tenant tenant.front) (instant id.front tenant.front time query)
 
 -- `cancel ID TENANT`, with an ID that was asked
 unfoldable pub cancel_of : List Issued → List ℕ → Option Line
@@ -200,14 +200,14 @@ cancel_of is words = do
   id ← next_word words
   tenant ← only_word id.behind
   i ← issued_as id.front is
-  kept (is_tenant tenant) (cancel i.id i.line tenant)
+  only_if (is_tenant tenant) (cancel i.id i.line tenant)
 
 -- one ID that was asked and not answered, as of `answer ID`
 unfoldable pub unanswered_of : List Issued → List ℕ → Option Issued
 unanswered_of is words = do
   id ← only_word words
   i ← issued_as id is
-  kept (not i.answered) i
+  only_if (not i.answered) i
 
 unfoldable pub answer_of : List Issued → List ℕ → Option Line
 answer_of is words = do
@@ -224,14 +224,14 @@ plan_of is words = do
 unfoldable pub keep_of : List Issued → List ℕ → Option Line
 keep_of is words = do
   i ← unanswered_of is words
-  kept (not i.kept) (keep i.id i.line)
+  only_if (not i.kept) (keep i.id i.line)
 
 -- `take W` and `done W`, W being 0 to 15
 unfoldable pub worker_of : List ℕ → Option ℕ
 worker_of words = do
   word ← only_word words
   worker ← number_of word
-  kept (nat_le worker 15) worker
+  only_if (nat_le worker 15) worker
 
 unfoldable pub take_of : List ℕ → Option Line
 take_of words = do
@@ -262,7 +262,7 @@ line_with steps is verb words =
 
 unfoldable pub line_of : (steps : Bool) → List Issued → List ℕ → Option Line
 line_of steps is bytes = do
-  text ← kept (is_utf8 bytes) bytes
+  text ← only_if (is_utf8 bytes) bytes
   verb ← next_word text
   line_with steps is verb.front verb.behind
 

@@ -1,7 +1,7 @@
 -- Lines without an entry: what was told of them has its cause in the line and the turns before it. This project's own.
 use Rattle.std.specs.Prelude.{◌≡◌, ℕ, ◌<◌, ◌⊎◌, true, false, Option, Some, None, Result, Err, List}
 use Rattle.pf_base.specs.Batches.{BatchData}
-use Rattle.pf_base.specs.Grids.{maxt}
+use Rattle.pf_base.specs.Limits.{greatest_time}
 use Rattle.pf_model.specs.declared.expr.Matcher.{Matcher}
 use Rattle.pf_model.specs.Queries.{IsNoSelector, IsSelector}
 use Rattle.pf_journal.specs.Asking.{Asked, ranged, at_once}
@@ -24,7 +24,7 @@ ToldOfIngest bytes time _ = ⊥
 
 -- the range or the selector is refused; or neither is, and the journal is full
 abbrev pub ToldOfDelete : ℕ → ℕ → (selector : List ℕ) → Told → Type 0
-ToldOfDelete from to selector nothing = (to < from) ⊎ ((maxt < to) ⊎ IsNoSelector selector)
+ToldOfDelete from to selector nothing = (to < from) ⊎ ((greatest_time < to) ⊎ IsNoSelector selector)
 ToldOfDelete from to selector journal_full = IsRange from to × ((ms : List Matcher) × IsSelector selector ms)
 ToldOfDelete from to selector no_memory = Unit {0}
 ToldOfDelete from to selector _ = ⊥

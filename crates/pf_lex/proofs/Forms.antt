@@ -11,8 +11,9 @@ use Rattle.pf_base.specs.LabelSets.{goes_on, is_empty}
 use Rattle.pf_base.specs.DurationScans.{past_part, rest_after, total_of}
 use Rattle.pf_base.specs.DurationTexts.{units}
 use Rattle.pf_base.specs.NumberScans.{digits_in_front}
+use Rattle.pf_model.specs.Cuts.{only_if}
 use Rattle.pf_base.proofs.Readings.{bool_cases}
-use Rattle.pf_model.specs.Tokens.{Sort, duration, duration_form, form, is_sign, is_word, number_form, only_if, sign, signs, string_form, word_sort}
+use Rattle.pf_model.specs.Tokens.{Sort, duration, duration_form, form, is_sign, is_word, number_form, sign, signs, string_form, word_sort}
 use Rattle.pf_lex.specs.FirstBytes.{begins_mark, begins_quantity, begins_string, begins_word}
 use Rattle.pf_lex.proofs.Numbers.{no_number_first}
 

@@ -9,8 +9,9 @@ use Rattle.std.proofs.lemmas.Int.{ints}
 use Rattle.pf_base.specs.Arithmetic.{clamp}
 use Rattle.pf_base.specs.NumberTexts.{Decimal, decimal_micros}
 use Rattle.pf_base.specs.NumberScans.{decimal_of}
+use Rattle.pf_model.specs.Cuts.{only_if}
 use Rattle.pf_base.proofs.Readings.{bool_cases}
-use Rattle.pf_model.specs.Tokens.{Sort, Token, BeginsWith, duration_form, form, inside_behind, is_sign, is_word, lawful, longest, may_precede, number, number_form, only_if, raw_from, sign, string, string_form, string_from, token_at, word, word_sort}
+use Rattle.pf_model.specs.Tokens.{Sort, Token, BeginsWith, duration_form, form, inside_behind, is_sign, is_word, lawful, longest, may_precede, number, number_form, raw_from, sign, string, string_form, string_from, token_at, word, word_sort}
 use Rattle.pf_lex.specs.CanonicalTokens.{IsAmount, IsLawfulSort}
 use Rattle.pf_lex.proofs.Longest.{longest_cases, some_is}
 use Rattle.pf_lex.proofs.Low.{only_if_true, or_some}

@@ -8,8 +8,9 @@ use Rattle.std.proofs.lemmas.Bool.{and_parts, and_from, or_cases}
 use Rattle.std.proofs.lemmas.Bool.Decides.{nat_tests}
 use Rattle.std.proofs.lemmas.Slice.Eq.{bytes_eq-Decides}
 use Rattle.pf_base.specs.LabelSets.{goes_on, is_empty, starts_name}
+use Rattle.pf_model.specs.Cuts.{only_if}
 use Rattle.pf_base.proofs.Readings.{bool_cases}
-use Rattle.pf_model.specs.Tokens.{Piece, Sort, ends, wrong, writes, form, is_sign, is_word, number_form, duration_form, string_form, string_from, raw_from, only_if, piece, sign, signs, word_sort, with_piece}
+use Rattle.pf_model.specs.Tokens.{Piece, Sort, ends, wrong, writes, form, is_sign, is_word, number_form, duration_form, string_form, string_from, raw_from, piece, sign, signs, word_sort, with_piece}
 use Rattle.pf_lex.specs.FirstBytes.{first_passes}
 use Rattle.pf_lex.proofs.Numbers.{number_low}
 use Rattle.pf_lex.proofs.Pieces.{ends_same, map_some}

@@ -4,7 +4,8 @@ use Rattle.std.specs.Prelude.{nat_eq}
 use Rattle.std.specs.List.{list_all, list_any}
 use Rattle.std.specs.Str.{bytes_eq}
 use Rattle.std.proofs.lemmas.Bool.{and_parts}
-use Rattle.pf_model.specs.Tokens.{Sort, form, is_sign, only_if, sign, signs, token_at}
+use Rattle.pf_model.specs.Cuts.{only_if}
+use Rattle.pf_model.specs.Tokens.{Sort, form, is_sign, sign, signs, token_at}
 use Rattle.pf_lex.specs.FirstBytes.{begins_mark, first_passes}
 use Rattle.pf_lex.specs.Scans.{IsInFront, Marks, MarksTwo}
 use Rattle.pf_lex.specs.Seen.{mark_text}

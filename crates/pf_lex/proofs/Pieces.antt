@@ -8,8 +8,9 @@ use Rattle.std.proofs.lemmas.Bool.{and_parts}
 use Rattle.std.proofs.lemmas.Bool.Decides.{nat_tests}
 use Rattle.std.proofs.lemmas.List.{length-take, take-take}
 use Rattle.pf_base.specs.LabelSets.{is_empty}
+use Rattle.pf_model.specs.Cuts.{only_if}
 use Rattle.pf_base.proofs.Readings.{bool_cases}
-use Rattle.pf_model.specs.Tokens.{Piece, ends, wrong, writes, character, escape, escaped_by, escapes, hexadecimal, only_if, piece, raw_from, string_from, with_piece}
+use Rattle.pf_model.specs.Tokens.{Piece, ends, wrong, writes, character, escape, escaped_by, escapes, hexadecimal, piece, raw_from, string_from, with_piece}
 use Rattle.pf_lex.specs.Quotes.{end_behind, quoted_end, raw_end}
 use Rattle.pf_lex.proofs.Longest.{some_is}
 

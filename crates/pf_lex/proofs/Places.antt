@@ -7,11 +7,12 @@ use Rattle.std.proofs.lemmas.Bool.{ltb-true}
 use Rattle.std.proofs.lemmas.List.{drop-drop, get_or-drop, length-drop, map_push}
 use Rattle.std.specs.Str.{IsCharBoundary, IsUtf8}
 use Rattle.std.proofs.lemmas.Str.{IsCharBoundary-after_ascii, IsCharBoundary-before_ascii}
+use Rattle.pf_model.specs.Cuts.{only_if}
 use Rattle.pf_lex.proofs.Longest.{longest_cases}
 use Rattle.pf_lex.proofs.Low.{form_low, is_low, last_is}
 use Rattle.std.proofs.lemmas.List.Elements.{All-push}
 use Rattle.pf_model.specs.Tokens as definition
-use Rattle.pf_model.specs.Tokens.{Sort, AreTokens, BeginsWith, IsBadToken, end_of, form, inside_after, inside_behind, lawful, longest, may_precede, next_at, only_if, separators, sign, token_at}
+use Rattle.pf_model.specs.Tokens.{Sort, AreTokens, BeginsWith, IsBadToken, end_of, form, inside_after, inside_behind, lawful, longest, may_precede, next_at, separators, sign, token_at}
 use Rattle.pf_lex.specs.FirstBytes.{begins_mark, begins_quantity, begins_string, begins_word, first_passes}
 use Rattle.pf_lex.specs.Scans.{BeginsAt, IsInFront}
 use Rattle.pf_lex.specs.Seen.{IsExact, IsTokenOf, mark_text, sort_of, text_of, token_of}

@@ -15,10 +15,11 @@ use Rattle.pf_base.specs.DurationTexts.{units, IsDuration, Spells}
 use Rattle.pf_base.specs.Arithmetic.{clamp}
 use Rattle.pf_base.specs.NumberScans.{decimal_of}
 use Rattle.pf_base.specs.NumberTexts.{Decimal, decimal_micros}
+use Rattle.pf_model.specs.Cuts.{only_if}
 use Rattle.pf_base.proofs.Digits.{both}
 use Rattle.pf_base.proofs.Durations.{read_spelled, spelled_read}
 use Rattle.pf_base.proofs.Readings.{bool_cases}
-use Rattle.pf_model.specs.Tokens.{Sort, number, duration, duration_form, form, has_letter, may_precede, number_form, only_if, token_at}
+use Rattle.pf_model.specs.Tokens.{Sort, number, duration, duration_form, form, has_letter, may_precede, number_form, token_at}
 use Rattle.pf_lex.specs.FirstBytes.{begins_quantity, first_passes}
 use Rattle.pf_lex.specs.Scans.{Finds, IsInFront}
 use Rattle.pf_lex.specs.Seen.{sort_of}

@@ -16,11 +16,12 @@ use Rattle.pf_base.specs.LabelSets.{goes_on}
 use Rattle.pf_base.specs.DurationTexts.{IsDuration}
 use Rattle.pf_base.specs.NumberScans.{decimal_of}
 use Rattle.pf_base.specs.NumberTexts.{decimal_micros, micros_text, number_after}
+use Rattle.pf_model.specs.Cuts.{only_if}
 use Rattle.pf_base.proofs.ReadBack.{clamp_value, micros_are, own}
 use Rattle.pf_base.proofs.Digits.{both}
 use Rattle.pf_base.proofs.Readings.{bool_cases, decimal_spelled}
 use Rattle.pf_model.specs.Canonical.{millis_text, string_byte, string_bytes_of, string_text}
-use Rattle.pf_model.specs.Tokens.{Sort, number, duration, string, word, duration_form, form, has_letter, is_blank, is_sign, is_word, may_precede, number_form, only_if, piece, separators, sign, string_from, with_piece, writes}
+use Rattle.pf_model.specs.Tokens.{Sort, number, duration, string, word, duration_form, form, has_letter, is_blank, is_sign, is_word, may_precede, number_form, piece, separators, sign, string_from, with_piece, writes}
 use Rattle.pf_lex.specs.FirstBytes.{begins_mark, begins_quantity, begins_string, begins_word, first_passes}
 use Rattle.pf_lex.specs.Quotes.{end_behind, quoted_end, string_end}
 use Rattle.pf_lex.specs.Scans.{is_word_byte, MarksTwo}

@@ -11,8 +11,9 @@ use Rattle.std.proofs.lemmas.Bool.Decides.{nat_tests}
 use Rattle.std.proofs.lemmas.List.{drop_more, drop-drop, take_all, take_at, length-take, length-drop}
 use Rattle.std.proofs.lemmas.Str.{encode_ascii, IsUtf8-append, IsUtf8-drop, IsUtf8-encode, IsUtf8-nil, IsUtf8-take, length-encode, len_utf8_bounds, IsCharBoundary-after_ascii, IsCharBoundary-before_ascii}
 use Rattle.pf_base.specs.LabelSets.{is_empty}
+use Rattle.pf_model.specs.Cuts.{only_if}
 use Rattle.pf_base.proofs.Readings.{bool_cases}
-use Rattle.pf_model.specs.Tokens.{Piece, ends, wrong, writes, character, escape, escaped_by, escapes, hexadecimal, only_if, piece, raw_from, string_from, with_piece}
+use Rattle.pf_model.specs.Tokens.{Piece, ends, wrong, writes, character, escape, escaped_by, escapes, hexadecimal, piece, raw_from, string_from, with_piece}
 use Rattle.pf_lex.specs.Seen.{written}
 use Rattle.pf_lex.proofs.Longest.{some_is}
 use Rattle.pf_lex.proofs.Low.{is_low}

@@ -8,8 +8,9 @@ use Rattle.std.proofs.lemmas.Bool.{and_parts, and_from, or_parts}
 use Rattle.std.proofs.lemmas.List.Sums.{prefix_len-le-length}
 use Rattle.std.proofs.lemmas.Slice.Eq.{bytes_eq-Decides}
 use Rattle.pf_base.specs.LabelSets.{goes_on, starts_name}
+use Rattle.pf_model.specs.Cuts.{only_if}
 use Rattle.pf_base.proofs.Readings.{bool_cases}
-use Rattle.pf_model.specs.Tokens.{form, has_letter, may_precede, number, only_if, token_at, word, word_sort}
+use Rattle.pf_model.specs.Tokens.{form, has_letter, may_precede, number, token_at, word, word_sort}
 use Rattle.pf_lex.specs.FirstBytes.{begins_word, first_passes}
 use Rattle.pf_lex.specs.Scans.{IsInFront, is_word_byte}
 use Rattle.pf_lex.specs.declared.token.TokenSort.TheVariants as token

@@ -2,6 +2,7 @@
 use Rattle.std.specs.Prelude.{◌≡◌, ℕ, ℤ, pos, negsuc, zero, suc, ◌*◌, ◌≤◌, ◌&&◌, Bool, true, false, not, cond, codes, IfSome, List, [], ◌∷◌, ◌++◌, map, Option, Some, None}
 use Rattle.std.specs.List.{list_all}
 use Rattle.std.specs.Str.{str_eq_ignore_ascii_case}
+use Rattle.pf_base.specs.Limits.{greatest_size, greatest_time}
 use Rattle.pf_model.specs.declared.expr.At.{At}
 use Rattle.pf_model.specs.declared.expr.At.TheVariants.{Time, Start, End}
 use Rattle.pf_model.specs.declared.expr.Matcher.{Matcher}
@@ -127,7 +128,7 @@ abbrev pub HaveWords : List Matcher → Type 0
 HaveWords ms = list_all (λ m. is_label m.label) ms ≡ true
 
 abbrev pub IsTime : ℕ → Type 0
-IsTime millis = millis ≤ 4398046511103
+IsTime millis = millis ≤ greatest_time
 
 abbrev pub IsMoment : At → Type 0
 IsMoment (Time millis) = IsTime millis
@@ -143,7 +144,7 @@ AreMods mods = IfSome mods.at IsMoment × IsOffset mods.offset
 
 -- a number that is not negative, of the greatest size at most
 abbrev pub IsAmount : ℤ → Type 0
-IsAmount (pos n) = n ≤ 1000000000000000000
+IsAmount (pos n) = n ≤ greatest_size
 IsAmount (negsuc n) = ⊥
 
 abbrev mutual

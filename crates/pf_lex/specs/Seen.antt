@@ -3,6 +3,8 @@ use Rattle.std.specs.Prelude.{ℕ, zero, ◌||◌, ◌<◌, ◌≤◌, cond, len
 use Rattle.std.specs.Str.{IsCharBoundary}
 use Rattle.pf_base.specs.DurationScans.{total_of}
 use Rattle.pf_base.specs.DurationTexts.{units}
+use Rattle.pf_base.specs.Limits.{greatest_time}
+use Rattle.pf_model.specs.Parsing.{most_bytes}
 use Rattle.pf_model.specs.Tokens as definition
 use Rattle.pf_model.specs.Tokens.{Sort, word, number, duration, string, sign, raw_from, string_from}
 use Rattle.pf_lex.specs.declared.token.Mark.{Mark}
@@ -65,8 +67,8 @@ token_of text t = record { from = t.from; to = t.to; sort = sort_of (text_of tex
 
 -- milliseconds are given exactly where they are at most the greatest time
 abbrev pub AreGiven : List ℕ → Option ℕ → Type 0
-AreGiven text None = 4398046511103 < total_of units text
-AreGiven text (Some n) = n ≤ 4398046511103
+AreGiven text None = greatest_time < total_of units text
+AreGiven text (Some n) = n ≤ greatest_time
 
 abbrev pub IsExact : List ℕ → TokenSort → Type 0
 IsExact text sort.Word = Unit {0}
@@ -85,6 +87,6 @@ pub record IsTokenOf (text : List ℕ) (t : Token) : Type 0 where
 
 -- why a text has no tokens, unless memory ran out
 abbrev pub IsFault : List ℕ → LexError → Type 0
-IsFault text error.TooLong = 65536 < length text
+IsFault text error.TooLong = most_bytes < length text
 IsFault text (error.BadToken at) = definition.IsBadToken text at
 IsFault text error.OutOfMemory = Unit {0}

@@ -3,6 +3,7 @@ use Rattle.std.specs.Prelude.{◌≡◌, ℕ, suc, ◌+◌, ◌-◌, ◌*◌, �
 use Rattle.std.specs.Char.{is_ascii_digit}
 use Rattle.std.specs.List.{prefix_len}
 use Rattle.pf_base.specs.LabelSets.{goes_on}
+use Rattle.pf_base.specs.Limits.{greatest_exponent}
 use Rattle.pf_model.specs.Tokens.{has_letter, number_form, duration_form}
 use Rattle.pf_lex.specs.Seen.{IsExact, sort_of}
 use Rattle.pf_lex.specs.declared.number.Stage.{Stage}
@@ -10,7 +11,7 @@ use Rattle.pf_lex.specs.declared.number.Stage.TheVariants.{Start, Whole, Point, 
 use Rattle.pf_lex.specs.declared.token.TokenSort.{TokenSort}
 
 abbrev pub further : ℕ → ℕ → Stage
-further size b = cond (nat_lt 9999 (size * 10 + (b - 48))) Over (Exponent (size * 10 + (b - 48)))
+further size b = cond (nat_lt greatest_exponent (size * 10 + (b - 48))) Over (Exponent (size * 10 + (b - 48)))
 
 abbrev pub behind_exponent : ℕ → ℕ → Stage
 behind_exponent size b = cond (is_ascii_digit b) (further size b) Over

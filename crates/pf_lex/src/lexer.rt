@@ -2,6 +2,7 @@
 
 ghost use Rattle.std.specs.Prelude.{◌≡◌, ◌<◌, ◌≤◌, ℕ, length, map, Err, IfErr, IfOk, List};
 ghost use Rattle.std.specs.List.{All};
+ghost use Rattle.pf_model.specs.Parsing.{most_bytes};
 ghost use Rattle.pf_model.specs.Tokens.{AreTokens, inside_behind, next_at, sign};
 ghost use Rattle.pf_lex.specs.FirstBytes.{begins_quantity, begins_string, begins_word};
 ghost use Rattle.pf_lex.specs.Scans.{Finds, FindsAt, Steps};
@@ -57,7 +58,7 @@ fn token_in_front(inside: bool, bytes: &[u8]) -> Option<(TokenSort, usize)>
 /// The token that begins at a place.
 fn token_at(inside: bool, text: &[u8], at: usize) -> Option<Token>
     requires within { at < length text.now }
-    requires short { length text.now ≤ 65536 }
+    requires short { length text.now ≤ most_bytes }
     ensures { FindsAt inside text.now at result }
 {
     let (_, behind) = text.split_at(at);
@@ -104,7 +105,7 @@ fn next_at(text: &[u8], at: usize) -> usize
 /// The token that begins at a place, whether what follows it is inside square brackets, and the place of the next.
 fn step_at(inside: bool, text: &[u8], at: usize) -> Option<(Token, bool, usize)>
     requires within { at < length text.now }
-    requires short { length text.now ≤ 65536 }
+    requires short { length text.now ≤ most_bytes }
     ensures { Steps inside text.now at result }
 {
     let token = token_at(inside, text, at)?;
@@ -118,7 +119,7 @@ pub fn tokens(alloc: Global, text: &str) -> Result<Vec<Token>, LexError>
     ensures tokens { IfOk result (λ v. AreTokens text.now (map (token_of text.now) v.items)) }
     ensures parts { IfOk result (λ v. All (IsTokenOf text.now) v.items) }
     ensures fault { IfErr result (IsFault text.now) }
-    ensures long { 65536 < length text.now → result ≡ Err TooLong }
+    ensures long { most_bytes < length text.now → result ≡ Err TooLong }
 {
     let bytes = text.as_bytes();
     if bytes.len() > MOST_BYTES {

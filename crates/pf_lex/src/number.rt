@@ -3,6 +3,7 @@
 ghost use Rattle.std.specs.Prelude.{◌≡◌, ◌≤◌, Bool, true, length, take, IfSome, Some};
 ghost use Rattle.std.specs.Char.{is_ascii_digit};
 ghost use Rattle.std.specs.Option.{is_some};
+ghost use Rattle.pf_base.specs.Limits.{greatest_exponent};
 ghost use Rattle.pf_base.specs.NumberScans.{decimal_of};
 ghost use Rattle.pf_model.specs.Tokens.{number, number_form};
 ghost use Rattle.pf_lex.specs.FirstBytes.{begins_quantity, first_passes};
@@ -37,7 +38,7 @@ enum Stage {
 
 /// Behind one more digit of an exponent.
 fn further(size: u32, byte: u8) -> Stage
-    requires size { size ≤ 9999 }
+    requires size { size ≤ greatest_exponent }
     requires digit { is_ascii_digit byte ≡ true }
     ensures stage { result ≡ further size byte }
     ensures small { is_small result ≡ true }
@@ -132,7 +133,7 @@ fn behind_letter(byte: u8) -> Stage
 }
 
 fn behind_exponent(size: u32, byte: u8) -> Stage
-    requires { size ≤ 9999 }
+    requires { size ≤ greatest_exponent }
     ensures stage { result ≡ behind_exponent size byte }
     ensures small { is_small result ≡ true }
 {

@@ -2,6 +2,7 @@
 
 ghost use Rattle.std.specs.Prelude.{◌≡◌, true, false, pos};
 ghost use Rattle.std.specs.Str.{str_eq_ignore_ascii_case};
+ghost use Rattle.pf_base.specs.Limits.{greatest_value};
 ghost use Rattle.pf_lex.specs.FirstBytes.{begins_word, first_passes};
 ghost use Rattle.pf_lex.specs.Scans.{Finds};
 
@@ -14,7 +15,7 @@ const GREATEST: i128 = 1_000_000_000_000_000_000;
 
 #[tactic(auto, unfolding(pf_base::specs::Arithmetic::clamp))]
 fn greatest() -> Value
-    ensures { result ≡ pos 1000000000000000000 }
+    ensures { result ≡ greatest_value }
 {
     Value::new(GREATEST)
 }

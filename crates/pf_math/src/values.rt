@@ -2,6 +2,7 @@
 
 ghost use Rattle.std.specs.Prelude.{◌≡◌, ◌≤◌, ◌≤ℤ◌, ◌<ℤ◌, ◌+ℤ◌, ◌*ℤ◌, ℤ, pos, neg_ℤ, unsigned_abs, true, false, MatchOption};
 ghost use Rattle.std.specs.Int.{int_div_euclid, int_max, int_min};
+ghost use Rattle.pf_base.specs.Limits.{greatest_value};
 ghost use Rattle.pf_model.specs.InstantFunctions.{bounded, ceil, floor, rounded, sign_of};
 ghost use Rattle.pf_model.specs.Micros.{seconds};
 ghost use Rattle.pf_math.specs.EachValue.{IsOfEachValue, changed, is_each_value, value_by};
@@ -82,7 +83,7 @@ fn sign_of(value: Value) -> Value
 /// A value without its sign, in micros.
 fn size_of(value: Value) -> i128
     ensures size { result ≡ pos (unsigned_abs value) }
-    ensures bound { result ≤ℤ pos 1000000000000000000 }
+    ensures bound { result ≤ℤ greatest_value }
 {
     value.micros().unsigned_abs() as i128
 }
@@ -90,7 +91,7 @@ fn size_of(value: Value) -> i128
 /// Twice a value and this many micros.
 fn twice_and(value: Value, more: i128) -> i128
     requires low { pos 0 <ℤ more }
-    requires high { more ≤ℤ pos 1000000000000000000 }
+    requires high { more ≤ℤ greatest_value }
     ensures sum { result ≡ pos 2 *ℤ value +ℤ more }
     ensures bound { unsigned_abs result ≤ 3000000000000000000 }
 {
@@ -102,7 +103,7 @@ fn twice_and(value: Value, more: i128) -> i128
 fn by_twice(number: i128, to: i128) -> i128
     requires bound { unsigned_abs number ≤ 3000000000000000000 }
     requires low { pos 0 <ℤ to }
-    requires high { to ≤ℤ pos 1000000000000000000 }
+    requires high { to ≤ℤ greatest_value }
     ensures quotient { result ≡ int_div_euclid number (pos 2 *ℤ to) }
     ensures within { unsigned_abs result ≤ 3000000000000000000 }
 {
@@ -112,7 +113,7 @@ fn by_twice(number: i128, to: i128) -> i128
 fn multiple(count: i128, of: i128) -> i128
     requires bound { unsigned_abs count ≤ 3000000000000000000 }
     requires low { pos 0 <ℤ of }
-    requires high { of ≤ℤ pos 1000000000000000000 }
+    requires high { of ≤ℤ greatest_value }
     ensures { result ≡ count *ℤ of }
 {
     count * of

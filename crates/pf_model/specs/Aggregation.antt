@@ -6,6 +6,7 @@ use Rattle.std.specs.Ordering.{int_cmp, ordering_then, ordering_reverse}
 use Rattle.pf_base.specs.Arithmetic.{clamp}
 use Rattle.pf_base.specs.LabelSets.{Pairs}
 use Rattle.pf_base.specs.LabelChanges.{metric_name, kept, left_out}
+use Rattle.pf_base.specs.Limits.{greatest_value, least_value}
 use Rattle.pf_base.specs.Sorting.{isort}
 use Rattle.pf_model.specs.declared.cell.Element.{Element}
 use Rattle.pf_model.specs.declared.functions.AggOp.{AggOp}
@@ -64,8 +65,8 @@ at_rank vs (negsuc n) = pos 0
 
 abbrev pub quantile : ℤ → List ℤ → ℤ
 quantile q vs =
-    cond (int_lt q (pos 0)) (negsuc 999999999999999999)
-    (cond (int_lt one q) (pos 1000000000000000000)
+    cond (int_lt q (pos 0)) least_value
+    (cond (int_lt one q) greatest_value
     (at_rank (isort int_cmp vs) (q *ℤ pos (length vs - 1))))
 
 abbrev pub quantiles : Option ℤ → List ElementGroup → List Element

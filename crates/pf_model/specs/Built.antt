@@ -2,6 +2,7 @@
 use Rattle.std.specs.Prelude.{ℕ, zero, suc, nat_le, unsigned_abs, Bool, true, false, ◌&&◌, ◌||◌, not, Option, Some, is_none, List}
 use Rattle.std.specs.List.{list_all}
 use Rattle.pf_base.specs.LabelSets.{is_label_name}
+use Rattle.pf_base.specs.Limits.{greatest_time}
 use Rattle.pf_model.specs.declared.expr.At.{At}
 use Rattle.pf_model.specs.declared.expr.At.TheVariants as at
 use Rattle.pf_model.specs.declared.expr.Function.TheVariants as called
@@ -15,7 +16,7 @@ use Rattle.pf_model.specs.Trees.{Tree, Trees}
 
 -- a distance, or a time, of at most the greatest time that a query has, in milliseconds
 abbrev pub is_distance : ℕ → Bool
-is_distance millis = nat_le millis 4398046511103
+is_distance millis = nat_le millis greatest_time
 
 abbrev pub is_time : Option At → Bool
 is_time (Some (at.Time millis)) = is_distance millis

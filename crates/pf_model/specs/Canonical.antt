@@ -2,6 +2,7 @@
 use Rattle.std.specs.Prelude.{ℕ, ℤ, pos, negsuc, zero, suc, ◌*◌, ◌&&◌, Bool, true, false, not, cond, codes, List, [], ◌∷◌, ◌++◌, map, nat_eq, Option, Some, None}
 use Rattle.std.specs.Fmt.{decimal}
 use Rattle.pf_base.specs.NumberTexts.{value_text}
+use Rattle.pf_model.specs.Lists.{separated}
 use Rattle.pf_model.specs.declared.expr.At.{At}
 use Rattle.pf_model.specs.declared.expr.At.TheVariants.{Time, Start, End}
 use Rattle.pf_model.specs.declared.expr.Matcher.{Matcher}
@@ -12,15 +13,6 @@ use Rattle.pf_model.specs.Clauses.{Grouped, Matched}
 use Rattle.pf_model.specs.Grammar.{is_nil}
 use Rattle.pf_model.specs.Trees.{Tree, Trees, number, text, unary, binary, call, aggregate, select, subquery, none, more}
 use Rattle.pf_model.specs.Words.{function_name, aggregation_word, operator_text, match_text}
-
--- texts with another between them
-abbrev pub all_behind : List ℕ → List (List ℕ) → List ℕ
-all_behind between [] = []
-all_behind between (x ∷ xs) = between ++ (x ++ all_behind between xs)
-
-abbrev pub separated : List ℕ → List (List ℕ) → List ℕ
-separated between [] = []
-separated between (x ∷ xs) = x ++ all_behind between xs
 
 abbrev pub in_brackets : List ℕ → List ℕ
 in_brackets bytes = codes "(" ++ (bytes ++ codes ")")

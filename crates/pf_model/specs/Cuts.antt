@@ -6,8 +6,8 @@ abbrev pub ◌>>=◌ : {A B : Type 0} → Option A → (A → Option B) → Opti
 o >>= f = option_and_then f o
 
 -- a value, if a test holds
-abbrev pub kept : {A : Type 0} → Bool → A → Option A
-kept b x = cond b (Some x) None
+abbrev pub only_if : {A : Type 0} → Bool → A → Option A
+only_if b x = cond b (Some x) None
 
 -- bytes that are cut in two
 pub record Cut : Type 0 where

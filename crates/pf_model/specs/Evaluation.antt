@@ -3,6 +3,7 @@
 use Rattle.std.specs.Prelude.{ℕ, zero, suc, ◌*ℤ◌, ℤ, pos, ◌+ℤ◌, ◌-ℤ◌, unsigned_abs, Option, Some, None, unwrap_or, List, [], ◌∷◌, map, filter}
 use Rattle.std.specs.declared.cmp.Ordering.{Ordering}
 use Rattle.std.specs.Ordering.{int_cmp}
+use Rattle.pf_base.specs.Limits.{minute}
 use Rattle.pf_base.specs.declared.plain.Row.{Row}
 use Rattle.pf_base.specs.declared.plain.Sample.{Sample}
 use Rattle.pf_base.specs.LabelSets.{Pairs}
@@ -85,7 +86,7 @@ multiples step from to =
     multiples_behind (pos step) (cut_down from step) (unsigned_abs (cut_down to step -ℤ cut_down from step))
 
 abbrev pub resolution_or_minute : Option ℕ → ℕ
-resolution_or_minute resolution = unwrap_or resolution 60000
+resolution_or_minute resolution = unwrap_or resolution minute
 
 -- a subquery's inner expression at one of its times
 pub record Moment : Type 0 where

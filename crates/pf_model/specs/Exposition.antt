@@ -7,6 +7,7 @@ use Rattle.std.specs.Str.{IsUtf8}
 use Rattle.pf_base.specs.Batches.{BatchData}
 use Rattle.pf_base.specs.LabelBuild.{build_of}
 use Rattle.pf_base.specs.LabelSets.{Pairs, is_empty, is_label_name, starts_name, goes_on}
+use Rattle.pf_base.specs.Limits.{greatest_time, most_samples}
 use Rattle.pf_base.specs.NumberTexts.{Reads, number_after}
 use Rattle.pf_base.specs.declared.number.Read.{Read}
 use Rattle.pf_base.specs.declared.number.Read.TheVariants.{Number, NotANumber}
@@ -220,9 +221,6 @@ pub data LineFault : Type 0 where
   bad : LineFault
   late : LineFault
 
-abbrev pub greatest_time : ℕ
-greatest_time = 4398046511103
-
 -- Nothing of a skipped line, a row of a sample line, no row of one whose value is no number. A sample line whose time is
 -- too large is late. A line that is neither is bad.
 abbrev pub LineGives : ℕ → List ℕ → Result Given LineFault → Type 0
@@ -261,7 +259,7 @@ pub record Gives (default : ℕ) (lines : List (List ℕ)) (batch : BatchData) :
   pub given : LinesGive default lines each
   pub rows : batch.rows ≡ rows_of each
   pub skipped : batch.skipped ≡ skipped_of each
-  pub few : length batch.rows ≤ 2000000
+  pub few : length batch.rows ≤ most_samples
 
 -- why a file is refused
 pub data Fault : Type 0 where
@@ -273,7 +271,7 @@ pub data Fault : Type 0 where
 abbrev pub IsAtFault : ℕ → List Row → List ℕ → Fault → Type 0
 IsAtFault default before line bad_line = LineGives default line (Err bad)
 IsAtFault default before line late_line = LineGives default line (Err late)
-IsAtFault default before line too_many = (row : Row) × (LineGives default line (Ok (sample row)) × (2000000 ≤ length before))
+IsAtFault default before line too_many = (row : Row) × (LineGives default line (Ok (sample row)) × (most_samples ≤ length before))
 
 -- the lines before one give a batch, and that one, of this number, is at fault
 pub record Stops (default : ℕ) (lines : List (List ℕ)) (number : ℕ) (fault : Fault) : Type 0 where

@@ -1,5 +1,5 @@
 -- Words on lists that the other definitions share: this project's own.
-use Rattle.std.specs.Prelude.{ℕ, zero, suc, Bool, Option, Some, None, cond, List, [], ◌∷◌, ◌++◌}
+use Rattle.std.specs.Prelude.{ℕ, zero, suc, Bool, Option, Some, None, cond, List, [], ◌∷◌, ◌++◌, codes, map}
 
 -- a fact of each element; it computes to the facts one by one
 abbrev pub Each : {X : Type 0} → (X → Type 0) → List X → Type 0
@@ -11,14 +11,21 @@ abbrev pub joined : {X Y : Type 0} → (X → List Y) → List X → List Y
 joined f [] = []
 joined f (x ∷ xs) = f x ++ joined f xs
 
--- the same with commas (44) between them
+-- texts with another between them
+abbrev pub all_behind : List ℕ → List (List ℕ) → List ℕ
+all_behind between [] = []
+all_behind between (x ∷ xs) = between ++ (x ++ all_behind between xs)
+
+abbrev pub separated : List ℕ → List (List ℕ) → List ℕ
+separated between [] = []
+separated between (x ∷ xs) = x ++ all_behind between xs
+
+-- the texts that f makes of the elements, with commas between them
 abbrev pub comma_before : {X : Type 0} → (X → List ℕ) → List X → List ℕ
-comma_before f [] = []
-comma_before f (x ∷ xs) = 44 ∷ (f x ++ comma_before f xs)
+comma_before f xs = all_behind (codes ",") (map f xs)
 
 abbrev pub comma_joined : {X : Type 0} → (X → List ℕ) → List X → List ℕ
-comma_joined f [] = []
-comma_joined f (x ∷ xs) = f x ++ comma_before f xs
+comma_joined f xs = separated (codes ",") (map f xs)
 
 -- the first element that passes
 abbrev pub first_with : {X : Type 0} → (X → Bool) → List X → Option X

@@ -2,7 +2,7 @@
 use Rattle.std.specs.Prelude.{◌≡◌, ℕ, zero, suc, nat_abs, ◌+◌, ◌-◌, ◌/◌, ◌<◌, ◌≤◌, ◌&&◌, ◌||◌, Bool, false, not, cond, codes, List, [], ◌∷◌, length, map, nat_le, nat_lt, Option, Some, None}
 use Rattle.std.specs.Option.{is_none}
 use Rattle.std.specs.Str.{bytes_eq}
-use Rattle.pf_base.specs.Grids.{maxt}
+use Rattle.pf_base.specs.Limits.{greatest_time}
 use Rattle.pf_model.specs.Grammar.{Written, IsDerived, Derives, IsUnexpected}
 use Rattle.pf_model.specs.Tokens.{Sort, word, number, duration, string, sign, Token, AreTokens, IsBadToken}
 use Rattle.pf_model.specs.Trees.{Tree, height}
@@ -73,8 +73,8 @@ unknown_at behind_at (t ∷ ts) =
 -- a duration, or the seconds of an `@`, past the greatest time
 abbrev pub is_too_large : (behind_at : Bool) → Sort → Bool
 is_too_large behind_at (word w) = false
-is_too_large behind_at (number micros) = behind_at && nat_lt maxt (nat_abs micros / 1000)
-is_too_large behind_at (duration millis) = nat_lt maxt millis
+is_too_large behind_at (number micros) = behind_at && nat_lt greatest_time (nat_abs micros / 1000)
+is_too_large behind_at (duration millis) = nat_lt greatest_time millis
 is_too_large behind_at (string s) = false
 is_too_large behind_at (sign s) = false
 

@@ -2,6 +2,7 @@
 -- are refused. This project's own; Cortex and Mimir do not cache very recent results.
 use Rattle.std.specs.Prelude.{ℕ, ℤ, pos, ◌+ℤ◌, ◌-ℤ◌, int_lt, Bool, true, false, Option, Some, None, option_map, unwrap_or, List, [], ◌∷◌, map}
 use Rattle.std.specs.Int.{int_min, int_max}
+use Rattle.pf_base.specs.Limits.{lookback}
 use Rattle.pf_model.specs.Evaluation.{read_time, multiples, resolution_or_minute}
 use Rattle.pf_model.specs.Trees as tree
 use Rattle.pf_model.specs.Trees.{Tree, Trees}
@@ -34,7 +35,7 @@ abbrev mutual
   times_read (tree.binary op m left right) t = together (times_read left t) (times_read right t)
   times_read (tree.call f args) t = all_times_read args t
   times_read (tree.aggregate op g args) t = all_times_read args t
-  times_read (tree.select ms range mods) t = window_times (unwrap_or range 300000) (read_time mods t)
+  times_read (tree.select ms range mods) t = window_times (unwrap_or range lookback) (read_time mods t)
   times_read (tree.subquery arg range resolution mods) t =
       all_together (map (λ u. times_read arg u)
       (multiples (resolution_or_minute resolution) (read_time mods t -ℤ pos range) (read_time mods t)))

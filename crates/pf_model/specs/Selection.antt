@@ -4,6 +4,7 @@ use Rattle.std.specs.Prelude.{ℕ, ℤ, pos, ◌-ℤ◌, int_lt, int_le, Bool, t
 use Rattle.std.specs.Ordering.{is_eq}
 use Rattle.std.specs.Str.{bytes_eq}
 use Rattle.std.specs.List.{list_all}
+use Rattle.pf_base.specs.Limits.{lookback}
 use Rattle.pf_base.specs.declared.plain.Row.{Row}
 use Rattle.pf_base.specs.LabelSets.{Pairs, value_of}
 use Rattle.pf_base.specs.LabelOrder.{labels_cmp}
@@ -49,15 +50,12 @@ abbrev pub accepts_empty : List Matcher → Bool
 accepts_empty ms = list_all (λ m. holds m.sign [] m.text) ms
 
 -- the look-back, in milliseconds
-abbrev pub lookback : ℤ
-lookback = pos 300000
-
 -- a row's time lies in (from, to], and in (t - look-back, t]
 abbrev pub is_within : ℤ → ℤ → Row → Bool
 is_within from to r = int_lt from (pos r.time) && int_le (pos r.time) to
 
 abbrev pub is_read : ℤ → Row → Bool
-is_read t = is_within (t -ℤ lookback) t
+is_read t = is_within (t -ℤ pos lookback) t
 
 -- the row of greatest time
 abbrev pub later : Option Row → Row → Option Row

@@ -10,8 +10,10 @@ use Rattle.pf_base.specs.Arithmetic.{clamp}
 use Rattle.pf_base.specs.DurationScans.{rest_after, total_of}
 use Rattle.pf_base.specs.DurationTexts.{units}
 use Rattle.pf_base.specs.LabelSets.{goes_on, is_empty, starts_name}
+use Rattle.pf_base.specs.Limits.{greatest_value, most_number_bytes}
 use Rattle.pf_base.specs.NumberScans.{decimal_of}
 use Rattle.pf_base.specs.NumberTexts.{decimal_micros}
+use Rattle.pf_model.specs.Cuts.{only_if}
 
 -- what a token is: a word, a number in micros, a duration in milliseconds, the bytes of a string, or a sign
 pub data Sort : Type 0 where
@@ -26,10 +28,6 @@ pub record Token : Type 0 where
   pub from : ℕ
   pub to : ℕ
   pub sort : Sort
-
-abbrev pub only_if : {A : Type 0} → Bool → A → Option A
-only_if false x = None
-only_if true x = Some x
 
 -- ---- what separates tokens
 
@@ -51,13 +49,13 @@ is_word (b ∷ bs) = (starts_name b || nat_eq b 58) && list_all (λ c. goes_on c
 
 -- `inf`, in any case of letters, is the greatest number
 abbrev pub word_sort : List ℕ → Sort
-word_sort bytes = cond (str_eq_ignore_ascii_case bytes (codes "inf")) (number (pos 1000000000000000000)) (word bytes)
+word_sort bytes = cond (str_eq_ignore_ascii_case bytes (codes "inf")) (number greatest_value) (word bytes)
 
 -- ---- numbers and durations
 
 abbrev pub number_form : List ℕ → Option Sort
 number_form bytes =
-    cond (nat_le (length bytes) 128) (option_map (λ d. number (clamp (pos (decimal_micros d)))) (decimal_of bytes)) None
+    cond (nat_le (length bytes) most_number_bytes) (option_map (λ d. number (clamp (pos (decimal_micros d)))) (decimal_of bytes)) None
 
 abbrev pub duration_form : List ℕ → Option Sort
 duration_form bytes = only_if (not (is_empty bytes) && is_empty (rest_after units bytes)) (duration (total_of units bytes))

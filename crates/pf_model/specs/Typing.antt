@@ -5,6 +5,8 @@ use Rattle.std.specs.List.{list_all, list_any}
 use Rattle.std.specs.Option.{option_or}
 use Rattle.std.specs.Str.{bytes_eq}
 use Rattle.pf_base.specs.LabelSets.{is_label_name}
+use Rattle.pf_base.specs.Limits.{minute, most_steps}
+use Rattle.pf_model.specs.Cuts.{only_if}
 use Rattle.pf_model.specs.declared.expr.BinaryOp.{BinaryOp}
 use Rattle.pf_model.specs.declared.expr.Function.{Function}
 use Rattle.pf_model.specs.declared.expr.Function.TheVariants as called
@@ -17,7 +19,6 @@ use Rattle.pf_model.specs.declared.functions.InstantFn.TheVariants as function
 use Rattle.pf_model.specs.Canonical.{is_one}
 use Rattle.pf_model.specs.Clauses.{Matched}
 use Rattle.pf_model.specs.Grammar.{is_nil}
-use Rattle.pf_model.specs.Tokens.{only_if}
 use Rattle.pf_model.specs.Trees.{Tree, Trees, number, text, unary, binary, call, aggregate, select, subquery, none, more, Node, postorder}
 use Rattle.pf_model.specs.Words.{is_comparison, is_set_operator}
 
@@ -181,7 +182,7 @@ has_bad_matching _ = false
 
 -- the range is over 11,000 resolutions; an absent one is a minute
 abbrev pub is_too_fine : Tree → Bool
-is_too_fine (subquery e range resolution mods) = nat_lt (11000 * unwrap_or resolution 60000) range
+is_too_fine (subquery e range resolution mods) = nat_lt (most_steps * unwrap_or resolution minute) range
 is_too_fine _ = false
 
 abbrev pub fault_at : ℕ → Tree → Option Fault

@@ -3,6 +3,7 @@ use Rattle.std.proofs.Common.{◌≡◌, ◌∙◌, sym, refl, ap, subst, ℕ, �
 use Rattle.std.proofs.lemmas.Bool.{le-leb}
 use Rattle.std.proofs.lemmas.List.{append_assoc}
 use Rattle.std.specs.Option.{option_and_then}
+use Rattle.pf_base.specs.Limits.{greatest_time}
 use Rattle.pf_lex.specs.declared.token.Mark.{Mark}
 use Rattle.pf_lex.specs.declared.token.Mark.TheVariants as mark
 use Rattle.pf_model.proofs.Levels.{level_positive, level_small}
@@ -196,7 +197,7 @@ left_alike op m a e k tail us p h =
 -- ---- selectors, subqueries and aggregations are whole before such a tail
 
 pub positive : (d : ℕ) → IsPositive d → is_positive (within_limit d) ≡ true
-positive d h = kept (nat_le d Rattle.pf_base.specs.Grids.maxt)
+positive d h = kept (nat_le d greatest_time)
   where
     kept : (b : Bool) → is_positive (cond b (Some d) None) ≡ true
     kept true = ap not h

@@ -4,7 +4,7 @@ use Rattle.std.proofs.Common.{◌≡◌, ◌∙◌, sym, refl, ap, subst, ℕ, z
 use Rattle.std.proofs.lemmas.Bool.{le-leb, lt-leb, leb-true, leb-false}
 use Rattle.std.proofs.lemmas.List.{append_assoc, append-nil}
 use Rattle.std.specs.Option.{is_none, option_and_then}
-use Rattle.pf_base.specs.Grids.{maxt}
+use Rattle.pf_base.specs.Limits.{greatest_time}
 use Rattle.pf_base.specs.NumberTexts as front
 use Rattle.pf_model.specs.Clauses.{Matched}
 use Rattle.pf_model.specs.declared.expr.At.TheVariants as at
@@ -57,8 +57,8 @@ binary_low op m s t = by_left (nat_le (height s) 64) refl
 
 -- ---- times
 
-in_time : (d : ℕ) → nat_lt maxt d ≡ false → within_limit d ≡ Some d
-in_time d h = ap (λ b. cond b (Some d) None) (le-leb d maxt (omega (arith, leb-false (suc maxt) d h)))
+in_time : (d : ℕ) → nat_lt greatest_time d ≡ false → within_limit d ≡ Some d
+in_time d h = ap (λ b. cond b (Some d) None) (le-leb d greatest_time (omega (arith, leb-false (suc greatest_time) d h)))
 
 abs_neg : (r : ℕ) → nat_abs (neg_ℤ (pos r)) ≡ r
 abs_neg zero = refl
@@ -73,9 +73,9 @@ abs_millis front.minus (pos zero) = refl
 abs_millis front.minus (pos (suc a)) = abs_neg (suc a / 1000)
 abs_millis front.minus (negsuc a) = refl
 
-moment_in_time : (s : front.Sign) (n : ℤ) → nat_lt maxt (nat_abs n / 1000) ≡ false → time_at s n ≡ Some (at.Time (nat_abs (millis_of s n)))
+moment_in_time : (s : front.Sign) (n : ℤ) → nat_lt greatest_time (nat_abs n / 1000) ≡ false → time_at s n ≡ Some (at.Time (nat_abs (millis_of s n)))
 moment_in_time s n h =
-    ap (option_map at.Time) (in_time (nat_abs (millis_of s n)) (ap (nat_lt maxt) (abs_millis s n) ∙ h))
+    ap (option_map at.Time) (in_time (nat_abs (millis_of s n)) (ap (nat_lt greatest_time) (abs_millis s n) ∙ h))
 
 record InTime (o : Option Offset) (m : Option Moment) : Type 0 where
   offset : IfSome o (λ x. within_limit x.millis ≡ Some x.millis)

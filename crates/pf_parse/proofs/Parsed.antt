@@ -3,7 +3,7 @@ use Rattle.std.proofs.Common.{◌≡◌, ◌∙◌, sym, refl, ap, subst, ℕ, z
 use Rattle.std.proofs.lemmas.Bool.{le-leb, lt-leb, leb-true, leb-false}
 use Rattle.std.specs.List.{All}
 use Rattle.std.specs.Option.{is_none}
-use Rattle.pf_base.specs.Grids.{maxt}
+use Rattle.pf_base.specs.Limits.{greatest_time}
 use Rattle.pf_lex.specs.declared.token.Mark.TheVariants as mark
 use Rattle.pf_lex.specs.declared.token.Token.{Token}
 use Rattle.pf_lex.specs.declared.token.TokenSort.{TokenSort}
@@ -233,8 +233,8 @@ lost_same text b (t ∷ ts) =
 late_sort : (w : List ℕ) (s : TokenSort) (b : Bool) → IsExact w s → parsing.is_too_large b (sort_of w s) ≡ is_late b s
 late_sort w sort.Word b e = refl
 late_sort w (sort.Number n) b e = refl
-late_sort w (sort.Duration None) b e = le-leb (suc maxt) (millis_of w None) (omega (arith, e))
-late_sort w (sort.Duration (Some d)) b e = lt-leb (suc maxt) d (omega (arith, e))
+late_sort w (sort.Duration None) b e = le-leb (suc greatest_time) (millis_of w None) (omega (arith, e))
+late_sort w (sort.Duration (Some d)) b e = lt-leb (suc greatest_time) d (omega (arith, e))
 late_sort w sort.String b e = refl
 late_sort w (sort.Mark m) b e = refl
 

@@ -2,7 +2,7 @@
 use Rattle.std.proofs.Common.{◌≡◌, ◌∙◌, sym, refl, ap, subst, ℕ, ◌/◌, nat_abs, Bool, true, false, not, cond, ◌&&◌, ◌||◌, List, [], ◌∷◌, ◌++◌, map, nat_lt, Option, Some, None, codes}
 use Rattle.std.specs.Option.{is_none}
 use Rattle.std.specs.Str.{bytes_eq}
-use Rattle.pf_base.specs.Grids.{maxt}
+use Rattle.pf_base.specs.Limits.{greatest_time}
 use Rattle.pf_base.specs.NumberTexts as front
 use Rattle.pf_model.specs.declared.expr.BinaryOp.{BinaryOp}
 use Rattle.pf_model.specs.declared.expr.Matcher.{Matcher}
@@ -163,8 +163,8 @@ is_front (grammar.sign s) = bytes_eq s (codes "+") || bytes_eq s (codes "-")
 is_front _ = false
 
 abbrev pub is_late : Bool → Terminal → Bool
-is_late b (grammar.number n) = b && nat_lt maxt (nat_abs n / 1000)
-is_late b (grammar.duration d) = nat_lt maxt d
+is_late b (grammar.number n) = b && nat_lt greatest_time (nat_abs n / 1000)
+is_late b (grammar.duration d) = nat_lt greatest_time d
 is_late b _ = false
 
 abbrev pub next : Bool → Terminal → Bool
@@ -179,12 +179,12 @@ later b [] = b
 later b (x ∷ xs) = later (next b x) xs
 
 late_same : (x : Terminal) (u : token.Sort) (b : Bool) → Fits x u → is_too_large b u ≡ false → is_late b x ≡ false
-late_same (grammar.number n) (token.number m) b f h = ap (λ k. b && nat_lt maxt (nat_abs k / 1000)) (sym f) ∙ h
+late_same (grammar.number n) (token.number m) b f h = ap (λ k. b && nat_lt greatest_time (nat_abs k / 1000)) (sym f) ∙ h
 late_same (grammar.number n) (token.word w) b f h = absurd f
 late_same (grammar.number n) (token.duration w) b f h = absurd f
 late_same (grammar.number n) (token.string w) b f h = absurd f
 late_same (grammar.number n) (token.sign w) b f h = absurd f
-late_same (grammar.duration n) (token.duration m) b f h = ap (λ k. nat_lt maxt k) (sym f) ∙ h
+late_same (grammar.duration n) (token.duration m) b f h = ap (λ k. nat_lt greatest_time k) (sym f) ∙ h
 late_same (grammar.duration n) (token.word w) b f h = absurd f
 late_same (grammar.duration n) (token.number w) b f h = absurd f
 late_same (grammar.duration n) (token.string w) b f h = absurd f

@@ -3,6 +3,7 @@ use Rattle.std.proofs.Common.{◌≡◌, refl, ap, subst, ℕ, zero, suc, ◌+�
 use Rattle.std.proofs.lemmas.List.{length-map}
 use Rattle.std.specs.List.{All}
 use Rattle.std.specs.Option.{option_or}
+use Rattle.pf_model.specs.Cuts.{only_if}
 use Rattle.pf_lex.specs.declared.token.Token as read
 use Rattle.pf_lex.specs.Seen.{IsTokenOf}
 use Rattle.pf_model.specs.Clauses.{Matched}
@@ -11,7 +12,7 @@ use Rattle.pf_model.specs.declared.expr.Function.{Function}
 use Rattle.pf_model.specs.Grammar.{Terminal, Written, Arguments, brackets, call, aggregate, unary, binary, select, subquery, none, more, text_of, texts_of, more_texts, FitAll, IsLawful, AreLawful, Derives, Braces, AreSelected, selected_text, these, range_text, modifiers_text, before_text, behind_text, bool_text, keys_text, operator_terminal, meaning, meanings, both, grouped_of, matched_of, mods_of}
 use Rattle.pf_model.specs.Grammar as grammar
 use Rattle.pf_model.specs.Parsing.{sorts, Parses}
-use Rattle.pf_model.specs.Tokens.{Sort, Token, AreTokens, BeginsWith, end_of, form, inside_behind, lawful, longest, may_precede, only_if, token_at}
+use Rattle.pf_model.specs.Tokens.{Sort, Token, AreTokens, BeginsWith, end_of, form, inside_behind, lawful, longest, may_precede, token_at}
 use Rattle.pf_model.specs.Trees.{Tree, Trees, size, sizes}
 use Rattle.pf_model.specs.Trees as tree
 use Rattle.pf_model.specs.Words.{function_of}

@@ -1,7 +1,7 @@
 -- What a reader of queries sees of a token: a word and the keyword that it is, a sign, or a literal. This project's own.
 use Rattle.std.specs.Prelude.{ℕ, ℤ, true, false, cond, codes, List, [], ◌∷◌, ◌≤◌, nat_le, Option, Some, None}
 use Rattle.std.specs.Str.{bytes_eq, str_to_ascii_lowercase}
-use Rattle.pf_base.specs.Grids.{maxt}
+use Rattle.pf_base.specs.Limits.{greatest_time}
 use Rattle.pf_lex.specs.declared.token.Mark.{Mark}
 use Rattle.pf_lex.specs.declared.token.Mark.TheVariants as mark
 use Rattle.pf_lex.specs.Seen.{written}
@@ -75,7 +75,7 @@ mark_of bytes = mark_among all_marks bytes
 
 -- a time up to the greatest
 abbrev pub within_limit : ℕ → Option ℕ
-within_limit millis = cond (nat_le millis maxt) (Some millis) None
+within_limit millis = cond (nat_le millis greatest_time) (Some millis) None
 
 abbrev pub lexeme_of : token.Sort → Lexeme
 lexeme_of (token.word w) = word (keyword_of w) w
@@ -133,5 +133,5 @@ seen (shown.Mark m) = sign (Some m)
 
 -- a duration is within the limit
 abbrev pub IsTimely : Lexeme → Type 0
-IsTimely (duration (Some d)) = d ≤ maxt
+IsTimely (duration (Some d)) = d ≤ greatest_time
 IsTimely _ = Unit {0}

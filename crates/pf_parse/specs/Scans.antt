@@ -1,7 +1,7 @@
 -- The scans of a query's tokens for brackets, names and times, as the code makes them. This project's own.
 use Rattle.std.specs.Prelude.{ℕ, ◌+◌, ◌-◌, ◌/◌, nat_abs, nat_le, nat_lt, Bool, true, false, not, cond, ◌&&◌, ◌||◌, List, [], ◌∷◌, length, Option, Some, None, zero, suc}
 use Rattle.std.specs.Option.{is_none}
-use Rattle.pf_base.specs.Grids.{maxt}
+use Rattle.pf_base.specs.Limits.{greatest_time}
 use Rattle.pf_lex.specs.declared.token.Mark.TheVariants as mark
 use Rattle.pf_lex.specs.declared.token.Token.{Token}
 use Rattle.pf_lex.specs.declared.token.TokenSort.{TokenSort}
@@ -59,7 +59,7 @@ lost_at text behind_at [] = None
 lost_at text behind_at (t ∷ ts) = cond (not behind_at && is_lost text t ts) (Some t.from) (lost_at text (is_at t.sort) ts)
 
 abbrev pub is_late : Bool → TokenSort → Bool
-is_late behind_at (sort.Number micros) = behind_at && nat_lt maxt (nat_abs micros / 1000)
+is_late behind_at (sort.Number micros) = behind_at && nat_lt greatest_time (nat_abs micros / 1000)
 is_late behind_at (sort.Duration millis) = is_none millis
 is_late behind_at _ = false
 

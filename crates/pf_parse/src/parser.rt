@@ -3,7 +3,7 @@
 ghost use Rattle.std.specs.Prelude.{◌≡◌, ◌<◌, ◌≤◌, length, map, None, Ok, Err, IfErr, IfOk};
 ghost use Rattle.std.specs.List.{All};
 ghost use Rattle.pf_lex.specs.Seen.{IsTokenOf, token_of};
-ghost use Rattle.pf_model.specs.Parsing.{Parses};
+ghost use Rattle.pf_model.specs.Parsing.{Parses, most_bytes};
 ghost use Rattle.pf_model.specs.Tokens.{AreTokens};
 ghost use Rattle.pf_model.specs.Trees.{Tree, size, tree_of};
 ghost use Rattle.pf_parse.specs.Refusals.{IsAnswered, IsRefused};
@@ -24,13 +24,13 @@ use std::alloc::Global;
 /// the refusals before that comes.
 #[tactic(auto, using(crate::proofs::Parsed::parsed, crate::proofs::Sizes::read_small, crate::proofs::Parsed::refused_unknown, crate::proofs::Parsed::refused_late, crate::proofs::Parsed::refused_tall))]
 fn answer(text: &str, tokens: &[Token], held: Option<Measured>) -> Result<Expr, ParseError>
-    requires short { length text.now ≤ 65536 }
+    requires short { length text.now ≤ most_bytes }
     requires tokens { AreTokens text.now (map (token_of text.now) tokens.now) }
     requires parts { All (IsTokenOf text.now) tokens.now }
     requires shallow { deep_at 0 tokens.now ≡ None }
     requires read { run start (lexemes_of text.now tokens.now) ≡ Ok held }
     ensures parses { IfOk result (λ e. Parses text.now (tree_of e)) }
-    ensures small { IfOk result (λ e. size (tree_of e) ≤ 65536) }
+    ensures small { IfOk result (λ e. size (tree_of e) ≤ most_bytes) }
     ensures refuses { IfErr result (IsRefused text.now) }
 {
     if let Some(at) = unknown_at(text, tokens) {
@@ -47,11 +47,11 @@ fn answer(text: &str, tokens: &[Token], held: Option<Measured>) -> Result<Expr, 
 
 #[tactic(auto, using(crate::proofs::Parsed::refused_deep, crate::proofs::Parsed::refused_unexpected))]
 fn parse_tokens(alloc: Global, text: &str, tokens: &[Token]) -> Result<Expr, ParseError>
-    requires short { length text.now ≤ 65536 }
+    requires short { length text.now ≤ most_bytes }
     requires tokens { AreTokens text.now (map (token_of text.now) tokens.now) }
     requires parts { All (IsTokenOf text.now) tokens.now }
     ensures parses { IfOk result (λ e. Parses text.now (tree_of e)) }
-    ensures small { IfOk result (λ e. size (tree_of e) ≤ 65536) }
+    ensures small { IfOk result (λ e. size (tree_of e) ≤ most_bytes) }
     ensures refuses { IfErr result (IsRefused text.now) }
 {
     if let Some(at) = too_deep_at(tokens) {
@@ -68,9 +68,9 @@ fn parse_tokens(alloc: Global, text: &str, tokens: &[Token]) -> Result<Expr, Par
 
 fn parse_text(alloc: Global, text: &str) -> Result<Expr, ParseError>
     ensures parses { IfOk result (λ e. Parses text.now (tree_of e)) }
-    ensures small { IfOk result (λ e. size (tree_of e) ≤ 65536) }
+    ensures small { IfOk result (λ e. size (tree_of e) ≤ most_bytes) }
     ensures refuses { IfErr result (IsRefused text.now) }
-    ensures long { 65536 < length text.now → result ≡ Err TooLong }
+    ensures long { most_bytes < length text.now → result ≡ Err TooLong }
 {
     match tokens(alloc, text) {
         Ok(tokens) => parse_tokens(alloc, text, &tokens),
@@ -82,10 +82,10 @@ fn parse_text(alloc: Global, text: &str) -> Result<Expr, ParseError>
 /// sum of the selector `a` and the product of the selector `b` and 2, and `a + * 2` is refused as `Unexpected` at 4.
 pub fn parse(alloc: Global, text: &str) -> Result<Expr, ParseError>
     ensures parses { IfOk result (λ e. Parses text.now (tree_of e)) }
-    ensures small { IfOk result (λ e. size (tree_of e) ≤ 65536) }
+    ensures small { IfOk result (λ e. size (tree_of e) ≤ most_bytes) }
     ensures refuses { IfErr result (IsRefused text.now) }
     ensures exact { (t : Tree) → Parses text.now t → IsAnswered t result }
-    ensures long { 65536 < length text.now → result ≡ Err TooLong }
+    ensures long { most_bytes < length text.now → result ≡ Err TooLong }
 {
     parse_text(alloc, text)
 }

@@ -2,6 +2,7 @@
 
 ghost use Rattle.std.specs.Prelude.{◌≡◌, ◌≤◌, ◌&&◌, false, length, not};
 ghost use Rattle.std.specs.List.{All};
+ghost use Rattle.pf_model.specs.Parsing.{most_bytes};
 ghost use Rattle.pf_lex.specs.Seen.{IsTokenOf};
 ghost use Rattle.pf_parse.specs.Scans.{begins_open, closes, deep_at, is_at, is_behind_at, is_deep, is_front, is_late, is_lost, is_open, is_word, late_at, lost_at, names_nothing, open_behind, opens, place_at};
 
@@ -159,7 +160,7 @@ pub fn too_large_at(tokens: &[Token]) -> Option<u32>
 /// The place of the token with this number, or of the text's end.
 #[tactic(auto, using(crate::proofs::Scanning::place_within, crate::proofs::Scanning::place_behind))]
 pub fn place_at(text: &str, tokens: &[Token], number: usize) -> u32
-    requires { length text.now ≤ 65536 }
+    requires { length text.now ≤ most_bytes }
     ensures { result ≡ place_at text.now tokens.now number }
 {
     if number < tokens.len() {

@@ -2,8 +2,9 @@
 use Rattle.std.proofs.Common.{◌≡◌, ◌∙◌, sym, refl, ap, ℕ, Bool, List, [], ◌∷◌, ◌++◌, map, Option, codes}
 use Rattle.std.proofs.lemmas.List.{append_assoc}
 use Rattle.std.specs.Prelude.{Box, Vec}
+use Rattle.pf_model.specs.Lists.{separated}
 use Rattle.pf_model.proofs.TreeOf.{unary_tree, binary_tree, call_tree, aggregate_tree, select_tree, subquery_tree}
-use Rattle.pf_model.specs.Canonical.{bool_text, canonical, canonicals, group_text, grouping_text, in_brackets, keys_text, separated}
+use Rattle.pf_model.specs.Canonical.{bool_text, canonical, canonicals, group_text, grouping_text, in_brackets, keys_text}
 use Rattle.pf_model.specs.Clauses.{Grouped, Matched}
 use Rattle.pf_model.specs.declared.expr.BinaryOp.{BinaryOp}
 use Rattle.pf_model.specs.declared.expr.Expr.{Expr}

@@ -1,6 +1,6 @@
 -- Trees that texts derive have canonical texts of their own, and are such trees still once their range is put in.
 use Rattle.std.proofs.Common.{◌≡◌, ◌≤◌, ℕ, ◌+◌, max, ap, arith, refl, subst, sym, Option, Some, None, IfSome}
-use Rattle.pf_base.specs.Grids.{maxt}
+use Rattle.pf_base.specs.Limits.{greatest_time}
 use Rattle.pf_lex.proofs.Printable.{can_be_printed}
 use Rattle.pf_lex.specs.CanonicalTokens.{ArePrintable, AreMods, HasTree, IsMoment, IsPrintable, IsTime}
 use Rattle.pf_model.specs.Canonical.{canonical}
@@ -25,7 +25,7 @@ have_own_texts t u h k low same =
 
 -- ---- the range put in
 
-module _ (start end : ℕ) (first : start ≤ maxt) (last : end ≤ maxt) where
+module _ (start end : ℕ) (first : start ≤ greatest_time) (last : end ≤ greatest_time) where
   moment : (a : Option At) → IfSome a IsMoment → IfSome (resolved_at start end a) IsMoment
   moment None h = tt
   moment (Some (at.Time m)) h = h

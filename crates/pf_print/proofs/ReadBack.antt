@@ -4,7 +4,7 @@ use Rattle.std.proofs.Common.{◌≡◌, ◌∙◌, sym, refl, ap, subst, ℕ, z
 use Rattle.std.proofs.lemmas.Bool.{lt-leb}
 use Rattle.std.proofs.lemmas.List.{append_assoc, append-nil}
 use Rattle.std.specs.Option.{is_none}
-use Rattle.pf_base.specs.Grids.{maxt}
+use Rattle.pf_base.specs.Limits.{greatest_time}
 use Rattle.pf_lex.proofs.CanonicalTexts.{canonical_is_cut}
 use Rattle.pf_lex.proofs.Printable.{can_be_printed}
 use Rattle.pf_lex.specs.CanonicalTokens.{HasTree, IsPrintable, ArePrintable, IsTime, AreMods, IsOffset, in_brackets, behind_commas, separated, matcher_sorts, selector_sorts, range_sorts, at_sorts, offset_sorts, mods_sorts, label_sort, labels_sorts, bool_sorts, operator_sort, keys_sorts, group_sorts, grouping_sorts, resolution_sorts, sorts_of, all_sorts}
@@ -80,8 +80,8 @@ bracketed : (c : ℕ) (xs zs : List Sort) → c < 64 → Quiet (c + 1) (xs ++ (s
 bracketed c xs zs h q =
     (step (room c h) refl refl (subst (Quiet (c + 1)) (sym (append_assoc xs (sign (codes ")") ∷ []) zs)) q))
 
-in_time : (d : ℕ) → IsTime d → nat_lt maxt d ≡ false
-in_time d h = lt-leb (suc maxt) d (omega (arith, h))
+in_time : (d : ℕ) → IsTime d → nat_lt greatest_time d ≡ false
+in_time d h = lt-leb (suc greatest_time) d (omega (arith, h))
 
 no_bracket : (x y : Bool) → (x && false && y) ≡ false
 no_bracket true y = refl
@@ -156,8 +156,8 @@ range_fine : (c : ℕ) (r : Option ℕ) (zs : List Sort) → c < 64 → IfSome r
 range_fine c None zs h t q = q
 range_fine c (Some d) zs h t q = (step (room c h) refl refl (duration_fine (c + 1) d _ t (square_fine c zs q)))
 
-moment_late : (m : ℕ) → IsTime m → nat_lt maxt (m * 1000 / 1000) ≡ false
-moment_late m h = lt-leb (suc maxt) (m * 1000 / 1000) (omega (arith, h))
+moment_late : (m : ℕ) → IsTime m → nat_lt greatest_time (m * 1000 / 1000) ≡ false
+moment_late m h = lt-leb (suc greatest_time) (m * 1000 / 1000) (omega (arith, h))
 
 at_fine : (c : ℕ) (a : Option At) (zs : List Sort) → c < 64 → IfSome a shown.IsMoment → Quiet c zs → Quiet c (at_sorts a ++ zs)
 at_fine c None zs h t q = q

@@ -3,7 +3,7 @@ use Rattle.std.proofs.Common.{◌≡◌, ◌∙◌, sym, refl, ap, ℕ, zero, su
 use Rattle.std.proofs.lemmas.Bool.Decides.{nat_tests}
 use Rattle.std.proofs.lemmas.List.{append_assoc, append-nil, map-append}
 use Rattle.std.proofs.Math.Seq.{take-suc}
-use Rattle.pf_model.specs.Canonical.{all_behind, separated}
+use Rattle.pf_model.specs.Lists.{all_behind, separated}
 use Rattle.pf_print.specs.Printed.{comma_before}
 
 behind_onto : (s : List ℕ) (xs : List (List ℕ)) (y : List ℕ) → all_behind s (xs ++ (y ∷ [])) ≡ all_behind s xs ++ (s ++ y)

@@ -1,6 +1,6 @@
 -- Canonical texts that different queries have, and queries whose range is put in: this project's own.
 use Rattle.std.specs.Prelude.{◌≡◌, ◌≤◌, ℕ, List}
-use Rattle.pf_base.specs.Grids.{maxt}
+use Rattle.pf_base.specs.Limits.{greatest_time}
 use Rattle.pf_lex.specs.CanonicalTokens.{HasTree}
 use Rattle.pf_model.specs.Canonical.{canonical}
 use Rattle.pf_model.specs.Resolving.{resolved}
@@ -17,4 +17,4 @@ HaveOwnTexts = (t u : Tree) → HasText t → HasText u → height t ≤ 64 → 
 -- such a tree of at most 64 levels is still one once the times of its range are put in
 abbrev pub KeepTexts : Type 0
 KeepTexts =
-    (start end : ℕ) (t : Tree) → start ≤ maxt → end ≤ maxt → HasText t → height t ≤ 64 → HasText (resolved start end t)
+    (start end : ℕ) (t : Tree) → start ≤ greatest_time → end ≤ greatest_time → HasText t → height t ≤ 64 → HasText (resolved start end t)

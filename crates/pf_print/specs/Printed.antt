@@ -1,6 +1,7 @@
 -- Pieces of canonical texts, as the code writes them. This project's own.
 use Rattle.std.specs.Prelude.{ℕ, ◌&&◌, Bool, not, codes, cond, map, nat_eq, List, [], ◌++◌, Option}
-use Rattle.pf_model.specs.Canonical.{bool_text, canonical, group_text, grouping_text, in_brackets, is_one, keys_text, millis_text, mods_text, range_text, resolution_text, selector_text, separated}
+use Rattle.pf_model.specs.Lists.{separated}
+use Rattle.pf_model.specs.Canonical.{bool_text, canonical, group_text, grouping_text, in_brackets, is_one, keys_text, millis_text, mods_text, range_text, resolution_text, selector_text}
 use Rattle.pf_model.specs.Clauses.{Grouped, Matched}
 use Rattle.pf_model.specs.declared.expr.BinaryOp.{BinaryOp}
 use Rattle.pf_model.specs.declared.expr.Expr.{Expr}

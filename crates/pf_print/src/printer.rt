@@ -1,9 +1,10 @@
 //! Queries written as canonical texts.
 
 ghost use Rattle.std.specs.Prelude.{◌≡◌, ◌++◌, ◌∷◌, codes, cond, map, not, IfOk, OnOk, List, ℕ, ◌≤◌, length};
-ghost use Rattle.pf_model.specs.Canonical.{all_behind, at_text, canonical, group_text, grouping_text, in_brackets, keys_text, labels_text, matcher_text, mods_text, offset_text, range_text, resolution_text, selector_text};
+ghost use Rattle.pf_model.specs.Lists.{all_behind};
+ghost use Rattle.pf_model.specs.Canonical.{at_text, canonical, group_text, grouping_text, in_brackets, keys_text, labels_text, matcher_text, mods_text, offset_text, range_text, resolution_text, selector_text};
 ghost use Rattle.pf_lex.specs.CanonicalTokens.{HasTree};
-ghost use Rattle.pf_model.specs.Parsing.{Parses};
+ghost use Rattle.pf_model.specs.Parsing.{Parses, most_bytes};
 ghost use Rattle.pf_model.specs.Trees.{Tree, height, tree_of};
 ghost use Rattle.pf_print.specs.Printed.{IsDerivedBy, aggregate_text, args_text, call_text, comma_before, expr_text, has_keys, operator_between, over_text, right_text, select_text, subquery_text, unary_text};
 
@@ -367,7 +368,7 @@ pub fn print(alloc: Global, expr: &Expr) -> Result<Text, OutOfMemory>
     ensures canonical { IfOk result (λ t. t ≡ canonical (tree_of expr.now)) }
     ensures derives { (text : List ℕ) → HasTree text (tree_of expr.now) → IfOk result (λ t. IsDerivedBy t (tree_of expr.now)) }
     ensures only { (text : List ℕ) → HasTree text (tree_of expr.now) → height (tree_of expr.now) ≤ 64 → IfOk result (λ t. (u : Tree) → IsDerivedBy t u → u ≡ tree_of expr.now) }
-    ensures read_back { (text : List ℕ) → HasTree text (tree_of expr.now) → height (tree_of expr.now) ≤ 64 → IfOk result (λ t. length t ≤ 65536 → Parses t (tree_of expr.now)) }
+    ensures read_back { (text : List ℕ) → HasTree text (tree_of expr.now) → height (tree_of expr.now) ≤ 64 → IfOk result (λ t. length t ≤ most_bytes → Parses t (tree_of expr.now)) }
 {
     printed(alloc, expr)
 }

@@ -2,6 +2,7 @@
 use Rattle.std.specs.Arc.{arc_value}
 use Rattle.std.specs.Prelude.{◌≡◌, ℕ, zero, suc, ◌+◌, ◌-◌, ◌*◌, ◌/◌, ◌%◌, ◌<◌, ◌≤◌, Bool, true, false, Some, List, [], ◌∷◌, length, slice_get, slice_set, map}
 use Rattle.pf_base.specs.GridLists.{GridData}
+use Rattle.pf_base.specs.Limits.{most_steps}
 use Rattle.pf_base.specs.declared.plain.JobHead.{JobHead}
 use Rattle.pf_block.specs.Snaps.{SnapData}
 use Rattle.pf_model.specs.Lists.{Each}
@@ -47,7 +48,7 @@ empty_slots (suc n) = Empty ∷ empty_slots n
 -- a slot for each run and each of the lawful legs; each is handed out where all are
 pub record IsWork (w : WorkData) : Type 0 where
   pub lawful : IsLawful (legs_data w.legs)
-  pub few : length w.runs ≤ 11001
+  pub few : length w.runs ≤ most_steps + 1
   pub many : length w.slots ≡ length w.runs * legs_in w.legs
   pub handed : Each (λ s. is_handed s ≡ w.given) w.slots
 

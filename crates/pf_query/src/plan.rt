@@ -2,6 +2,7 @@
 
 ghost use Rattle.std.specs.Arc.{arc_value};
 ghost use Rattle.std.specs.Prelude.{◌≡◌, ◌≤◌, IfOk, length};
+ghost use Rattle.pf_base.specs.Limits.{most_steps};
 ghost use Rattle.pf_shard.specs.Lawful.{IsLawful, legs_data};
 ghost use Rattle.pf_query.specs.Works.{ArePlanned, IsJobOver, last_of};
 
@@ -59,7 +60,7 @@ pub fn planned_jobs(
     snap: &Arc<Snap>,
 ) -> Result<Vec<Job>, OutOfMemory>
     requires lawful { IsLawful (legs_data (arc_value legs.now)) }
-    requires few { length runs.now ≤ 11001 }
+    requires few { length runs.now ≤ most_steps + 1 }
     ensures { IfOk result (λ v. ArePlanned tenant query (arc_value legs.now) runs.now (arc_value snap.now) v.items) }
 {
     let count = leg_count(legs);

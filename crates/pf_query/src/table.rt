@@ -4,6 +4,7 @@ ghost use Rattle.std.specs.Arc.{arc_value};
 ghost use Rattle.std.specs.HashMap.{get};
 ghost use Rattle.std.specs.Option.{option_map};
 ghost use Rattle.std.specs.Prelude.{◌≡◌, ℕ, ◌<◌, ◌≤◌, [], IfOk, IfErr, IfSome, IsSome, None, OnErr, OnOk, Some, length, nat_eq};
+ghost use Rattle.pf_base.specs.Limits.{most_steps};
 ghost use Rattle.pf_journal.specs.Machine.{most_tenants};
 ghost use Rattle.pf_shard.specs.Lawful.{IsLawful, legs_data};
 ghost use Rattle.pf_query.specs.Entries.{state_of};
@@ -89,8 +90,8 @@ impl Table {
         requires table { IsTable self.old }
         requires outstanding { IsSome (entry_in self.old query) }
         requires lawful { IsLawful (legs_data (arc_value legs)) }
-        requires few { length runs.items ≤ 11001 }
-        requires few_cached { steps_in cached.items ≤ 11001 }
+        requires few { length runs.items ≤ most_steps + 1 }
+        requires few_cached { steps_in cached.items ≤ most_steps + 1 }
         ensures ok { IfOk result (λ p. IsPlannedOver self.old query (arc_value legs) runs.items cached.items offered (arc_value snap.now) p.jobs self.new) }
         ensures cached { IfOk result (λ p. p.cached ≡ steps_in cached.items) }
         ensures err { IfErr result (λ e. IsUnplanned (entry_in self.old query) e × IsSameTable self.old self.new) }

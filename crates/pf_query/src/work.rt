@@ -2,6 +2,7 @@
 
 ghost use Rattle.std.specs.Arc.{arc_value};
 ghost use Rattle.std.specs.Prelude.{◌≡◌, ◌<◌, ◌≤◌, ◌+◌, ◌++◌, false, IfOk, length, map, vec_capacity};
+ghost use Rattle.pf_base.specs.Limits.{most_steps};
 ghost use Rattle.pf_model.specs.Lists.{Each};
 ghost use Rattle.pf_shard.specs.Lawful.{IsLawful, legs_data};
 ghost use Rattle.pf_query.specs.Covers.{covers};
@@ -94,8 +95,8 @@ impl Work {
         offered: bool,
     ) -> Result<Work, OutOfMemory>
         requires lawful { IsLawful (legs_data (arc_value legs)) }
-        requires few { length runs.items ≤ 11001 }
-        requires few_cached { steps_in cached.items ≤ 11001 }
+        requires few { length runs.items ≤ most_steps + 1 }
+        requires few_cached { steps_in cached.items ≤ most_steps + 1 }
         ensures { IfOk result (λ w. w ≡ planned_work (arc_value legs) runs.items cached.items offered) }
     {
         let count = count_steps(&cached);

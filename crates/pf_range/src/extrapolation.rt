@@ -3,6 +3,7 @@
 ghost use Rattle.std.specs.Prelude.{◌≡◌, ◌<◌, ◌≤◌, ℤ, pos, ◌-ℤ◌, ◌*ℤ◌, ◌<ℤ◌, ◌≤ℤ◌, int_div, length, MatchOption};
 ghost use Rattle.std.specs.Int.{int_min};
 ghost use Rattle.pf_base.specs.Arithmetic.{clamp};
+ghost use Rattle.pf_base.specs.Limits.{greatest_value};
 ghost use Rattle.pf_model.specs.RangeFunctions.{change, counter_covered, covered, gap, growth, of_two, span};
 ghost use Rattle.pf_range.specs.Extrapolation.{change_of, Extends, growth_of, IsLength, IsStretched, limited, stretch_of};
 ghost use Rattle.pf_range.specs.Windows.{IsFew, IsWindow};
@@ -63,8 +64,8 @@ fn stretch_over(first: i64, last: i64, count: u64, from: i64, to: i64) -> Stretc
 fn at_most(gap: i64, span: i64, first: i64, growth: i64) -> i64
     requires gap { IsLength gap }
     requires span { IsLength span }
-    requires first { (pos 0 ≤ℤ first) × (first ≤ℤ pos 1000000000000000000) }
-    requires growth { (pos 0 <ℤ growth) × (growth ≤ℤ pos 1000000000000000000) }
+    requires first { (pos 0 ≤ℤ first) × (first ≤ℤ greatest_value) }
+    requires growth { (pos 0 <ℤ growth) × (growth ≤ℤ greatest_value) }
     ensures value { result ≡ int_min gap (int_div (span *ℤ first) growth) }
     ensures within { IsLength result }
 {

@@ -3,7 +3,7 @@ use Rattle.std.proofs.Common.{◌≡◌, ℕ, Bor, Option, Some, None, Bool, tru
 use Rattle.std.specs.Fmt.{decimal, digits}
 use Rattle.std.specs.Str.{bytes_eq}
 use Rattle.pf_base.specs.Batches.{BatchData}
-use Rattle.pf_base.specs.Grids.{maxt}
+use Rattle.pf_base.specs.Limits.{greatest_time}
 use Rattle.pf_model.specs.declared.expr.Matcher.{Matcher}
 use Rattle.pf_store.specs.Verdicts.{VerdictsData}
 use Rattle.pf_journal.specs.Asking.{Asked}
@@ -57,11 +57,11 @@ abbrev unselected : ℕ → List ℕ → Bool → List ℕ
 unselected n tenant refused =
     reply_line n (codes "delete") tenant (cond refused (codes "bad" ∷ codes "range" ∷ []) (codes "bad" ∷ codes "selector" ∷ []))
 
-pub delete_bad_range : (n : ℕ) (tenant : List ℕ) (from to : ℕ) → (nat_lt to from || nat_lt maxt to) ≡ true
+pub delete_bad_range : (n : ℕ) (tenant : List ℕ) (from to : ℕ) → (nat_lt to from || nat_lt greatest_time to) ≡ true
     → delete_text n tenant deleting.BadRange ≡ delete_reply n tenant from to nothing None
 delete_bad_range n tenant from to h = ap (unselected n tenant) (sym h)
 
-pub delete_bad_selector : (n : ℕ) (tenant : List ℕ) (from to : ℕ) → (nat_lt to from || nat_lt maxt to) ≡ false
+pub delete_bad_selector : (n : ℕ) (tenant : List ℕ) (from to : ℕ) → (nat_lt to from || nat_lt greatest_time to) ≡ false
     → delete_text n tenant deleting.BadSelector ≡ delete_reply n tenant from to nothing None
 delete_bad_selector n tenant from to h = ap (unselected n tenant) (sym h)
 

@@ -1,15 +1,12 @@
 -- Bounds of the times that stand in a query, so that each time that it reads has a number: this project's own.
 use Rattle.std.specs.Prelude.{ℕ, ◌+◌, ◌*◌, ◌≤◌, ℤ, Bool, true, ◌&&◌, Option, Some, nat_le, unsigned_abs, unwrap_or}
+use Rattle.pf_base.specs.Limits.{greatest_time}
 use Rattle.pf_model.specs.declared.expr.At.{At}
 use Rattle.pf_model.specs.declared.expr.At.TheVariants as at
 use Rattle.pf_model.specs.declared.expr.Mods.{Mods}
 use Rattle.pf_model.specs.Evaluation.{resolution_or_minute}
 use Rattle.pf_model.specs.Trees as tree
 use Rattle.pf_model.specs.Trees.{Tree, Trees, height}
-
--- the greatest time of a sample, in milliseconds
-abbrev pub greatest_time : ℕ
-greatest_time = 4398046511103
 
 abbrev pub is_small_at : Option At → Bool
 is_small_at (Some (at.Time millis)) = nat_le millis greatest_time

@@ -1,6 +1,7 @@
 //! The times that a query reads.
 
 ghost use Rattle.std.specs.Prelude.{◌≡◌, ◌+◌, ◌*◌, ◌<◌, ◌≤◌, ◌≤ℤ◌, ◌<ℤ◌, ℤ, pos, ◌-ℤ◌, ◌*ℤ◌, true, unsigned_abs, map};
+ghost use Rattle.pf_base.specs.Limits.{greatest_time};
 ghost use Rattle.pf_model.specs.Evaluation.{fixed_time, multiples, read_time};
 ghost use Rattle.pf_model.specs.Micros.{cut_down};
 ghost use Rattle.pf_model.specs.Reach.{all_times_read, all_together, lowest, reach, times_read, together, window_times};
@@ -64,7 +65,7 @@ fn read_time(mods: Mods, t: i64) -> i64
 /// A time in whole steps, cut down; where the step is 0, the time before 0 is -1 and every other 0.
 fn cut_down(time: i64, step: u64) -> i64
     requires room { unsigned_abs time ≤ 2251799813685248 }
-    requires step { step ≤ 4398046511103 }
+    requires step { step ≤ greatest_time }
     ensures { result ≡ cut_down time step }
 {
     if step == 0 {
@@ -75,7 +76,7 @@ fn cut_down(time: i64, step: u64) -> i64
 
 /// The times that a selector reads whose window ends at a time.
 fn window_times(range: u64, to: i64) -> Times
-    requires small { range ≤ 4398046511103 }
+    requires small { range ≤ greatest_time }
     requires room { unsigned_abs to ≤ 2251799813685248 }
     ensures { times_in (Some result) ≡ window_times range to }
 {
@@ -87,7 +88,7 @@ fn window_times(range: u64, to: i64) -> Times
 
 /// The number of multiples of a step in (from, to].
 fn count_of(step: u64, from: i64, to: i64) -> u64
-    requires step { step ≤ 4398046511103 }
+    requires step { step ≤ greatest_time }
     requires order { from ≤ℤ to }
     requires first { unsigned_abs from ≤ 2251799813685248 }
     requires last { unsigned_abs to ≤ 2251799813685248 }
@@ -107,7 +108,7 @@ fn step_back(last: i64, steps: u64) -> i64
 }
 
 fn product(count: i64, step: u64) -> i64
-    requires step { step ≤ 4398046511103 }
+    requires step { step ≤ greatest_time }
     requires within { unsigned_abs (count *ℤ pos step) ≤ 2251799813685248 }
     ensures { result ≡ count *ℤ pos step }
 {
@@ -116,7 +117,7 @@ fn product(count: i64, step: u64) -> i64
 
 /// The multiple of a step in (from, to] with so many behind it.
 fn multiple(step: u64, from: i64, to: i64, behind: u64) -> i64
-    requires step { step ≤ 4398046511103 }
+    requires step { step ≤ greatest_time }
     requires order { from ≤ℤ to }
     requires first { unsigned_abs from ≤ 2251799813685248 }
     requires last { unsigned_abs to ≤ 2251799813685248 }
@@ -129,11 +130,11 @@ fn multiple(step: u64, from: i64, to: i64, behind: u64) -> i64
 }
 
 fn window_start(range: u64, to: i64) -> i64
-    requires range { range ≤ 4398046511103 }
+    requires range { range ≤ greatest_time }
     requires room { unsigned_abs to ≤ 2251799813685248 }
     ensures value { result ≡ to -ℤ pos range }
     ensures order { result ≤ℤ to }
-    ensures size { unsigned_abs result ≤ unsigned_abs to + 4398046511103 }
+    ensures size { unsigned_abs result ≤ unsigned_abs to + greatest_time }
 {
     to - range as i64
 }
@@ -142,9 +143,9 @@ fn window_start(range: u64, to: i64) -> i64
 #[cycle(times)]
 fn times_at_multiples(arg: &Expr, range: u64, step: u64, to: i64) -> Option<Times>
     requires small { is_small (tree_of arg.now) ≡ true }
-    requires range { range ≤ 4398046511103 }
-    requires step { step ≤ 4398046511103 }
-    requires room { unsigned_abs to + 4398046511103 + 17592186044416 * height (tree_of arg.now) ≤ 2251799813685248 }
+    requires range { range ≤ greatest_time }
+    requires step { step ≤ greatest_time }
+    requires room { unsigned_abs to + greatest_time + 17592186044416 * height (tree_of arg.now) ≤ 2251799813685248 }
     ensures { times_in result ≡ all_together (map (λ u. times_read (tree_of arg.now) u) (multiples step (to -ℤ pos range) to)) }
 {
     let from = window_start(range, to);
@@ -202,7 +203,7 @@ fn times_read(expr: &Expr, t: i64) -> Option<Times>
 pub fn reach(expr: &Expr, t: i64) -> Option<i64>
     requires tall { height (tree_of expr.now) ≤ 64 }
     requires small { is_small (tree_of expr.now) ≡ true }
-    requires time { (pos 0 ≤ℤ t) × (t ≤ℤ pos 4398046511103) }
+    requires time { (pos 0 ≤ℤ t) × (t ≤ℤ pos greatest_time) }
     ensures { result ≡ reach (tree_of expr.now) t }
 {
     let times = times_read(expr, t)?;
@@ -214,7 +215,7 @@ pub fn reach(expr: &Expr, t: i64) -> Option<i64>
 pub fn lowest(expr: &Expr, t: i64) -> Option<i64>
     requires tall { height (tree_of expr.now) ≤ 64 }
     requires small { is_small (tree_of expr.now) ≡ true }
-    requires time { (pos 0 ≤ℤ t) × (t ≤ℤ pos 4398046511103) }
+    requires time { (pos 0 ≤ℤ t) × (t ≤ℤ pos greatest_time) }
     ensures { result ≡ lowest (tree_of expr.now) t }
 {
     let times = times_read(expr, t)?;

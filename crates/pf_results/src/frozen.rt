@@ -2,6 +2,7 @@
 
 ghost use Rattle.std.specs.Prelude.{◌≡◌, ℕ, ◌+◌, ◌<◌, ◌≤◌, ◌++◌, not, IfOk, IfSome, length};
 ghost use Rattle.pf_base.specs.Grids.{points};
+ghost use Rattle.pf_base.specs.Limits.{greatest_time};
 ghost use Rattle.pf_extent.specs.Combining.{combined};
 ghost use Rattle.pf_extent.specs.Steps.{AreSpaced, Extents, IsLawful};
 ghost use Rattle.pf_model.specs.Trees.{tree_of};
@@ -18,7 +19,7 @@ use std::alloc::Global;
 /// Whether no later sample changes what a query is at a time.
 fn is_fixed(expr: &Expr, asker: &Asker, time: u64) -> bool
     requires query { CanBeAsked (tree_of expr.now) }
-    requires time { time ≤ 4398046511103 }
+    requires time { time ≤ greatest_time }
     ensures { result ≡ is_fixed (tree_of expr.now) asker.now time }
 {
     is_below(reach(expr, time as i64), asker.floor)

@@ -3,6 +3,7 @@
 ghost use Rattle.std.specs.Prelude.{◌≡◌, ℕ, ◌+◌, ◌≤◌, ◌++◌, not, [], IfOk, IfSome, OnErr, OnOk, length, take};
 ghost use Rattle.lru.specs.LruCache.{lru_cache};
 ghost use Rattle.pf_base.specs.Grids.{points};
+ghost use Rattle.pf_base.specs.Limits.{most_steps};
 ghost use Rattle.pf_extent.specs.Done.{AreWhole, steps_in};
 ghost use Rattle.pf_extent.specs.Steps.{AreSpaced};
 ghost use Rattle.pf_model.specs.Canonical.{canonical};
@@ -231,7 +232,7 @@ impl Results {
         requires some { 1 ≤ key.old.step }
         requires cut { 1 ≤ interval }
         requires each { Each (IsDoneAt key.old.step) cells.now }
-        requires few { steps_in cells.now ≤ 11001 }
+        requires few { steps_in cells.now ≤ most_steps + 1 }
         ensures key { AreOfOneQuery key.old key.new }
         ensures ok { OnOk result (self.new ≡ kept_over key.old (tree_of expr.now) asker.now interval cells.now self.old) }
         ensures err { OnErr result ((count : ℕ) × (self.new ≡ kept_over key.old (tree_of expr.now) asker.now interval (take count cells.now) self.old)) }

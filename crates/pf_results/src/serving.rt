@@ -2,6 +2,7 @@
 
 ghost use Rattle.std.specs.Prelude.{◌≡◌, ℕ, ◌+◌, ◌-◌, ◌/◌, ◌<◌, ◌≤◌, ◌++◌, pos, not, true, false, IfOk, MatchOption, length};
 ghost use Rattle.pf_base.specs.Grids.{points};
+ghost use Rattle.pf_base.specs.Limits.{greatest_time};
 ghost use Rattle.pf_extent.specs.Steps.{AreSpaced, IsKept, IsLawful, extent_at, has_step};
 ghost use Rattle.pf_extent.specs.Uses.{is_usable};
 ghost use Rattle.pf_model.specs.Reach.{reach};
@@ -27,7 +28,7 @@ pub struct Found {
 /// Whether an asker can use an extent's cell of a step. The query's reach is asked only where the extent is of later samples.
 fn serves(extent: &Extent, expr: &Expr, asker: &Asker, time: u64) -> bool
     requires query { CanBeAsked (tree_of expr.now) }
-    requires time { time ≤ 4398046511103 }
+    requires time { time ≤ greatest_time }
     ensures { result ≡ is_usable extent.now (reach (tree_of expr.now) (pos time)) asker.now }
 {
     if extent.pin <= asker.pin {
@@ -39,7 +40,7 @@ fn serves(extent: &Extent, expr: &Expr, asker: &Asker, time: u64) -> bool
 /// Whether some extent has a step that an asker can use.
 fn is_served(list: &List, expr: &Expr, asker: &Asker, time: u64) -> bool
     requires query { CanBeAsked (tree_of expr.now) }
-    requires time { time ≤ 4398046511103 }
+    requires time { time ≤ greatest_time }
     ensures { result ≡ is_served list.now (tree_of expr.now) asker.now time }
 {
     match list.at(time) {

@@ -4,7 +4,7 @@ use Rattle.std.specs.Prelude.{option_and_then}
 use Rattle.std.specs.Option.{is_some}
 use Rattle.std.specs.Str.{bytes_eq, is_utf8}
 use Rattle.pf_base.specs.Tenants.{is_tenant}
-use Rattle.pf_model.specs.Cuts.{kept}
+use Rattle.pf_model.specs.Cuts.{only_if}
 use Rattle.pf_journal.specs.Scripts.{Issued, Line, Numbered, ingest, delete, ask, instant, cancel, answer, plan, keep, take, done, answer_of, ask_of, cancel_of, instant_of, is_id, is_new, is_passed, issued_after, issued_as, issued_at, keep_of, line_of, line_with, lines_from, next_word, only_word, plan_of, read_line, step_with, unanswered_of}
 use Rattle.pf_script.specs.IdLists.{Alike}
 use Rattle.pf_script.specs.LineCuts.{AskWords, InstantWords, ask_with, ask_words, instant_with, instant_words}
@@ -30,14 +30,14 @@ new_alike is js a id = new_is id is ∙ ap (λ o. not (is_some o)) (a id) ∙ sy
 
 ask_with_alike : (is js : List Issued) → Alike is js → (w : AskWords) → ask_with is w ≡ ask_with js w
 ask_with_alike is js a w =
-    ap (λ b. kept (is_id w.id && b && is_tenant w.tenant) (ask w.id w.tenant w.start w.end w.step w.query)) (new_alike is js a w.id)
+    ap (λ b. only_if (is_id w.id && b && is_tenant w.tenant) (ask w.id w.tenant w.start w.end w.step w.query)) (new_alike is js a w.id)
 
 ask_alike : (is js : List Issued) → Alike is js → (words : List ℕ) → ask_of is words ≡ ask_of js words
 ask_alike is js a words = sym (ask_is is words) ∙ then_alike (ask_words words) (ask_with is) (ask_with js) (ask_with_alike is js a) ∙ ask_is js words
 
 instant_with_alike : (is js : List Issued) → Alike is js → (w : InstantWords) → instant_with is w ≡ instant_with js w
 instant_with_alike is js a w =
-    ap (λ b. kept (is_id w.id && b && is_tenant w.tenant) (instant w.id w.tenant w.time w.query)) (new_alike is js a w.id)
+    ap (λ b. only_if (is_id w.id && b && is_tenant w.tenant) (instant w.id w.tenant w.time w.query)) (new_alike is js a w.id)
 
 instant_alike : (is js : List Issued) → Alike is js → (words : List ℕ) → instant_of is words ≡ instant_of js words
 instant_alike is js a words =
@@ -46,11 +46,11 @@ instant_alike is js a words =
 cancel_alike : (is js : List Issued) → Alike is js → (words : List ℕ) → cancel_of is words ≡ cancel_of js words
 unfolding cancel_of
 cancel_alike is js a words =
-    then_alike (next_word words) _ _ (λ id. then_alike (only_word id.behind) _ _ (λ tenant. ap (option_and_then (λ i. kept (is_tenant tenant) (cancel i.id i.line tenant))) (a id.front)))
+    then_alike (next_word words) _ _ (λ id. then_alike (only_word id.behind) _ _ (λ tenant. ap (option_and_then (λ i. only_if (is_tenant tenant) (cancel i.id i.line tenant))) (a id.front)))
 
 unanswered_alike : (is js : List Issued) → Alike is js → (words : List ℕ) → unanswered_of is words ≡ unanswered_of js words
 unfolding unanswered_of
-unanswered_alike is js a words = then_alike (only_word words) _ _ (λ id. ap (option_and_then (λ i. kept (not i.answered) i)) (a id))
+unanswered_alike is js a words = then_alike (only_word words) _ _ (λ id. ap (option_and_then (λ i. only_if (not i.answered) i)) (a id))
 
 answer_alike : (is js : List Issued) → Alike is js → (words : List ℕ) → answer_of is words ≡ answer_of js words
 unfolding answer_of
@@ -74,7 +74,7 @@ with_alike steps is js a verb words =
 line_alike : (steps : Bool) (is js : List Issued) → Alike is js → (bytes : List ℕ) → line_of steps is bytes ≡ line_of steps js bytes
 unfolding line_of
 line_alike steps is js a bytes =
-    then_alike (kept (is_utf8 bytes) bytes) _ _ (λ text. then_alike (next_word text) _ _ (λ verb. with_alike steps is js a verb.front verb.behind))
+    then_alike (only_if (is_utf8 bytes) bytes) _ _ (λ text. then_alike (next_word text) _ _ (λ verb. with_alike steps is js a verb.front verb.behind))
 
 -- ---- the IDs behind it
 

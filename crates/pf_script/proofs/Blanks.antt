@@ -9,7 +9,7 @@ use Rattle.std.specs.List.{position, slice_range}
 use Rattle.std.specs.Str.{IsCharBoundary, IsUtf8}
 use Rattle.pf_base.specs.LabelSets.{is_empty}
 use Rattle.pf_model.proofs.Places.{place, position_is}
-use Rattle.pf_model.specs.Cuts.{Cut, kept}
+use Rattle.pf_model.specs.Cuts.{Cut, only_if}
 use Rattle.pf_model.specs.Exposition.{are_blanks, is_blank}
 use Rattle.pf_journal.specs.Scripts.{next_word, past_blanks, text_of, without_blanks, word_cut}
 
@@ -91,9 +91,9 @@ cut_of : (bs : List ℕ) (o : Option ℕ) → o ≡ position is_blank bs → wor
 cut_of bs o e = cut_place bs ∙ ap (λ p. cut_by p bs) (sym (position_is is_blank bs) ∙ sym e)
 
 abbrev word_of : Cut → Option Cut
-word_of c = kept (not (is_empty c.front) && not (is_empty c.behind)) (record { front = c.front; behind = past_blanks c.behind })
+word_of c = only_if (not (is_empty c.front) && not (is_empty c.behind)) (record { front = c.front; behind = past_blanks c.behind })
 
-empty_without : (b : Bool) (x : Cut) → kept (b && false) x ≡ None
+empty_without : (b : Bool) (x : Cut) → only_if (b && false) x ≡ None
 empty_without true x = refl
 empty_without false x = refl
 
@@ -180,20 +180,20 @@ end_boundary bs front e = subst (λ (xs : List ℕ). IsCharBoundary bs (length x
 pub end_taken : (bs front : List ℕ) → front ≡ without_blanks bs → slice_range bs 0 (length front) ≡ without_blanks bs
 end_taken bs front e = range_taken bs (length front) ∙ ap (λ xs. take (length xs) bs) e ∙ front_taken bs
 
-text_by : (front : List ℕ) → (length front ≡ 0 → ⊥) → kept (not (is_empty front)) front ≡ Some front
+text_by : (front : List ℕ) → (length front ≡ 0 → ⊥) → only_if (not (is_empty front)) front ≡ Some front
 text_by [] h = absurd (h refl)
 text_by (b ∷ bs) h = refl
 
-no_text_by : (front : List ℕ) → length front ≡ 0 → kept (not (is_empty front)) front ≡ None
+no_text_by : (front : List ℕ) → length front ≡ 0 → only_if (not (is_empty front)) front ≡ None
 no_text_by [] h = refl
 no_text_by (b ∷ bs) h = absurd (omega arith)
 
 pub text_there : (bs front : List ℕ) → front ≡ without_blanks bs → (length front ≡ 0 → ⊥) → text_of bs ≡ Some front
 unfolding text_of
-text_there bs front e h = ap (λ xs. kept (not (is_empty xs)) xs) (sym e) ∙ text_by front h
+text_there bs front e h = ap (λ xs. only_if (not (is_empty xs)) xs) (sym e) ∙ text_by front h
 
 pub text_nowhere : (bs front : List ℕ) → front ≡ without_blanks bs → length front ≡ 0 → text_of bs ≡ None
 unfolding text_of
-text_nowhere bs front e h = ap (λ xs. kept (not (is_empty xs)) xs) (sym e) ∙ no_text_by front h
+text_nowhere bs front e h = ap (λ xs. only_if (not (is_empty xs)) xs) (sym e) ∙ no_text_by front h
 
 pub ruleset text_rules = (text_there, text_nowhere)

@@ -4,7 +4,7 @@ use Rattle.std.specs.Char.{is_ascii_digit}
 use Rattle.std.specs.List.{list_all}
 use Rattle.std.proofs.lemmas.Bool.Decides.{nat_tests}
 use Rattle.pf_base.specs.LabelSets.{is_empty}
-use Rattle.pf_model.specs.Cuts.{kept}
+use Rattle.pf_model.specs.Cuts.{only_if}
 use Rattle.pf_journal.specs.Scripts.{digits_onto, number_of}
 
 -- more digits only make a number greater
@@ -18,7 +18,7 @@ grown_at n i ds l e =
     let h : digits_onto n (drop i ds) ≡ digits_onto (n * 10 + (get_or ds i 0 - 48)) (drop (i + 1) ds) = rw add-one (ap (digits_onto n) (drop-cons ds i 0 l)) in
     omega arith
 
-kept_without : (b : Bool) (n : ℕ) → None ≡ kept (b && false) n
+kept_without : (b : Bool) (n : ℕ) → None ≡ only_if (b && false) n
 kept_without true n = refl
 kept_without false n = refl
 

@@ -7,9 +7,9 @@ use Rattle.std.proofs.lemmas.Bool.{not-true}
 use Rattle.std.proofs.lemmas.Option.{same_Some}
 use Rattle.std.proofs.lemmas.Slice.Eq.{bytes_eq-Decides}
 use Rattle.std.specs.Str.{bytes_eq, is_utf8}
-use Rattle.pf_base.specs.Grids.{maxt}
+use Rattle.pf_base.specs.Limits.{greatest_time}
 use Rattle.pf_base.specs.Tenants.{is_tenant}
-use Rattle.pf_model.specs.Cuts.{kept}
+use Rattle.pf_model.specs.Cuts.{only_if}
 use Rattle.pf_model.specs.Exposition.{file_lines}
 use Rattle.pf_model.specs.Lists.{Each}
 use Rattle.pf_journal.specs.Scripts.{Issued, Line, Numbered, ingest, delete, ask, instant, cancel, answer, plan, keep, take, done, answer_of, ask_of, behind_word, cancel_of, delete_of, done_of, file_at, ingest_at, ingest_of, ingest_with, instant_of, is_id, is_new, is_passed, issued_after, issued_as, issued_at, keep_of, line_of, line_with, lines_from, most_bytes, next_word, number_of, only_word, plan_of, read_line, script_of, step_with, take_of, text_of, unanswered_of, with_line, worker_of}
@@ -57,7 +57,7 @@ then_from : {A B : Type 0} (P : A → Type 0) (Q : B → Type 0) (o : Option A) 
 then_from P Q None f h g = tt
 then_from P Q (Some x) f h g = g x h
 
-kept_all : {A : Type 0} (P : A → Type 0) (b : Bool) (x : A) → (b ≡ true → P x) → IfSome (kept b x) P
+kept_all : {A : Type 0} (P : A → Type 0) (b : Bool) (x : A) → (b ≡ true → P x) → IfSome (only_if b x) P
 kept_all P true x h = h refl
 kept_all P false x h = tt
 
@@ -69,7 +69,7 @@ at_fair : (is : List Issued) (tenant bytes : List ℕ) → IfSome (ingest_at ten
 unfolding ingest_at
 at_fair is tenant bytes =
     then_all (Fair is) (file_at bytes) _ (λ file. then_all (Fair is) (behind_word (codes "at") file.behind) _ (λ word. then_all (Fair is) (number_of word) _ (λ time.
-    kept_all (Fair is) (nat_le time maxt) (ingest tenant file.front time) (λ h. tt))))
+    kept_all (Fair is) (nat_le time greatest_time) (ingest tenant file.front time) (λ h. tt))))
 
 file_fair : (is : List Issued) (tenant bytes : List ℕ) (o : Option (List ℕ)) → IfSome (ingest_with tenant bytes o) (Fair is)
 file_fair is tenant bytes None = at_fair is tenant bytes
@@ -78,7 +78,7 @@ file_fair is tenant bytes (Some file) = kept_all (Fair is) (is_utf8 file) (inges
 ingest_fair : (is : List Issued) (words : List ℕ) → IfSome (ingest_of words) (Fair is)
 unfolding ingest_of
 ingest_fair is words =
-    then_all (Fair is) (next_word words) _ (λ tenant. then_all (Fair is) (kept (is_tenant tenant.front) tenant.behind) _ (λ named.
+    then_all (Fair is) (next_word words) _ (λ tenant. then_all (Fair is) (only_if (is_tenant tenant.front) tenant.behind) _ (λ named.
     file_fair is tenant.front named (only_word named)))
 
 delete_fair : (is : List Issued) (words : List ℕ) → IfSome (delete_of words) (Fair is)
@@ -119,7 +119,7 @@ names_of is id i e = record {
 }
 
 cancel_by : (is : List Issued) (id tenant : List ℕ) (o : Option Issued) → issued_as id is ≡ o
-    → IfSome (option_and_then (λ i. kept (is_tenant tenant) (cancel i.id i.line tenant)) o) (Fair is)
+    → IfSome (option_and_then (λ i. only_if (is_tenant tenant) (cancel i.id i.line tenant)) o) (Fair is)
 cancel_by is id tenant None e = tt
 cancel_by is id tenant (Some i) e = kept_all (Fair is) (is_tenant tenant) (cancel i.id i.line tenant) (λ h. (i, names_of is id i e))
 
@@ -131,7 +131,7 @@ cancel_fair is words =
 abbrev Unanswered : List Issued → Issued → Type 0
 Unanswered is i = Names is i.id i.line i × (i.answered ≡ false)
 
-unanswered_by : (is : List Issued) (id : List ℕ) (o : Option Issued) → issued_as id is ≡ o → IfSome (option_and_then (λ i. kept (not i.answered) i) o) (Unanswered is)
+unanswered_by : (is : List Issued) (id : List ℕ) (o : Option Issued) → issued_as id is ≡ o → IfSome (option_and_then (λ i. only_if (not i.answered) i) o) (Unanswered is)
 unanswered_by is id None e = tt
 unanswered_by is id (Some i) e = kept_all (Unanswered is) (not i.answered) i (λ h. (names_of is id i e, not-true _ h))
 
@@ -181,7 +181,7 @@ verb_fair steps is verb words =
 line_fair : (steps : Bool) (is : List Issued) (bytes : List ℕ) → IfSome (line_of steps is bytes) (Fair is)
 unfolding line_of
 line_fair steps is bytes =
-    then_all (Fair is) (kept (is_utf8 bytes) bytes) _ (λ text. then_all (Fair is) (next_word text) _ (λ verb. verb_fair steps is verb.front verb.behind))
+    then_all (Fair is) (only_if (is_utf8 bytes) bytes) _ (λ text. then_all (Fair is) (next_word text) _ (λ verb. verb_fair steps is verb.front verb.behind))
 
 fair_at : (steps : Bool) (is : List Issued) (bytes : List ℕ) (line : Line) → line_of steps is bytes ≡ Some line → Fair is line
 fair_at steps is bytes line e = subst (λ (o : Option Line). IfSome o (Fair is)) e (line_fair steps is bytes)

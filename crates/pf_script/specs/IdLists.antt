@@ -1,6 +1,6 @@
 -- What the IDs so far mean: this project's own.
 use Rattle.std.specs.Prelude.{◌≡◌, ℕ, not, map, List, Option}
-use Rattle.pf_model.specs.Cuts.{◌>>=◌, kept}
+use Rattle.pf_model.specs.Cuts.{only_if, ◌>>=◌}
 use Rattle.pf_journal.specs.Scripts.{Issued, Line, issued_after, issued_as}
 use Rattle.pf_script.specs.declared.ids.Asked.{Asked}
 use Rattle.pf_script.specs.declared.ids.Ids.{Ids}
@@ -26,10 +26,10 @@ IsIdle line = (n : ℕ) (is : List Issued) → issued_after n line is ≡ is
 
 -- what was asked under an ID, where it is not answered, and where it is neither answered nor kept
 abbrev pub unless_answered : Issued → Option Issued
-unless_answered i = kept (not i.answered) i
+unless_answered i = only_if (not i.answered) i
 
 abbrev pub unless_kept : Issued → Option Issued
-unless_kept i = kept (not i.kept) i
+unless_kept i = only_if (not i.kept) i
 
 abbrev pub unanswered_as : List ℕ → List Issued → Option Issued
 unanswered_as id is = issued_as id is >>= unless_answered

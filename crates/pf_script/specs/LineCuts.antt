@@ -1,7 +1,7 @@
 -- The words of lines: this project's own.
 use Rattle.std.specs.Prelude.{◌≡◌, ℕ, Bool, ◌&&◌, cond, Option, Some, None, option_map, map, List, [], ◌∷◌, ◌++◌}
 use Rattle.pf_base.specs.Tenants.{is_tenant}
-use Rattle.pf_model.specs.Cuts.{◌>>=◌, kept}
+use Rattle.pf_model.specs.Cuts.{only_if, ◌>>=◌}
 use Rattle.pf_model.specs.Lists.{Each}
 use Rattle.pf_journal.specs.Scripts.{Issued, Line, Numbered, ask, delete, instant, is_id, is_new, is_passed, issued_after, line_of, next_word, number_of, text_of}
 use Rattle.pf_script.specs.IdLists.{Alike}
@@ -30,7 +30,7 @@ delete_words words = do
   Some (record { tenant = tenant.front; from = first; to = last; selector = selector })
 
 abbrev pub delete_with : DeleteWords → Option Line
-delete_with w = kept (is_tenant w.tenant) (delete w.tenant w.from w.to w.selector)
+delete_with w = only_if (is_tenant w.tenant) (delete w.tenant w.from w.to w.selector)
 
 abbrev pub delete_in : DeleteCut → DeleteWords
 delete_in c = record { tenant = c.tenant.now; from = c.from; to = c.to; selector = c.selector.now }
@@ -59,7 +59,7 @@ ask_words words = do
   Some (record { id = id.front; tenant = tenant.front; start = start; end = end; step = step; query = query })
 
 abbrev pub ask_with : List Issued → AskWords → Option Line
-ask_with is w = kept (is_id w.id && is_new w.id is && is_tenant w.tenant) (ask w.id w.tenant w.start w.end w.step w.query)
+ask_with is w = only_if (is_id w.id && is_new w.id is && is_tenant w.tenant) (ask w.id w.tenant w.start w.end w.step w.query)
 
 abbrev pub ask_in : AskCut → AskWords
 ask_in c = record { id = c.id.now; tenant = c.tenant.now; start = c.start; end = c.end; step = c.step; query = c.query.now }
@@ -82,7 +82,7 @@ instant_words words = do
   Some (record { id = id.front; tenant = tenant.front; time = time; query = query })
 
 abbrev pub instant_with : List Issued → InstantWords → Option Line
-instant_with is w = kept (is_id w.id && is_new w.id is && is_tenant w.tenant) (instant w.id w.tenant w.time w.query)
+instant_with is w = only_if (is_id w.id && is_new w.id is && is_tenant w.tenant) (instant w.id w.tenant w.time w.query)
 
 abbrev pub instant_in : InstantCut → InstantWords
 instant_in c = record { id = c.id.now; tenant = c.tenant.now; time = c.time; query = c.query.now }

@@ -1,6 +1,6 @@
 -- What is read of a script: this project's own.
 use Rattle.std.specs.Prelude.{◌≡◌, ℕ, ◌<◌, ◌≤◌, cond, nat_eq, Option, Some, None, Result, Ok, Err, map, List, [], ◌∷◌, ◌++◌}
-use Rattle.pf_base.specs.Grids.{maxt}
+use Rattle.pf_base.specs.Limits.{greatest_time}
 use Rattle.pf_model.specs.Lists.{Each}
 use Rattle.pf_journal.specs.Scripts as script
 use Rattle.pf_journal.specs.Scripts.{Numbered}
@@ -53,7 +53,7 @@ lines_of s = map numbered_of s.lines.items
 
 -- the time of a file's samples is one that a sample may have, and a worker is one of 16
 abbrev pub IsReadLine : Line → Type 0
-IsReadLine (Ingest tenant file time) = time ≤ maxt
+IsReadLine (Ingest tenant file time) = time ≤ greatest_time
 IsReadLine (Delete tenant from to selector) = Unit {0}
 IsReadLine (Ask id tenant start end step query) = Unit {0}
 IsReadLine (Instant id tenant time query) = Unit {0}

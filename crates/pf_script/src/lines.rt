@@ -3,10 +3,10 @@
 ghost use Rattle.std.specs.Prelude.{◌≡◌, ℕ, ◌&&◌, ◌≤◌, IfOk, IfSome, List, option_map};
 ghost use Rattle.std.specs.List.{list_all};
 ghost use Rattle.std.specs.Str.{is_utf8};
-ghost use Rattle.pf_base.specs.Grids.{maxt};
 ghost use Rattle.pf_base.specs.LabelSets.{goes_on};
+ghost use Rattle.pf_base.specs.Limits.{greatest_time};
 ghost use Rattle.pf_base.specs.Tenants.{is_tenant};
-ghost use Rattle.pf_model.specs.Cuts.{kept};
+ghost use Rattle.pf_model.specs.Cuts.{only_if};
 ghost use Rattle.pf_journal.specs.Scripts.{answer_of, ask_of, cancel_of, delete_of, done_of, ingest, ingest_of, ingest_with, instant_of, is_id, is_new, is_passed, issued_after, keep_of, line_of, line_with, only_word, plan_of, step_with, take_of, worker_of};
 ghost use Rattle.pf_script.specs.Cuts.{Finds};
 ghost use Rattle.pf_script.specs.IdLists.{Alike, IsIdle, issued_in};
@@ -54,7 +54,7 @@ struct InstantCut<'a> {
 }
 
 fn tenant_of(alloc: Global, name: &str) -> Result<Tenant, LineError>
-    ensures { ReadsLine (λ t. t) result (kept (is_tenant name.now) name.now) }
+    ensures { ReadsLine (λ t. t) result (only_if (is_tenant name.now) name.now) }
 {
     match Tenant::read(alloc, name) {
         Ok(tenant) => Ok(tenant),
@@ -92,7 +92,7 @@ fn is_new_id(ids: &Ids, id: &str) -> bool
 #[tactic(auto, using(crate::proofs::LineTexts::text_tests), unfolding(pf_journal::specs::Scripts::ingest_at, pf_journal::specs::Scripts::file_at))]
 fn timed_file(words: &str) -> Option<(&str, u64)>
     ensures exact { (tenant : List ℕ) → Finds (λ f. ingest tenant f.0.now f.1) result (ingest_with tenant words.now (only_word words.now)) }
-    ensures time { IfSome result (λ f. f.1 ≤ maxt) }
+    ensures time { IfSome result (λ f. f.1 ≤ greatest_time) }
 {
     if is_word(words) {
         return Some((words, 0));

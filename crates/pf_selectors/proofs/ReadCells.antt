@@ -1,6 +1,7 @@
 -- What is read of the accepted series of a snapshot at a step is the instant selector over the samples that it stands for.
 use Rattle.std.proofs.Common.{◌≡◌, ◌<◌, ℕ, ℤ, pos, ◌-ℤ◌, ◌&&◌, Option, None, option_map, List, [], ◌∷◌, ◌++◌, map, refl, sym, ap, ◌∙◌, subst}
 use Rattle.std.specs.List.{filter}
+use Rattle.pf_base.specs.Limits.{lookback}
 use Rattle.pf_base.specs.declared.plain.Row.{Row}
 use Rattle.pf_base.specs.Sorting.{isort}
 use Rattle.pf_block.specs.Samples.{value_at}
@@ -14,7 +15,7 @@ use Rattle.pf_model.specs.Cells.{element}
 use Rattle.pf_model.specs.Evaluation.{element_of, selected}
 use Rattle.pf_model.specs.Lists.{Each, joined}
 use Rattle.pf_model.specs.Log.{held_value}
-use Rattle.pf_model.specs.Selection.{lookback, last_row, same_labels}
+use Rattle.pf_model.specs.Selection.{last_row, same_labels}
 use Rattle.pf_model.proofs.SelectorLabels.{filtered_alike, last_alike}
 use Rattle.pf_store.specs.Standing.{StandsFor}
 use Rattle.pf_selectors.specs.SeriesColumns.{read_at, read_column, value_read, labels_read}
@@ -35,7 +36,7 @@ entries ms s = isort series_cmp (accepted_of ms s.labels)
 
 module _ (s : SnapData) (samples : List Row) (ms : List Matcher) (snap : IsSnap s) (stands : StandsFor s samples) (t : ℤ) where
   abbrev from : ℤ
-  from = t -ℤ lookback
+  from = t -ℤ pos lookback
 
   entry_is : (e : Entry) → IsAccepted ms 0 s.labels e → element_of (last_row (of_set ms from t samples e.0)) ≡ entry_read s t e
   entry_is e h =

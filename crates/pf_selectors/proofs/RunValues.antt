@@ -2,12 +2,12 @@
 use Rattle.std.proofs.Common.{◌≡◌, ◌<◌, ◌≤◌, ◌+◌, ◌⊎◌, inl, inr, ℕ, zero, suc, ℤ, pos, ◌-ℤ◌, ◌≤ℤ◌, true, cond, is_some, Option, Some, None, option_map, List, [], ◌∷◌, ◌++◌, length, refl, sym, ap, ◌∙◌, add-one, arith}
 use Rattle.std.specs.Prelude.{int_le, slice_index_or, slice_set}
 use Rattle.std.proofs.lemmas.Int.{ints}
+use Rattle.pf_base.specs.Limits.{lookback}
 use Rattle.pf_base.specs.declared.plain.Sample.{Sample}
 use Rattle.pf_block.specs.Samples.{last_of, last_onto, until, window_of}
 use Rattle.pf_model.specs.declared.functions.RangeFn.{RangeFn}
 use Rattle.pf_model.specs.Merging.{below}
 use Rattle.pf_model.specs.RangeFunctions.{range_function}
-use Rattle.pf_model.specs.Selection.{lookback}
 use Rattle.pf_selectors.specs.SeriesColumns.{read_at, unless_some, value_read, values_over, values_read, window_at}
 use Rattle.pf_selectors.specs.Times.{time_at}
 use Rattle.pf_selectors.specs.declared.instant.Reading.{Reading}
@@ -34,10 +34,10 @@ module _ (times : Times) (xs ys : List Sample) (lo hi a u : ℤ) (is : ys ≡ wi
       ap (λ zs. window_of zs (t -ℤ d) t) (is ∙ λ i. window_of xs (f i) (e i))
       ∙ narrower (lo -ℤ d) (t -ℤ d) hi t xs (moved_back lo t d (low k h)) (high k h)
 
-  pub read_alike : (r : Reading) → a ≡ lo -ℤ lookback → values_read r ys times ≡ values_read r xs times
+  pub read_alike : (r : Reading) → a ≡ lo -ℤ pos lookback → values_read r ys times ≡ values_read r xs times
   read_alike r f =
       below_alike (λ k. option_map (value_read r) (read_at ys (time_at times k))) (λ k. option_map (value_read r) (read_at xs (time_at times k))) times.len
-      (λ k h. ap (λ ws. option_map (value_read r) (last_of ws)) (part lookback f k h))
+      (λ k h. ap (λ ws. option_map (value_read r) (last_of ws)) (part (pos lookback) f k h))
 
   pub windows_alike : (range : ℕ) → a ≡ lo -ℤ pos range → (k : ℕ) → k < times.len → window_at range ys times k ≡ window_at range xs times k
   windows_alike range f k h = part (pos range) f k h

@@ -5,6 +5,7 @@ use Rattle.std.specs.List.{list_all}
 use Rattle.std.specs.Ordering.{int_eq}
 use Rattle.std.proofs.lemmas.List.{length-map}
 use Rattle.std.proofs.lemmas.Bool.Decides.{Decides-int_eq, nat_tests}
+use Rattle.pf_base.specs.Limits.{lookback}
 use Rattle.pf_base.specs.declared.plain.Row.{Row}
 use Rattle.pf_base.specs.declared.plain.Sample.{Sample}
 use Rattle.pf_base.specs.LabelSets.{Pairs}
@@ -21,7 +22,7 @@ use Rattle.pf_model.specs.InstantFunctions.{each_value}
 use Rattle.pf_model.specs.Lists.{joined}
 use Rattle.pf_model.specs.Log.{held_value}
 use Rattle.pf_model.specs.Micros.{seconds}
-use Rattle.pf_model.specs.Selection.{lookback, same_labels}
+use Rattle.pf_model.specs.Selection.{same_labels}
 use Rattle.pf_store.specs.Standing.{StandsFor}
 use Rattle.pf_selectors.specs.SeriesColumns.{read_at, read_column}
 use Rattle.pf_selectors.specs.Times.{time_at}
@@ -124,8 +125,8 @@ entry_timed s t e =
     let xs = samples_of s e.1 in
     ap (element e.0)
     (ap (λ ys. option_map (λ x. x.value) (read_at ys t)) (at_timed s.samples e.1)
-    ∙ ap (λ ys. option_map (λ x. x.value) (last_of ys)) (window_timed xs (t -ℤ lookback) t)
-    ∙ ap (option_map (λ x. x.value)) (last_timed None (window_of xs (t -ℤ lookback) t))
+    ∙ ap (λ ys. option_map (λ x. x.value) (last_of ys)) (window_timed xs (t -ℤ pos lookback) t)
+    ∙ ap (option_map (λ x. x.value)) (last_timed None (window_of xs (t -ℤ pos lookback) t))
     ∙ of_timed (read_at xs t))
 
 each_by : (l : Pairs) (o : Option ℤ) (es : List Element) → each_value Some (element l o ++ es) ≡ element (without_name l) o ++ each_value Some es

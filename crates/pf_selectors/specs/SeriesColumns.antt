@@ -1,6 +1,7 @@
 -- The columns that selectors read of the series of a snapshot. Prometheus, Querying basics: Time series selectors; Query
 -- functions.
 use Rattle.std.specs.Prelude.{ℕ, ℤ, pos, ◌-ℤ◌, Option, None, option_map, List, [], ◌∷◌}
+use Rattle.pf_base.specs.Limits.{lookback}
 use Rattle.pf_base.specs.declared.plain.Sample.{Sample}
 use Rattle.pf_base.specs.LabelSets.{Pairs}
 use Rattle.pf_block.specs.Samples.{last_of, window_of}
@@ -12,7 +13,6 @@ use Rattle.pf_model.specs.Merging.{below}
 use Rattle.pf_model.specs.Micros.{seconds}
 use Rattle.pf_model.specs.Outcomes.{ranged_labels}
 use Rattle.pf_model.specs.RangeFunctions.{range_function}
-use Rattle.pf_model.specs.Selection.{lookback}
 use Rattle.pf_selectors.specs.declared.instant.Reading.{Reading}
 use Rattle.pf_selectors.specs.declared.instant.Reading.TheVariants as reading
 use Rattle.pf_selectors.specs.declared.times.Times.{Times}
@@ -20,7 +20,7 @@ use Rattle.pf_selectors.specs.Times.{time_at}
 
 -- the last sample in the look-back of a time
 abbrev pub read_at : List Sample → ℤ → Option Sample
-read_at samples t = last_of (window_of samples (t -ℤ lookback) t)
+read_at samples t = last_of (window_of samples (t -ℤ pos lookback) t)
 
 -- what is read of a sample: its value, or its time in seconds; then the metric name is dropped
 abbrev pub value_read : Reading → Sample → ℤ

@@ -1,5 +1,6 @@
 -- What shards know of groups at each step of a run, as columns: this project's own, after Mimir's query sharding.
 use Rattle.std.specs.Prelude.{◌≤◌, ◌*◌, ℕ, ℤ, Option, Some, None, List, [], ◌∷◌, map, slice_index_or, unsigned_abs}
+use Rattle.pf_base.specs.Limits.{greatest_size}
 use Rattle.pf_base.specs.declared.plain.Partial.{Partial}
 use Rattle.pf_base.specs.LabelSets.{Pairs}
 use Rattle.pf_model.specs.declared.cell.ErrorKind.{ErrorKind}
@@ -49,7 +50,7 @@ groups_at g k = groups_unless (bad_in g.bads k) (groups_in g.columns k)
 -- what is known of at least one and at most so many values, each at most 10^18 in size
 abbrev pub IsWithin : ℕ → Option Partial → Type 0
 IsWithin most None = Unit {0}
-IsWithin most (Some p) = (1 ≤ p.count) × (p.count ≤ most) × (unsigned_abs p.sum ≤ p.count * 1000000000000000000)
+IsWithin most (Some p) = (1 ≤ p.count) × (p.count ≤ most) × (unsigned_abs p.sum ≤ p.count * greatest_size)
 
 abbrev pub AreWithin : ℕ → List GroupColumnData → Type 0
 AreWithin most cs = Each (λ c. Each (IsWithin most) c.partials) cs

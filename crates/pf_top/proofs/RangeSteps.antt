@@ -2,7 +2,8 @@
 use Rattle.std.proofs.Common.{◌≡◌, ℕ, ◌+◌, ◌-◌, ◌*◌, ◌/◌, ◌<◌, Bool, true, false, ◌||◌, cond, nat_eq, nat_lt, Ok, Err, arith, refl, subst}
 use Rattle.std.proofs.lemmas.Bool.Decides.{nat_tests}
 use Rattle.pf_base.specs.GridLists.{GridData}
-use Rattle.pf_base.specs.Grids.{grid_of, maxt}
+use Rattle.pf_base.specs.Grids.{grid_of}
+use Rattle.pf_base.specs.Limits.{greatest_time}
 use Rattle.pf_base.specs.declared.grid.GridError.TheVariants.{ZeroStep, TimeTooLarge, EndBeforeStart, TooManySteps}
 
 is_some : (step : ℕ) → nat_eq step 0 ≡ false → 0 < step
@@ -21,5 +22,5 @@ stepped false false false false step r g some is h =
 
 pub has_step : (start end step : ℕ) (g : GridData) → grid_of start end step ≡ Ok g → 0 < g.step
 has_step start end step g h =
-    stepped (nat_eq step 0) (nat_lt maxt start || nat_lt maxt end || nat_lt maxt step) (nat_lt end start) (nat_lt 11000 (end / step - start / step)) step
+    stepped (nat_eq step 0) (nat_lt greatest_time start || nat_lt greatest_time end || nat_lt greatest_time step) (nat_lt end start) (nat_lt 11000 (end / step - start / step)) step
     (record { start = (start / step) * step; step = step; len = end / step - start / step + 1 }) g (is_some step) refl h

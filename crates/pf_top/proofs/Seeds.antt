@@ -4,11 +4,11 @@ use Rattle.std.proofs.lemmas.Bool.Decides.{nat_tests}
 use Rattle.std.specs.Char.{is_ascii_digit}
 use Rattle.std.specs.List.{list_all}
 use Rattle.pf_base.specs.LabelSets.{is_empty}
-use Rattle.pf_model.specs.Cuts.{kept}
+use Rattle.pf_model.specs.Cuts.{only_if}
 use Rattle.pf_journal.specs.Scripts.{digits_onto}
 use Rattle.pf_top.specs.Words.{seed_of}
 
-kept_without : (b : Bool) (n : ℕ) → None ≡ kept (b && false) n
+kept_without : (b : Bool) (n : ℕ) → None ≡ only_if (b && false) n
 kept_without true n = refl
 kept_without false n = refl
 

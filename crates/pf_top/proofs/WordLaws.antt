@@ -8,7 +8,7 @@ use Rattle.std.proofs.lemmas.Bool.Decides.{nat_tests}
 use Rattle.pf_base.specs.DurationScans.{duration_of}
 use Rattle.pf_base.specs.declared.plain.Limits.{Limits}
 use Rattle.pf_core.specs.Cores.{AreLimits}
-use Rattle.pf_model.specs.Cuts.{◌>>=◌, kept}
+use Rattle.pf_model.specs.Cuts.{only_if, ◌>>=◌}
 use Rattle.pf_journal.specs.Scripts.{number_of}
 use Rattle.pf_top.specs.Words.{OptionName, Part, Replay, Word, plain, last_dashes, named, valued, of_limit, of_window, of_interval, of_shards, of_extents, of_journal, at_most_once, duration_from, exactly_one, is_dashed, limits_with, number_within, option, others_of, parts_of, replay_behind, replay_of, replay_words, values_of, with_part, word_of}
 use Rattle.pf_top.specs.Words as words
@@ -323,22 +323,22 @@ read_within P read (v ∷ (u ∷ vs)) o within e = cc
 
 number_in : (least most : ℕ) (v : List ℕ) (n : ℕ) → number_within least most v ≡ Some n → (least ≤ n) × (n ≤ most)
 number_in least most v n e = by (number_of v) e where
-  tested : (k : ℕ) (a b : Bool) → nat_le least k ≡ a → nat_le k most ≡ b → kept (a && b) k ≡ Some n → (least ≤ n) × (n ≤ most)
+  tested : (k : ℕ) (a b : Bool) → nat_le least k ≡ a → nat_le k most ≡ b → only_if (a && b) k ≡ Some n → (least ≤ n) × (n ≤ most)
   tested k true true p q e = let same : k ≡ n = cc in (grind (arith, nat_tests), grind (arith, nat_tests))
   tested k true false p q e = cc
   tested k false b p q e = cc
 
-  by : (m : Option ℕ) → (m >>= (λ k. kept (nat_le least k && nat_le k most) k)) ≡ Some n → (least ≤ n) × (n ≤ most)
+  by : (m : Option ℕ) → (m >>= (λ k. only_if (nat_le least k && nat_le k most) k)) ≡ Some n → (least ≤ n) × (n ≤ most)
   by None e = cc
   by (Some k) e = tested k (nat_le least k) (nat_le k most) refl refl e
 
 duration_in : (least : ℕ) (v : List ℕ) (n : ℕ) → duration_from least v ≡ Some n → least ≤ n
 duration_in least v n e = by (result_ok (duration_of v)) e where
-  tested : (k : ℕ) (a : Bool) → nat_le least k ≡ a → kept a k ≡ Some n → least ≤ n
+  tested : (k : ℕ) (a : Bool) → nat_le least k ≡ a → only_if a k ≡ Some n → least ≤ n
   tested k true p e = let same : k ≡ n = cc in grind (arith, nat_tests)
   tested k false p e = cc
 
-  by : (m : Option ℕ) → (m >>= (λ k. kept (nat_le least k) k)) ≡ Some n → least ≤ n
+  by : (m : Option ℕ) → (m >>= (λ k. only_if (nat_le least k) k)) ≡ Some n → least ≤ n
   by None e = cc
   by (Some k) e = tested k (nat_le least k) refl e
 

@@ -1,5 +1,6 @@
 -- What a replay gives, and what of it is left to be written: this project's own.
 use Rattle.std.specs.Prelude.{◌≡◌, ℕ, ◌⊎◌, Option, true, false, List}
+use Rattle.pf_base.specs.Limits.{most_entries}
 use Rattle.pf_base.specs.declared.plain.Limits.{Limits}
 use Rattle.pf_journal.specs.Scripts.{Numbered}
 use Rattle.pf_client.specs.Replays.{Agree, HasFailed, Held, Reaches, files_of}
@@ -11,7 +12,7 @@ use Rattle.pf_top.specs.Refusals.{refused_read}
 -- a run without options: ten minutes of window, a day of interval
 abbrev pub default_limits : Limits
 default_limits =
-    record { outstanding = 100; window = 600000; interval = 86400000; shards = 4; extents = 256; journal = 4000000 }
+    record { outstanding = 100; window = 600000; interval = 86400000; shards = 4; extents = 256; journal = most_entries }
 
 -- of a text of this kind all was written but what is left
 abbrev pub Prints : (List ℕ → Type 0) → (old new : Option (List ℕ)) → (left : List ℕ) → Type 0

@@ -1,7 +1,8 @@
 -- How the words of a replay are taken one after another: this project's own. The private functions of the reader compute these;
 -- what it answers is said by `Words` alone.
 use Rattle.std.specs.Prelude.{ℕ, Option, Some, None, cond, option_map, List, [], ◌∷◌, nat_eq}
-use Rattle.pf_model.specs.Cuts.{◌>>=◌, kept}
+use Rattle.pf_base.specs.Limits.{most_entries}
+use Rattle.pf_model.specs.Cuts.{only_if, ◌>>=◌}
 use Rattle.pf_top.specs.Words as words
 use Rattle.pf_top.specs.Words.{OptionName, Word, plain, last_dashes, named, valued, of_limit, of_window, of_interval, of_shards, of_extents, of_journal, duration_from, is_dashed, number_within, word_of}
 use Rattle.pf_top.specs.declared.options.Given.{Given as GivenCode}
@@ -16,7 +17,7 @@ use Rattle.pf_top.specs.declared.words.Replay.{Replay}
 -- what stands behind a `-` in front
 abbrev pub behind_dash : List ℕ → Option (List ℕ)
 behind_dash [] = None
-behind_dash (b ∷ bs) = kept (nat_eq b 45) bs
+behind_dash (b ∷ bs) = only_if (nat_eq b 45) bs
 
 -- what the words so far choose
 pub record Given : Type 0 where
@@ -45,7 +46,7 @@ with_option g of_window value = option_map (λ n. record g { window = Some n }) 
 with_option g of_interval value = option_map (λ n. record g { interval = Some n }) (once g.interval (duration_from 1000 value))
 with_option g of_shards value = option_map (λ n. record g { shards = Some n }) (once g.shards (number_within 1 64 value))
 with_option g of_extents value = option_map (λ n. record g { extents = Some n }) (once g.extents (number_within 1 4096 value))
-with_option g of_journal value = option_map (λ n. record g { journal = Some n }) (once g.journal (number_within 1 4000000 value))
+with_option g of_journal value = option_map (λ n. record g { journal = Some n }) (once g.journal (number_within 1 most_entries value))
 
 abbrev pub with_script : Given → List ℕ → Option Given
 with_script g word = option_map (λ s. record g { script = Some s }) (once g.script (Some word))

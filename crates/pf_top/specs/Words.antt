@@ -7,8 +7,9 @@ use Rattle.std.specs.Result.{result_ok}
 use Rattle.std.specs.Str.{bytes_eq}
 use Rattle.pf_base.specs.DurationScans.{duration_of}
 use Rattle.pf_base.specs.LabelSets.{is_empty}
+use Rattle.pf_base.specs.Limits.{most_entries}
 use Rattle.pf_base.specs.declared.plain.Limits.{Limits}
-use Rattle.pf_model.specs.Cuts.{◌>>=◌, Cut, kept}
+use Rattle.pf_model.specs.Cuts.{Cut, only_if, ◌>>=◌}
 use Rattle.pf_journal.specs.Scripts.{digits_onto, number_of}
 
 -- ---- words
@@ -124,11 +125,11 @@ pub record Replay : Type 0 where
 
 -- a number from a least to a greatest
 abbrev pub number_within : (least most : ℕ) → List ℕ → Option ℕ
-number_within least most value = number_of value >>= (λ n. kept (nat_le least n && nat_le n most) n)
+number_within least most value = number_of value >>= (λ n. only_if (nat_le least n && nat_le n most) n)
 
 -- a duration of so many milliseconds or more
 abbrev pub duration_from : (least : ℕ) → List ℕ → Option ℕ
-duration_from least value = result_ok (duration_of value) >>= (λ n. kept (nat_le least n) n)
+duration_from least value = result_ok (duration_of value) >>= (λ n. only_if (nat_le least n) n)
 
 -- what may be left out, and stands once at most
 abbrev pub at_most_once : (List ℕ → Option ℕ) → List (List ℕ) → Option (Option ℕ)
@@ -147,7 +148,7 @@ replay_of parts = do
   interval ← at_most_once (duration_from 1000) (values_of of_interval parts)
   shards ← at_most_once (number_within 1 64) (values_of of_shards parts)
   extents ← at_most_once (number_within 1 4096) (values_of of_extents parts)
-  journal ← at_most_once (number_within 1 4000000) (values_of of_journal parts)
+  journal ← at_most_once (number_within 1 most_entries) (values_of of_journal parts)
   script ← exactly_one (others_of parts)
   Some (record { limit = limit; window = window; interval = interval; shards = shards; extents = extents; journal = journal; script = script })
 
@@ -197,7 +198,7 @@ evaluation_words _ = None
 -- a number of one digit or more, below 2^64
 unfoldable pub seed_of : List ℕ → Option ℕ
 seed_of ds =
-    kept (not (is_empty ds) && list_all is_ascii_digit ds && nat_lt (digits_onto 0 ds) 18446744073709551616) (digits_onto 0 ds)
+    only_if (not (is_empty ds) && list_all is_ascii_digit ds && nat_lt (digits_onto 0 ds) 18446744073709551616) (digits_onto 0 ds)
 
 -- the seed of a generated session
 abbrev pub load_words : List (List ℕ) → Option ℕ

@@ -1,7 +1,7 @@
 -- The first fault of the nodes of a tree, from those of its parts.
 use Rattle.std.proofs.Common.{◌≡◌, ◌∙◌, sym, ap, refl, ℕ, ◌+◌, arith, not, Bool, true, false, Option, None, Some, List, [], ◌∷◌, ◌++◌}
 use Rattle.std.specs.Option.{option_map, option_or}
-use Rattle.pf_model.specs.Tokens.{only_if}
+use Rattle.pf_model.specs.Cuts.{only_if}
 use Rattle.pf_model.specs.Trees.{Tree, Trees, number, text, unary, binary, call, aggregate, select, subquery, none, more, Node, nodes, all_nodes, size}
 use Rattle.pf_model.specs.Typing.{Fault, arg_count, wrong, bad_name, bool_needed, bad_matching, subquery_too_fine, Wanted, fault_at, first_fault, first_wrong, accepts, kind_of, named_kind, wants, operands, has_wrong_count, has_bad_name, lacks_bool, has_bad_matching, is_too_fine}
 use Rattle.pf_types.specs.Faults.{capped, capped_fault}

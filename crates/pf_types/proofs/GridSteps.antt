@@ -3,7 +3,8 @@ use Rattle.std.proofs.Common.{◌≡◌, ◌<◌, ◌||◌, ◌-◌, ◌/◌, �
 use Rattle.std.specs.Prelude.{nat_eq, nat_lt}
 use Rattle.std.proofs.lemmas.Bool.Decides.{nat_tests}
 use Rattle.pf_base.specs.GridLists.{GridData}
-use Rattle.pf_base.specs.Grids.{grid_of, maxt, single_of}
+use Rattle.pf_base.specs.Grids.{grid_of, single_of}
+use Rattle.pf_base.specs.Limits.{greatest_time}
 use Rattle.pf_base.specs.declared.grid.GridError.{GridError}
 use Rattle.pf_base.specs.declared.grid.GridError.TheVariants.{ZeroStep, TimeTooLarge, EndBeforeStart, TooManySteps}
 use Rattle.pf_types.specs.Asking.{IsWhen}
@@ -27,12 +28,12 @@ some_step n h = grind (arith, nat_tests)
 pub ranged : (start end step : ℕ) (g : GridData) → grid_of start end step ≡ Ok g → IsWhen (when.Range g)
 ranged start end step g h =
     let stepped = not_refused (nat_eq step 0) ZeroStep _ g h in
-    let small = not_refused (nat_lt maxt start || nat_lt maxt end || nat_lt maxt step) TimeTooLarge _ g stepped.1 in
+    let small = not_refused (nat_lt greatest_time start || nat_lt greatest_time end || nat_lt greatest_time step) TimeTooLarge _ g stepped.1 in
     let forward = not_refused (nat_lt end start) EndBeforeStart _ g small.1 in
     let few = not_refused (nat_lt 11000 (end / step - start / step)) TooManySteps _ g forward.1 in
     subst (λ n. 0 < n) (ap (λ (d : GridData). d.step) (same_grid _ g few.1)) (some_step step stepped.0)
 
 pub at_once : (time : ℕ) (g : GridData) → single_of time ≡ Ok g → IsWhen (when.Instant g)
 at_once time g h =
-    let small = not_refused (nat_lt maxt time) TimeTooLarge _ g h in
+    let small = not_refused (nat_lt greatest_time time) TimeTooLarge _ g h in
     sym (ap (λ (d : GridData). d.step) (same_grid _ g small.1))

@@ -5,6 +5,7 @@ use Rattle.std.specs.List.{list_all}
 use Rattle.std.proofs.lemmas.Bool.Decides.{nat_tests}
 use Rattle.std.specs.Option.{option_or}
 use Rattle.pf_base.specs.LabelSets.{is_label_name}
+use Rattle.pf_model.specs.Cuts.{only_if}
 use Rattle.pf_model.specs.declared.expr.BinaryOp.{BinaryOp}
 use Rattle.pf_model.specs.declared.expr.Function.TheVariants as called
 use Rattle.pf_model.specs.declared.expr.Kind.{Kind}
@@ -15,7 +16,6 @@ use Rattle.pf_model.specs.declared.functions.InstantFn.{InstantFn}
 use Rattle.pf_model.specs.declared.functions.InstantFn.TheVariants as function
 use Rattle.pf_model.specs.Built.{are_arguments, are_evaluated, are_near, is_absent_call, is_distance, is_evaluated, is_joining, is_lawful_call, is_one, is_range, is_range_argument, is_replacing, is_resolution, is_string, name_labels}
 use Rattle.pf_model.specs.Evaluation.{resolution_or_minute}
-use Rattle.pf_model.specs.Tokens.{only_if}
 use Rattle.pf_model.specs.Trees as tree
 use Rattle.pf_model.specs.Trees.{Tree, Trees, Node, all_nodes, nodes, postorder, size}
 use Rattle.pf_model.specs.Typing.{Wanted, accepts, aggregation_wants, arguments, asked_fault, fault_at, first_fault, first_wrong, function_kind, has_bad_name, has_wrong_count, joint_kind, kind_of, list_of, names_label, only, operands, operator_wants, scalar_or_instant, wants}

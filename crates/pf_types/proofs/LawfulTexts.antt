@@ -8,15 +8,16 @@ use Rattle.std.proofs.lemmas.Bool.Decides.{nat_tests}
 use Rattle.pf_base.specs.Arithmetic.{clamp}
 use Rattle.pf_base.specs.DurationScans.{rest_after, total_of}
 use Rattle.pf_base.specs.DurationTexts.{units}
-use Rattle.pf_base.specs.Grids.{maxt}
 use Rattle.pf_base.specs.LabelSets.{goes_on, is_empty, is_label_name, starts_name}
+use Rattle.pf_base.specs.Limits.{greatest_time}
 use Rattle.pf_base.specs.NumberScans.{decimal_of}
 use Rattle.pf_base.specs.NumberTexts.{decimal_micros}
+use Rattle.pf_model.specs.Cuts.{only_if}
 use Rattle.pf_model.specs.Built.{is_distance}
 use Rattle.pf_model.specs.Grammar.{Terminal, key, name, label, exactly, sign, number, duration, string, Fits, FitAll, has_colon}
 use Rattle.pf_model.specs.Parsing.{is_behind_at, is_too_large, too_large_at, sorts}
 use Rattle.pf_model.specs.Tokens as token
-use Rattle.pf_model.specs.Tokens.{AreTokens, BeginsWith, Sort, Token, form, inside_behind, is_sign, is_word, lawful, longest, number_form, duration_form, only_if, raw_from, string_form, string_from, token_at, word_sort}
+use Rattle.pf_model.specs.Tokens.{AreTokens, BeginsWith, Sort, Token, form, inside_behind, is_sign, is_word, lawful, longest, number_form, duration_form, raw_from, string_form, string_from, token_at, word_sort}
 use Rattle.pf_types.proofs.LawfulKinds.{both_of, given, left_of, none_is_some, right_of}
 
 -- ---- words of tokens
@@ -133,7 +134,7 @@ tokens_are_lawful text inside place (t ∷ ts) h =
 abbrev pub is_sound_here : Bool → Terminal → Bool
 is_sound_here behind (label l) = is_label_name l
 is_sound_here behind (duration d) = is_distance d
-is_sound_here behind (number n) = not (behind && nat_lt maxt (nat_abs n / 1000))
+is_sound_here behind (number n) = not (behind && nat_lt greatest_time (nat_abs n / 1000))
 is_sound_here behind _ = true
 
 abbrev pub is_then_behind : Bool → Terminal → Bool
@@ -219,9 +220,9 @@ sound_here behind (string k) s f h = refl
 sound_here behind (label l) (token.word w) f h =
     subst (λ x. is_label_name x ≡ true) f.0 (word_is_label w h f.1)
 sound_here behind (number n) (token.number m) f h =
-    subst (λ x. not (behind && nat_lt maxt (nat_abs x / 1000)) ≡ true) f (left_of (not (behind && nat_lt maxt (nat_abs m / 1000))) true h)
+    subst (λ x. not (behind && nat_lt greatest_time (nat_abs x / 1000)) ≡ true) f (left_of (not (behind && nat_lt greatest_time (nat_abs m / 1000))) true h)
 sound_here behind (duration d) (token.duration m) f h =
-    subst (λ x. is_distance x ≡ true) f (at_most m (left_of (not (nat_lt maxt m)) true h)) where
+    subst (λ x. is_distance x ≡ true) f (at_most m (left_of (not (nat_lt greatest_time m)) true h)) where
       at_most : (n : ℕ) → not (nat_lt 4398046511103 n) ≡ true → nat_le n 4398046511103 ≡ true
       at_most n q = grind (arith, nat_tests, not_true (nat_lt 4398046511103 n) q) where
         not_true : (b : Bool) → not b ≡ true → b ≡ false

@@ -2,6 +2,7 @@
 use Rattle.std.proofs.Common.{◌≡◌, ◌∙◌, sym, ap, refl, ℕ, ℤ, zero, suc, ◌+◌, ◌<◌, arith, drop, not, nat_eq, Bool, Option, None, List, [], ◌∷◌, length, map}
 use Rattle.std.proofs.lemmas.List.{length-map}
 use Rattle.std.specs.Option.{option_or}
+use Rattle.pf_model.specs.Cuts.{only_if}
 use Rattle.pf_model.specs.declared.expr.BinaryOp.{BinaryOp}
 use Rattle.pf_model.specs.declared.expr.Function.{Function}
 use Rattle.pf_model.specs.declared.expr.Kind.{Kind}
@@ -11,7 +12,6 @@ use Rattle.pf_model.specs.declared.expr.Mods.{Mods}
 use Rattle.pf_model.specs.declared.functions.AggOp.{AggOp}
 use Rattle.pf_model.specs.Clauses.{Grouped, Matched}
 use Rattle.pf_model.specs.Lists.{at}
-use Rattle.pf_model.specs.Tokens.{only_if}
 use Rattle.pf_model.specs.Trees.{Tree, Trees, number, text, select, unary, binary, call, aggregate, subquery, none, more, nodes, all_nodes, size, trees_of}
 use Rattle.pf_model.specs.Typing.{Fault, arg_count, only, scalar_or_instant, fault_at, first_wrong, kind_of, list_of, operator_wants, function_wants, aggregation_wants}
 use Rattle.pf_types.specs.Faults.{all_from, capped, fault_from}

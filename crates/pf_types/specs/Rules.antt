@@ -2,12 +2,13 @@
 use Rattle.std.specs.Prelude.{ℕ, ◌+◌, ◌*◌, ◌&&◌, not, Option, None, Some, unwrap_or, List, ◌++◌, length, map, replicate, nat_eq, nat_lt}
 use Rattle.std.specs.List.{list_all}
 use Rattle.std.specs.Option.{option_or}
+use Rattle.pf_base.specs.Limits.{minute, most_steps}
+use Rattle.pf_model.specs.Cuts.{only_if}
 use Rattle.pf_model.specs.declared.expr.BinaryOp.{BinaryOp}
 use Rattle.pf_model.specs.declared.expr.Function.{Function}
 use Rattle.pf_model.specs.declared.expr.Kind.{Kind}
 use Rattle.pf_model.specs.declared.expr.Kind.TheVariants.{Scalar, Instant, Text}
 use Rattle.pf_model.specs.Clauses.{Matched}
-use Rattle.pf_model.specs.Tokens.{only_if}
 use Rattle.pf_model.specs.Trees.{Tree, trees_of}
 use Rattle.pf_model.specs.Typing.{Fault, arg_count, wrong, bad_name, bool_needed, bad_matching, subquery_too_fine, Wanted, only, accepts, named_kind, operator_wants, first_wrong, same_kind, label_arguments, names_label, mismatches}
 use Rattle.pf_model.specs.Words.{is_comparison}
@@ -39,7 +40,7 @@ operation_fault n op m a b =
     (option_or (operand_fault n (operator_wants op) b) (option_or (bool_fault n op a b) (matching_fault n op m a b)))
 
 abbrev pub fineness_fault : ℕ → ℕ → Option ℕ → Option Fault
-fineness_fault n range resolution = only_if (nat_lt (11000 * unwrap_or resolution 60000) range) (subquery_too_fine n)
+fineness_fault n range resolution = only_if (nat_lt (most_steps * unwrap_or resolution minute) range) (subquery_too_fine n)
 
 -- the kinds of a call's arguments
 abbrev pub wanted_kinds : Wants → List Kind

@@ -1,6 +1,7 @@
 //! Queries read from texts, with their kinds.
 
 ghost use Rattle.std.specs.Prelude.{◌≡◌, ◌≤◌, true, IfErr, IfOk};
+ghost use Rattle.pf_model.specs.Parsing.{most_bytes};
 ghost use Rattle.pf_model.specs.Built.{is_evaluated};
 ghost use Rattle.pf_model.specs.Queries.{IsQuery};
 ghost use Rattle.pf_model.specs.Trees.{Tree, height, size, tree_of};
@@ -115,7 +116,7 @@ fn asked(expr: &Expr) -> Result<(), TypeError>
 pub fn read_query(alloc: Global, text: &str) -> Result<Expr, QueryError>
     ensures query { IfOk result (λ e. IsQuery text.now (tree_of e)) }
     ensures written { IfOk result (λ e. HasText (tree_of e)) }
-    ensures small { IfOk result (λ e. size (tree_of e) ≤ 65536) }
+    ensures small { IfOk result (λ e. size (tree_of e) ≤ most_bytes) }
     ensures low { IfOk result (λ e. height (tree_of e) ≤ 64) }
     ensures evaluated { IfOk result (λ e. is_evaluated (tree_of e) ≡ true) }
     ensures refused { IfErr result (λ e. IsFaultFor text.now (query_fault e)) }

@@ -1,6 +1,7 @@
 use Rattle.std.proofs.Common.{◌∙◌, ◌+◌, ◌++◌, sym, ap, codes, map, take}
 use Rattle.std.specs.List.{slice_index_or}
-use Rattle.pf_model.specs.Canonical.{in_brackets, separated}
+use Rattle.pf_model.specs.Lists.{separated}
+use Rattle.pf_model.specs.Canonical.{in_brackets}
 use Rattle.pf_print.specs.Printed.{aggregate_text, call_text, comma_before, expr_text, right_text, select_text, subquery_text, unary_text}
 use Rattle.pf_print.proofs.ExprTexts.{unary_is, binary_is, call_is, aggregate_is, select_is, subquery_is}
 use Rattle.pf_print.proofs.Pushes.{pushed, pushed_as, on_ok}

@@ -1,5 +1,5 @@
 use Rattle.std.proofs.Common.{◌≡◌, ◌++◌, take, codes, map}
-use Rattle.pf_model.specs.Canonical.{separated}
+use Rattle.pf_model.specs.Lists.{separated}
 use Rattle.pf_print.specs.Printed.{expr_text}
 use Rattle.pf_print.proofs.printer.+push_query.Given as goal
 

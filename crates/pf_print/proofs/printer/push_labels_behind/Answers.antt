@@ -1,6 +1,6 @@
 use Rattle.std.proofs.Common.{◌∙◌, ◌+◌, ◌++◌, sym, codes, take}
 use Rattle.std.specs.List.{slice_index_or}
-use Rattle.pf_model.specs.Canonical.{all_behind}
+use Rattle.pf_model.specs.Lists.{all_behind}
 use Rattle.pf_print.proofs.Pushes.{pushed, pushed_as}
 use Rattle.pf_print.proofs.Separated.{labels_next}
 use Rattle.pf_print.proofs.printer.push_labels_behind.Goals as goal

@@ -1,6 +1,7 @@
 use Rattle.std.proofs.Common.{◌+◌, ◌++◌, sym, ap, codes, map, take}
 use Rattle.std.specs.List.{slice_index_or}
-use Rattle.pf_model.specs.Canonical.{all_behind, matcher_text}
+use Rattle.pf_model.specs.Lists.{all_behind}
+use Rattle.pf_model.specs.Canonical.{matcher_text}
 use Rattle.pf_print.proofs.Pushes.{pushed, pushed_as}
 use Rattle.pf_print.proofs.Separated.{mapped_next}
 use Rattle.pf_print.proofs.printer.push_matchers_behind.Goals as goal
