@@ -4,7 +4,7 @@ use Rattle.std.proofs.lemmas.List.Sums.{fold_push}
 use Rattle.pf_base.specs.declared.plain.Limits.{Limits}
 use Rattle.pf_journal.specs.Legal.{Moment, machine_after, moments, moments_from}
 use Rattle.pf_journal.specs.Machine.{Entry, Machine, next, started}
-use Rattle.pf_journal.specs.Summaries.{Tally, nothing_counted, tally_of, with_entry, with_moment}
+use Rattle.pf_journal.specs.Summaries.{nothing_counted, tally_of, with_entry, with_moment}
 
 moments-snoc : (m : Machine) (journal : List Entry) (e : Entry)
     → moments_from m (journal ++ e ∷ []) ≡ moments_from m journal ++ record { before = machine_after m journal; entry = e } ∷ []

@@ -14,6 +14,7 @@ use Rattle.pf_journal.proofs.Examples.{any_up, equal}
 use Rattle.pf_journal.proofs.Pages.{a_gives, b_gives, c_gives, d_gives, newest_gives, older_gives, x_gives}
 use Rattle.pf_journal.proofs.WorkedWeaves.{IsSession}
 use Rattle.pf_journal.specs.Report.{report}
+use Rattle.pf_model.proofs.ScannedTokens.{are_tokens}
 
 -- the selector of the deletion
 up_selects : IsSelector (codes "up") (equal (codes "__name__") (codes "up") ∷ [])
@@ -26,7 +27,7 @@ up_selects = (
         tokens = record { from = 0; to = 2; sort = token.word (codes "up") } ∷ [];
         known = record {
           written = record {
-            shallow = record { cut = record { short = lit≤ tt; are_tokens = record { begins = (refl, refl, tt); whole = refl } }; shallow = refl };
+            shallow = record { cut = record { short = lit≤ tt; are_tokens = are_tokens (record { begins = (refl, refl, tt); whole = refl }) }; shallow = refl };
             written = select (record { metric = Some (codes "up"); braces = None }) None (record { offset = None; at = None; at_first = false });
             derived = record { fits = ((refl, refl), tt); lawful = (tt, tt, tt) };
           };

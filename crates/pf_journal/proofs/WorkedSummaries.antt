@@ -1,5 +1,5 @@
 -- Worked examples of what is counted of a small journal, and of the line that is printed, computed.
-use Rattle.std.proofs.Common.{◌≡◌, ℕ, ℤ, pos, negsuc, Some, List, [], ◌∷◌, refl, codes}
+use Rattle.std.proofs.Common.{◌≡◌, ℤ, pos, negsuc, Some, List, [], ◌∷◌, refl, codes}
 use Rattle.std.specs.Fmt.{digits}
 use Rattle.pf_base.specs.declared.plain.Sample.{Sample}
 use Rattle.pf_journal.proofs.Examples.{at_line, grid, limits_of, line, up_over}

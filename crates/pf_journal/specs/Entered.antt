@@ -78,10 +78,7 @@ Fits known t (script.instant id tenant time query) what =
     IsNamed known.names tenant what × FitsAsk (at_once known.readings time query) what
 Fits known t (script.cancel id asked tenant) what = FitsCancel tenant (asker_of t.asking) t.asked what
 Fits known t (script.answer id asked) what = FitsAnswer t.asked what
-Fits known t (script.plan id line) what = ⊥
-Fits known t (script.keep id line) what = ⊥
-Fits known t (script.take worker) what = ⊥
-Fits known t (script.done worker) what = ⊥
+Fits known t _ what = ⊥
 
 -- the room that a line's entry wants in the journal beside what open queries keep: an ask's is for its cancel and its answer too,
 -- and these have what the ask kept

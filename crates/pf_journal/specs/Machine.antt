@@ -91,10 +91,7 @@ abbrev pub logs_after : List (List Change) → What → List (List Change)
 logs_after logs (append u batch vs entry) = with_log logs u (log_with (log_of logs u) batch.rows vs)
 logs_after logs (delete u ms from to generation entry) = with_log logs u (log_without (log_of logs u) ms from to)
 logs_after logs (ask u asked pin generation floor) = with_log logs u (log_of logs u)
-logs_after logs (full u outstanding) = logs
-logs_after logs (no_tenant name) = logs
-logs_after logs (cancel query) = logs
-logs_after logs (answer query code cached evaluated) = logs
+logs_after logs _ = logs
 
 abbrev pub queries_after : Machine → What → List Open
 queries_after m (append u batch vs entry) = m.queries

@@ -31,7 +31,7 @@ use Rattle.pf_model.specs.Trees as tree
 use Rattle.pf_model.specs.Trees.{Tree, Trees, none, more}
 use Rattle.pf_model.specs.Words.{aggregation_word, function_name, instant_name, match_text, operator_text, range_name}
 use Rattle.pf_lex.specs.CanonicalTokens.{AreMods, ArePrintable, AreWords, HaveWords, IsCut, IsMoment, IsOffset, IsPrintable, IsTime, all_sorts, at_sorts, bool_sorts, group_sorts, grouping_sorts, is_label, is_plain_word, keys_sorts, label_sort, labels_sorts, matcher_sorts, mods_sorts, offset_sorts, operator_sort, range_sorts, resolution_sorts, selector_sorts, sorts_of}
-use Rattle.pf_lex.specs.FirstBytes.{first_passes}
+use Rattle.pf_model.specs.FirstBytes.{first_passes}
 use Rattle.pf_lex.specs.Scans.{is_word_byte}
 use Rattle.pf_lex.specs.declared.token.Mark.TheVariants as mark
 use Rattle.pf_lex.proofs.Parts.{ArePart, Closed, Gap, Optional, Part, a_blank, a_comma, a_duration, a_greater, a_less, a_minus, a_number, a_percent, a_plus, a_slash, a_string, a_times, a_word, all_separated, an_at, at_least, at_most, bracketed, close_brace, close_bracket, closed_closed, closed_is_part, closed_part, gap_closed, gap_is_closed, gap_is_option, gap_part, not_equal, nothing, open_brace, open_bracket, option_gap, option_is_part, option_option, part_gap, two_equal, word_read}

@@ -1,9 +1,7 @@
 pub mod CanonicalTexts
 pub mod Fits
-pub mod Forms
 pub mod LawfulTokens
 pub mod Limits
-pub mod Longest
 pub mod Low
 pub mod Marks
 pub mod Numbers

@@ -10,8 +10,9 @@ use Rattle.std.proofs.lemmas.Slice.Eq.{bytes_eq-Decides}
 use Rattle.pf_base.specs.LabelSets.{goes_on, is_empty, starts_name}
 use Rattle.pf_model.specs.Cuts.{only_if}
 use Rattle.pf_base.proofs.Readings.{bool_cases}
-use Rattle.pf_model.specs.Tokens.{Piece, Sort, ends, wrong, writes, form, is_sign, is_word, number_form, duration_form, string_form, string_from, raw_from, piece, sign, signs, word_sort, with_piece}
-use Rattle.pf_lex.specs.FirstBytes.{first_passes}
+use Rattle.pf_model.specs.TokenScans.{form, number_form, duration_form, word_sort}
+use Rattle.pf_model.specs.Tokens.{Piece, Sort, ends, wrong, writes, is_sign, is_word, string_form, string_from, raw_from, piece, sign, signs, with_piece}
+use Rattle.pf_model.specs.FirstBytes.{first_passes}
 use Rattle.pf_lex.proofs.Numbers.{number_low}
 use Rattle.pf_lex.proofs.Pieces.{ends_same, map_some}
 use Rattle.pf_lex.proofs.Quantities.{duration_goes}

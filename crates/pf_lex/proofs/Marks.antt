@@ -5,14 +5,15 @@ use Rattle.std.specs.List.{list_all, list_any}
 use Rattle.std.specs.Str.{bytes_eq}
 use Rattle.std.proofs.lemmas.Bool.{and_parts}
 use Rattle.pf_model.specs.Cuts.{only_if}
-use Rattle.pf_model.specs.Tokens.{Sort, form, is_sign, sign, signs, token_at}
-use Rattle.pf_lex.specs.FirstBytes.{begins_mark, first_passes}
+use Rattle.pf_model.specs.TokenScans.{form, token_at}
+use Rattle.pf_model.specs.Tokens.{Sort, is_sign, sign, signs}
+use Rattle.pf_model.specs.FirstBytes.{begins_mark, first_passes}
 use Rattle.pf_lex.specs.Scans.{IsInFront, Marks, MarksTwo}
 use Rattle.pf_lex.specs.Seen.{mark_text}
 use Rattle.pf_lex.specs.declared.token.Mark.{Mark}
 use Rattle.pf_lex.specs.declared.token.TokenSort.TheVariants as token
-use Rattle.pf_lex.proofs.Forms.{form_of_mark}
-use Rattle.pf_lex.proofs.Longest.{in_front, none_in_front}
+use Rattle.pf_model.proofs.TokenForms.{form_of_mark}
+use Rattle.pf_model.proofs.LongestToken.{in_front, none_in_front}
 
 and_false : (t : Bool) → (t && false) ≡ false
 and_false true = refl

@@ -18,8 +18,9 @@ use Rattle.pf_base.specs.declared.number.Read.TheVariants.{Number}
 use Rattle.pf_base.proofs.Digits.{both, in_range}
 use Rattle.pf_base.proofs.Readings.{bool_cases, decimal_sound}
 use Rattle.pf_base.specs.LabelSets.{goes_on}
-use Rattle.pf_model.specs.Tokens.{Sort, number, number_form}
-use Rattle.pf_lex.specs.FirstBytes.{begins_quantity, first_passes}
+use Rattle.pf_model.specs.TokenScans.{number_form}
+use Rattle.pf_model.specs.Tokens.{Sort, number}
+use Rattle.pf_model.specs.FirstBytes.{begins_quantity, first_passes}
 use Rattle.pf_lex.specs.Stages.{is_number, is_small, longest_from, longest_number, stage_behind}
 use Rattle.pf_lex.specs.declared.number.Stage.{Stage}
 use Rattle.pf_lex.specs.declared.number.Stage.TheVariants.{Start, Whole, Point, Fraction, Letter, Sign, Exponent, Over}

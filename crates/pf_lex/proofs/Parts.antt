@@ -7,9 +7,10 @@ use Rattle.pf_base.specs.LabelSets.{goes_on}
 use Rattle.pf_base.specs.NumberTexts.{micros_text}
 use Rattle.pf_model.specs.Canonical as text
 use Rattle.pf_model.specs.Canonical.{millis_text, string_text}
+use Rattle.pf_model.specs.Lists as list
 use Rattle.pf_model.specs.Tokens.{Sort, duration, is_word, number, sign, string, word}
 use Rattle.pf_lex.specs.CanonicalTokens.{behind_commas, is_plain_word, separated}
-use Rattle.pf_lex.specs.FirstBytes.{first_passes}
+use Rattle.pf_model.specs.FirstBytes.{first_passes}
 use Rattle.pf_lex.specs.Scans.{is_word_byte}
 use Rattle.pf_lex.specs.declared.token.Mark.TheVariants as mark
 use Rattle.pf_lex.proofs.Spelled.{Reads, blank, token}
@@ -202,13 +203,13 @@ ArePart [] (s ∷ ss) = ⊥
 ArePart (t ∷ ts) [] = ⊥
 ArePart (t ∷ ts) (s ∷ ss) = Part t s × ArePart ts ss
 
-pub all_behind : (between : List ℕ) (ts : List (List ℕ)) (ss : List (List Sort)) → Gap between (sign (codes ",") ∷ []) → ArePart ts ss → Optional (text.all_behind between ts) (behind_commas ss)
+pub all_behind : (between : List ℕ) (ts : List (List ℕ)) (ss : List (List Sort)) → Gap between (sign (codes ",") ∷ []) → ArePart ts ss → Optional (list.all_behind between ts) (behind_commas ss)
 all_behind between [] [] g h = nothing
 all_behind between [] (s ∷ ss) g h = absurd h
 all_behind between (t ∷ ts) [] g h = absurd h
 all_behind between (t ∷ ts) (s ∷ ss) g h = gap_part g (part_option h.0 (all_behind between ts ss g h.1))
 
-pub all_separated : (between : List ℕ) (ts : List (List ℕ)) (ss : List (List Sort)) → Gap between (sign (codes ",") ∷ []) → ArePart ts ss → Part (text.separated between ts) (separated ss)
+pub all_separated : (between : List ℕ) (ts : List (List ℕ)) (ss : List (List Sort)) → Gap between (sign (codes ",") ∷ []) → ArePart ts ss → Part (list.separated between ts) (separated ss)
 all_separated between [] [] g h = option_is_part nothing
 all_separated between [] (s ∷ ss) g h = absurd h
 all_separated between (t ∷ ts) [] g h = absurd h

@@ -12,7 +12,7 @@ use Rattle.pf_model.specs.Cuts.{only_if}
 use Rattle.pf_base.proofs.Readings.{bool_cases}
 use Rattle.pf_model.specs.Tokens.{Piece, ends, wrong, writes, character, escape, escaped_by, escapes, hexadecimal, piece, raw_from, string_from, with_piece}
 use Rattle.pf_lex.specs.Quotes.{end_behind, quoted_end, raw_end}
-use Rattle.pf_lex.proofs.Longest.{some_is}
+use Rattle.pf_model.proofs.LongestToken.{some_is}
 
 -- what is written next depends on the bytes that it takes alone
 pub record IsLocal (g : List ℕ → Piece) (xs v : List ℕ) (f : ℕ) : Type 0 where

@@ -8,12 +8,14 @@ use Rattle.std.proofs.lemmas.List.{drop-drop, get_or-drop, length-drop, map_push
 use Rattle.std.specs.Str.{IsCharBoundary, IsUtf8}
 use Rattle.std.proofs.lemmas.Str.{IsCharBoundary-after_ascii, IsCharBoundary-before_ascii}
 use Rattle.pf_model.specs.Cuts.{only_if}
-use Rattle.pf_lex.proofs.Longest.{longest_cases}
+use Rattle.pf_model.proofs.LongestToken.{longest_cases}
+use Rattle.pf_model.proofs.ScannedTokens.{are_tokens, is_bad}
 use Rattle.pf_lex.proofs.Low.{form_low, is_low, last_is}
 use Rattle.std.proofs.lemmas.List.Elements.{All-push}
 use Rattle.pf_model.specs.Tokens as definition
-use Rattle.pf_model.specs.Tokens.{Sort, AreTokens, BeginsWith, IsBadToken, end_of, form, inside_after, inside_behind, lawful, longest, may_precede, next_at, separators, sign, token_at}
-use Rattle.pf_lex.specs.FirstBytes.{begins_mark, begins_quantity, begins_string, begins_word, first_passes}
+use Rattle.pf_model.specs.TokenScans.{AreNext, form, lawful, longest, token_at}
+use Rattle.pf_model.specs.Tokens.{Sort, AreTokens, IsBadToken, end_of, inside_after, inside_behind, may_precede, next_at, separators, sign}
+use Rattle.pf_model.specs.FirstBytes.{begins_mark, begins_quantity, begins_string, begins_word, first_passes}
 use Rattle.pf_lex.specs.Scans.{BeginsAt, IsInFront}
 use Rattle.pf_lex.specs.Seen.{IsExact, IsTokenOf, mark_text, sort_of, text_of, token_of}
 use Rattle.pf_lex.specs.declared.token.Mark.{Mark}
@@ -112,8 +114,8 @@ other_mark inside mark.NotLike h k = same inside
 
 -- ---- one token more
 
-begins_more : (text : List ℕ) (inside : Bool) (at : ℕ) (ts : List definition.Token) (t : definition.Token) → BeginsWith text inside at ts → next_at text (end_of at ts) ≡ t.from
-    → token_at (inside_after inside ts) text t.from ≡ Some t → BeginsWith text inside at (ts ++ t ∷ [])
+begins_more : (text : List ℕ) (inside : Bool) (at : ℕ) (ts : List definition.Token) (t : definition.Token) → AreNext text inside at ts → next_at text (end_of at ts) ≡ t.from
+    → token_at (inside_after inside ts) text t.from ≡ Some t → AreNext text inside at (ts ++ t ∷ [])
 begins_more text inside at [] t h e k = (e, k, tt)
 begins_more text inside at (u ∷ us) t h e k = (h.0, h.1, begins_more text (inside_behind inside u.sort) u.to us t h.2 e k)
 
@@ -127,7 +129,7 @@ after_more inside (u ∷ us) t = after_more (inside_behind inside u.sort) us t
 
 -- the tokens up to a place
 pub record AreUpTo (text : List ℕ) (found : List Token) (behind : Bool) (at : ℕ) : Type 0 where
-  pub begins : BeginsWith text false 0 (map (token_of text) found)
+  pub begins : AreNext text false 0 (map (token_of text) found)
   pub place : next_at text (end_of 0 (map (token_of text) found)) ≡ at
   pub inside : inside_after false (map (token_of text) found) ≡ behind
   pub parts : All (IsTokenOf text) found
@@ -246,7 +248,7 @@ one_more text found more t inside after at next u h k a n e =
     let m : map (token_of text) more ≡ map (token_of text) found ++ token_of text t ∷ [] = ap (map (token_of text)) e ∙ map_push (token_of text) found t in
     let ts = map (token_of text) found in
     record {
-      begins = subst (BeginsWith text false 0) (sym m) (begins_more text false 0 ts (token_of text t) h.begins (h.place ∙ sym k.from)
+      begins = subst (AreNext text false 0) (sym m) (begins_more text false 0 ts (token_of text t) h.begins (h.place ∙ sym k.from)
           (ap (λ i. token_at i text t.from) h.inside ∙ ap (token_at inside text) k.from ∙ k.token));
       place = ap (λ us. next_at text (end_of 0 us)) m ∙ ap (next_at text) (end_more 0 ts (token_of text t)) ∙ sym n;
       inside = ap (inside_after false) m ∙ after_more false ts (token_of text t) ∙ ap (λ i. inside_behind i (sort_of (text_of text t) t.sort)) h.inside ∙ sym a;
@@ -254,13 +256,13 @@ one_more text found more t inside after at next u h k a n e =
     }
 
 pub whole : (text : List ℕ) (found : List Token) (inside : Bool) (at : ℕ) → AreUpTo text found inside at → at ≡ length text → AreTokens text (map (token_of text) found)
-whole text found inside at h e = record { begins = h.begins; whole = h.place ∙ e }
+whole text found inside at h e = are_tokens (record { begins = h.begins; whole = h.place ∙ e })
 
 pub bad_at : (text : List ℕ) (found : List Token) (inside : Bool) (at : ℕ) → AreUpTo text found inside at → at < length text → token_at inside text at ≡ None → IsBadToken text at
-bad_at text found inside at h low none = record {
+bad_at text found inside at h low none = is_bad (record {
   before = map (token_of text) found;
   begins = h.begins;
   place = h.place;
   within = low;
   bad = ap (λ i. token_at i text at) h.inside ∙ none;
-}
+})

@@ -3,7 +3,7 @@ use Rattle.std.proofs.Common.{◌≡◌, ◌∙◌, ℕ, zero, suc, ◌+◌, ◌
 use Rattle.std.specs.List.{list_all, prefix_len}
 use Rattle.std.proofs.lemmas.Bool.{and_parts, and_from}
 use Rattle.pf_base.proofs.Readings.{bool_cases}
-use Rattle.pf_lex.specs.FirstBytes.{first_passes}
+use Rattle.pf_model.specs.FirstBytes.{first_passes}
 
 -- bytes that all pass lie in the front of those that do
 pub all_within : (p : ℕ → Bool) (bytes : List ℕ) (m : ℕ) → list_all p (take m bytes) ≡ true → m ≤ length bytes → m ≤ prefix_len p bytes

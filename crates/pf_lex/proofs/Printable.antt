@@ -17,7 +17,7 @@ use Rattle.pf_model.specs.Trees.{Tree, Trees}
 use Rattle.pf_model.specs.Words.{function_of}
 use Rattle.pf_lex.specs.CanonicalTokens.{AreMods, ArePrintable, AreWords, CanBePrinted, HaveWords, IsAmount, IsLawfulSort, IsMoment, IsOffset, IsPrintable, IsTime, is_label, is_plain_word}
 use Rattle.pf_lex.proofs.LawfulTokens.{AllLawful, tokens_lawful}
-use Rattle.pf_lex.proofs.Longest.{some_is}
+use Rattle.pf_model.proofs.LongestToken.{some_is}
 
 -- ---- tokens that are lawful and not too late
 

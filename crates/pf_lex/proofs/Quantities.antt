@@ -19,15 +19,16 @@ use Rattle.pf_model.specs.Cuts.{only_if}
 use Rattle.pf_base.proofs.Digits.{both}
 use Rattle.pf_base.proofs.Durations.{read_spelled, spelled_read}
 use Rattle.pf_base.proofs.Readings.{bool_cases}
-use Rattle.pf_model.specs.Tokens.{Sort, number, duration, duration_form, form, has_letter, may_precede, number_form, token_at}
-use Rattle.pf_lex.specs.FirstBytes.{begins_quantity, first_passes}
+use Rattle.pf_model.specs.TokenScans.{duration_form, form, number_form, token_at}
+use Rattle.pf_model.specs.Tokens.{Sort, number, duration, has_letter, may_precede}
+use Rattle.pf_model.specs.FirstBytes.{begins_quantity, first_passes}
 use Rattle.pf_lex.specs.Scans.{Finds, IsInFront}
 use Rattle.pf_lex.specs.Seen.{sort_of}
 use Rattle.pf_lex.specs.Stages.{FindsDuration, FindsNumber, IsDurationInFront, IsNumberInFront, longest_number}
 use Rattle.pf_lex.specs.declared.token.TokenSort.{TokenSort}
 use Rattle.pf_lex.specs.declared.token.TokenSort.TheVariants.{Duration}
-use Rattle.pf_lex.proofs.Forms.{form_of_quantity}
-use Rattle.pf_lex.proofs.Longest.{in_front, none_in_front, some_is}
+use Rattle.pf_model.proofs.TokenForms.{form_of_quantity}
+use Rattle.pf_model.proofs.LongestToken.{in_front, none_in_front, some_is}
 use Rattle.pf_lex.proofs.Numbers.{no_number, no_number_behind, no_number_found, number_found, number_read, stops}
 
 -- ---- letters in front

@@ -2,14 +2,16 @@
 use Rattle.std.proofs.Common.{◌≡◌, ◌∙◌, ℕ, ◌+◌, ◌≤◌, Bool, false, Some, List, [], ◌∷◌, ◌++◌, length, drop, refl, sym, ap, arith, length-append}
 use Rattle.std.specs.Prelude.{map, option_map}
 use Rattle.std.proofs.lemmas.List.{drop-drop, drop_at, length-drop}
-use Rattle.pf_model.specs.Tokens.{Sort, Token, BeginsWith, end_of, inside_behind, next_at, separators, token_at}
+use Rattle.pf_model.specs.TokenScans.{AreNext, token_at}
+use Rattle.pf_model.specs.Tokens.{Sort, Token, end_of, inside_behind, next_at, separators}
+use Rattle.pf_model.proofs.ScannedTokens.{are_tokens}
 use Rattle.pf_lex.specs.CanonicalTokens.{HasTokens}
 use Rattle.pf_lex.proofs.Places.{at_place, moved}
 
 -- from a place on these are the tokens, up to the text's end
 pub record AreFrom (text : List ℕ) (inside : Bool) (at : ℕ) (sorts : List Sort) : Type 0 where
   pub tokens : List Token
-  pub begins : BeginsWith text inside at tokens
+  pub begins : AreNext text inside at tokens
   pub whole : next_at text (end_of at tokens) ≡ length text
   pub same : map (λ (t : Token). t.sort) tokens ≡ sorts
 
@@ -32,7 +34,7 @@ done inside = record {
   };
 }
 
-from_next : (text : List ℕ) (inside : Bool) (at place : ℕ) (ss : List Sort) (ts : List Token) → next_at text at ≡ next_at text place → BeginsWith text inside place ts → next_at text (end_of place ts) ≡ length text
+from_next : (text : List ℕ) (inside : Bool) (at place : ℕ) (ss : List Sort) (ts : List Token) → next_at text at ≡ next_at text place → AreNext text inside place ts → next_at text (end_of place ts) ≡ length text
     → map (λ (t : Token). t.sort) ts ≡ ss → AreFrom text inside at ss
 from_next text inside at place ss [] n b w s = record { tokens = []; begins = tt; whole = n ∙ w; same = s }
 from_next text inside at place ss (t ∷ ts) n b w s = record { tokens = t ∷ ts; begins = (n ∙ b.0, b.1, b.2); whole = w; same = s }
@@ -71,4 +73,4 @@ token {inside} {xs} {rest} {s} {ss} h k = record {
 pub whole_text : (text : List ℕ) (ss : List Sort) → Reads false text ss → HasTokens text ss
 whole_text text ss h =
     let f = h.read text 0 refl (omega arith) in
-    record { tokens = f.tokens; are = record { begins = f.begins; whole = f.whole }; same = f.same }
+    record { tokens = f.tokens; are = are_tokens (record { begins = f.begins; whole = f.whole }); same = f.same }

@@ -3,14 +3,15 @@ use Rattle.std.proofs.Common.{◌≡◌, ◌∙◌, ℕ, zero, suc, ◌<◌, ◌
 use Rattle.std.specs.Prelude.{option_map, nat_eq, unwrap_or}
 use Rattle.std.proofs.lemmas.Bool.Decides.{nat_tests}
 use Rattle.pf_base.proofs.Readings.{bool_cases}
-use Rattle.pf_model.specs.Tokens.{Sort, form, raw_from, string, string_form, string_from, token_at}
-use Rattle.pf_lex.specs.FirstBytes.{begins_string, first_passes}
+use Rattle.pf_model.specs.TokenScans.{form, token_at}
+use Rattle.pf_model.specs.Tokens.{Sort, raw_from, string, string_form, string_from}
+use Rattle.pf_model.specs.FirstBytes.{begins_string, first_passes}
 use Rattle.pf_lex.specs.Quotes.{quoted_end, raw_end, string_end}
 use Rattle.pf_lex.specs.Scans.{IsInFront}
 use Rattle.pf_lex.specs.Seen.{written}
 use Rattle.pf_lex.specs.declared.token.TokenSort.TheVariants as token
-use Rattle.pf_lex.proofs.Forms.{form_of_string}
-use Rattle.pf_lex.proofs.Longest.{in_front, none_in_front, some_is}
+use Rattle.pf_model.proofs.TokenForms.{form_of_string}
+use Rattle.pf_model.proofs.LongestToken.{in_front, none_in_front, some_is}
 use Rattle.pf_lex.proofs.Pieces.{StandsFor, map_some, quoted_stands, quoted_within, raw_ends, raw_stands, string_ends}
 
 abbrev stood : Bool → ℕ → List ℕ → Option (List ℕ)

@@ -21,13 +21,14 @@ use Rattle.pf_base.proofs.ReadBack.{clamp_value, micros_are, own}
 use Rattle.pf_base.proofs.Digits.{both}
 use Rattle.pf_base.proofs.Readings.{bool_cases, decimal_spelled}
 use Rattle.pf_model.specs.Canonical.{millis_text, string_byte, string_bytes_of, string_text}
-use Rattle.pf_model.specs.Tokens.{Sort, number, duration, string, word, duration_form, form, has_letter, is_blank, is_sign, is_word, may_precede, number_form, piece, separators, sign, string_from, with_piece, writes}
-use Rattle.pf_lex.specs.FirstBytes.{begins_mark, begins_quantity, begins_string, begins_word, first_passes}
+use Rattle.pf_model.specs.TokenScans.{duration_form, form, number_form}
+use Rattle.pf_model.specs.Tokens.{Sort, number, duration, string, word, has_letter, is_blank, is_sign, is_word, may_precede, piece, separators, sign, string_from, with_piece, writes}
+use Rattle.pf_model.specs.FirstBytes.{begins_mark, begins_quantity, begins_string, begins_word, first_passes}
 use Rattle.pf_lex.specs.Quotes.{end_behind, quoted_end, string_end}
 use Rattle.pf_lex.specs.Scans.{is_word_byte, MarksTwo}
 use Rattle.pf_lex.specs.Seen.{mark_text, written}
 use Rattle.pf_lex.specs.declared.token.Mark.{Mark}
-use Rattle.pf_lex.proofs.Longest.{in_front}
+use Rattle.pf_model.proofs.LongestToken.{in_front}
 use Rattle.pf_lex.proofs.Marks.{one_in_front, two_in_front}
 use Rattle.pf_lex.proofs.Numbers.{no_number, number_ends, number_first}
 use Rattle.pf_lex.proofs.Quantities.{fits_by, none_by, no_duration_over, duration_none, form_of_duration}

@@ -15,7 +15,7 @@ use Rattle.pf_model.specs.Cuts.{only_if}
 use Rattle.pf_base.proofs.Readings.{bool_cases}
 use Rattle.pf_model.specs.Tokens.{Piece, ends, wrong, writes, character, escape, escaped_by, escapes, hexadecimal, piece, raw_from, string_from, with_piece}
 use Rattle.pf_lex.specs.Seen.{written}
-use Rattle.pf_lex.proofs.Longest.{some_is}
+use Rattle.pf_model.proofs.LongestToken.{some_is}
 use Rattle.pf_lex.proofs.Low.{is_low}
 use Rattle.pf_lex.specs.Quotes.{bytes_of, piece_of, raw_end}
 use Rattle.pf_lex.specs.declared.string.Piece.TheVariants as found

@@ -10,12 +10,13 @@ use Rattle.std.proofs.lemmas.Slice.Eq.{bytes_eq-Decides}
 use Rattle.pf_base.specs.LabelSets.{goes_on, starts_name}
 use Rattle.pf_model.specs.Cuts.{only_if}
 use Rattle.pf_base.proofs.Readings.{bool_cases}
-use Rattle.pf_model.specs.Tokens.{form, has_letter, may_precede, number, token_at, word, word_sort}
-use Rattle.pf_lex.specs.FirstBytes.{begins_word, first_passes}
+use Rattle.pf_model.specs.TokenScans.{form, token_at, word_sort}
+use Rattle.pf_model.specs.Tokens.{has_letter, may_precede, number, word}
+use Rattle.pf_model.specs.FirstBytes.{begins_word, first_passes}
 use Rattle.pf_lex.specs.Scans.{IsInFront, is_word_byte}
 use Rattle.pf_lex.specs.declared.token.TokenSort.TheVariants as token
-use Rattle.pf_lex.proofs.Forms.{form_of_word}
-use Rattle.pf_lex.proofs.Longest.{in_front}
+use Rattle.pf_model.proofs.TokenForms.{form_of_word}
+use Rattle.pf_model.proofs.LongestToken.{in_front}
 use Rattle.pf_lex.proofs.Prefixes.{all_within, front_ends, front_passes, front_some}
 
 begins_is : (b : ℕ) → begins_word b ≡ true → is_word_byte b ≡ true

@@ -1,7 +1,8 @@
 -- How a text is cut from the left: this project's own. The private functions compute these.
 use Rattle.std.specs.Prelude.{◌≡◌, ℕ, ◌<◌, ◌≤◌, ◌||◌, Bool, true, false, List, length, take, nat_eq, Option, Some, None}
 use Rattle.pf_base.specs.LabelSets.{goes_on}
-use Rattle.pf_model.specs.Tokens.{inside_behind, is_sign, next_at, token_at}
+use Rattle.pf_model.specs.TokenScans.{token_at}
+use Rattle.pf_model.specs.Tokens.{inside_behind, is_sign, next_at}
 use Rattle.pf_lex.specs.Seen.{IsExact, mark_text, sort_of, text_of, token_of}
 use Rattle.pf_lex.specs.declared.token.Token.{Token}
 use Rattle.pf_lex.specs.declared.token.Mark.{Mark}

@@ -4,7 +4,8 @@ use Rattle.std.specs.Char.{is_ascii_digit}
 use Rattle.std.specs.List.{prefix_len}
 use Rattle.pf_base.specs.LabelSets.{goes_on}
 use Rattle.pf_base.specs.Limits.{greatest_exponent}
-use Rattle.pf_model.specs.Tokens.{has_letter, number_form, duration_form}
+use Rattle.pf_model.specs.TokenScans.{number_form, duration_form}
+use Rattle.pf_model.specs.Tokens.{has_letter}
 use Rattle.pf_lex.specs.Seen.{IsExact, sort_of}
 use Rattle.pf_lex.specs.declared.number.Stage.{Stage}
 use Rattle.pf_lex.specs.declared.number.Stage.TheVariants.{Start, Whole, Point, Fraction, Letter, Sign, Exponent, Over}

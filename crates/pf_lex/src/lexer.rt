@@ -4,7 +4,7 @@ ghost use Rattle.std.specs.Prelude.{◌≡◌, ◌<◌, ◌≤◌, ℕ, length, 
 ghost use Rattle.std.specs.List.{All};
 ghost use Rattle.pf_model.specs.Parsing.{most_bytes};
 ghost use Rattle.pf_model.specs.Tokens.{AreTokens, inside_behind, next_at, sign};
-ghost use Rattle.pf_lex.specs.FirstBytes.{begins_quantity, begins_string, begins_word};
+ghost use Rattle.pf_model.specs.FirstBytes.{begins_quantity, begins_string, begins_word};
 ghost use Rattle.pf_lex.specs.Scans.{Finds, FindsAt, Steps};
 ghost use Rattle.pf_lex.specs.Seen.{IsTokenOf, IsFault, mark_text, sort_of, token_of};
 ghost use Rattle.pf_lex.specs.declared.token.LexError.TheVariants.{TooLong};

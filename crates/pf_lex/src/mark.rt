@@ -1,7 +1,7 @@
 //! Signs.
 
 ghost use Rattle.std.specs.Prelude.{◌≡◌, ◌∷◌, [], false, true};
-ghost use Rattle.pf_lex.specs.FirstBytes.{begins_mark, first_passes};
+ghost use Rattle.pf_model.specs.FirstBytes.{begins_mark, first_passes};
 ghost use Rattle.pf_lex.specs.Scans.{Finds, Marks, MarksTwo};
 
 use crate::token::{Mark, TokenSort};

@@ -4,7 +4,7 @@ ghost use Rattle.std.specs.Prelude.{◌≡◌, ◌+◌, ◌<◌, ◌≤◌, Bool
 ghost use Rattle.std.specs.Char.{digit_value, is_ascii_hexdigit};
 ghost use Rattle.std.specs.List.{list_all};
 ghost use Rattle.pf_model.specs.Tokens.{character, escape, escaped_by, escapes, hexadecimal, piece};
-ghost use Rattle.pf_lex.specs.FirstBytes.{begins_string, first_passes};
+ghost use Rattle.pf_model.specs.FirstBytes.{begins_string, first_passes};
 ghost use Rattle.pf_lex.specs.Quotes.{further_of, piece_of, quoted_end, raw_end, string_end};
 ghost use Rattle.pf_lex.specs.Scans.{Finds};
 

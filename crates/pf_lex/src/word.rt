@@ -3,7 +3,7 @@
 ghost use Rattle.std.specs.Prelude.{◌≡◌, true, false, pos};
 ghost use Rattle.std.specs.Str.{str_eq_ignore_ascii_case};
 ghost use Rattle.pf_base.specs.Limits.{greatest_value};
-ghost use Rattle.pf_lex.specs.FirstBytes.{begins_word, first_passes};
+ghost use Rattle.pf_model.specs.FirstBytes.{begins_word, first_passes};
 ghost use Rattle.pf_lex.specs.Scans.{Finds};
 
 use crate::spans::word_len;

@@ -7,6 +7,7 @@ mod GridPieces
 pub mod KeySets
 pub mod LegParts
 pub mod Levels
+pub mod LongestToken
 pub mod MergeLaw
 pub mod MergeQuery
 mod MergedParts
@@ -15,10 +16,12 @@ pub mod OnePlace
 pub mod Places
 pub mod PreorderSizes
 pub mod SelectorLabels
+pub mod ScannedTokens
 mod ShardSteps
 mod ShardedCells
 mod ShardedSelectors
 pub mod TimesRead
+pub mod TokenForms
 mod Worked
 mod WorkedLogs
 mod WorkedNames

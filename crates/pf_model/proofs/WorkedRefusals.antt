@@ -5,6 +5,7 @@ use Rattle.pf_model.specs.Grammar as grammar
 use Rattle.pf_model.specs.Parsing.{Refuses, unexpected, too_deep_at}
 use Rattle.pf_model.specs.Tokens.{Token}
 use Rattle.pf_model.specs.Tokens as token
+use Rattle.pf_model.proofs.ScannedTokens.{are_tokens}
 
 -- ---- nested too deep
 
@@ -50,7 +51,7 @@ a_comment_alone = (
   (
     0,
     (
-      record { cut = record { short = omega arith; are_tokens = record { begins = tt; whole = refl } }; shallow = refl },
+      record { cut = record { short = omega arith; are_tokens = are_tokens (record { begins = tt; whole = refl }) }; shallow = refl },
       record {
         within = omega arith;
         begins = record { further = token.number (pos 0) ∷ []; written = number (pos 0); derived = record { fits = (refl, tt); lawful = tt } };
@@ -105,7 +106,7 @@ a_closing_bracket_first = (
   (
     0,
     (
-      record { cut = record { short = omega arith; are_tokens = record { begins = (refl, refl, tt); whole = refl } }; shallow = refl },
+      record { cut = record { short = omega arith; are_tokens = are_tokens (record { begins = (refl, refl, tt); whole = refl }) }; shallow = refl },
       record {
         within = omega arith;
         begins = record { further = token.number (pos 0) ∷ []; written = number (pos 0); derived = record { fits = (refl, tt); lawful = tt } };

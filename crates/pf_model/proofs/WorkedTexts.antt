@@ -21,6 +21,7 @@ use Rattle.pf_model.specs.Tokens as token
 use Rattle.pf_model.specs.Trees as tree
 use Rattle.pf_model.specs.Trees.{Tree}
 use Rattle.pf_model.specs.Typing.{typing, wrong}
+use Rattle.pf_model.proofs.ScannedTokens.{are_tokens}
 
 -- `sum by (job) (rate(http_requests_total{job=~"a|b",code!="500"}[5m] offset -1m))`
 abbrev rate_by_job_tree : Tree
@@ -34,7 +35,7 @@ rate_by_job = record {
     known = record {
       written = record {
         shallow = record {
-          cut = record { short = omega arith; are_tokens = record { begins = (refl, refl, (refl, refl, (refl, refl, (refl, refl, (refl, refl, (refl, refl, (refl, refl, (refl, refl, (refl, refl, (refl, refl, (refl, refl, (refl, refl, (refl, refl, (refl, refl, (refl, refl, (refl, refl, (refl, refl, (refl, refl, (refl, refl, (refl, refl, (refl, refl, (refl, refl, (refl, refl, (refl, refl, (refl, refl, (refl, refl, tt)))))))))))))))))))))))))); whole = refl } };
+          cut = record { short = omega arith; are_tokens = are_tokens (record { begins = (refl, refl, (refl, refl, (refl, refl, (refl, refl, (refl, refl, (refl, refl, (refl, refl, (refl, refl, (refl, refl, (refl, refl, (refl, refl, (refl, refl, (refl, refl, (refl, refl, (refl, refl, (refl, refl, (refl, refl, (refl, refl, (refl, refl, (refl, refl, (refl, refl, (refl, refl, (refl, refl, (refl, refl, (refl, refl, (refl, refl, tt)))))))))))))))))))))))))); whole = refl }) };
           shallow = refl;
         };
         written = (aggregate aggregation.Sum (before false (record { labels = (codes "job" ∷ []); comma = false })) (more (call (codes "rate") (more (select (record { metric = (Some (codes "http_requests_total")); braces = (Some (record { matchers = ((record { label = codes "job"; sign = match.Like; text = codes "a|b" }) ∷ (record { label = codes "code"; sign = match.NotEqual; text = codes "500" }) ∷ []); comma = false })) }) (Some 300000) (record { offset = (Some (record { minus = true; millis = 60000 })); at = None; at_first = false })) none)) none));
@@ -67,7 +68,7 @@ precedence = record {
     known = record {
       written = record {
         shallow = record {
-          cut = record { short = omega arith; are_tokens = record { begins = (refl, refl, (refl, refl, (refl, refl, (refl, refl, (refl, refl, (refl, refl, (refl, refl, (refl, refl, (refl, refl, (refl, refl, (refl, refl, (refl, refl, (refl, refl, tt))))))))))))); whole = refl } };
+          cut = record { short = omega arith; are_tokens = are_tokens (record { begins = (refl, refl, (refl, refl, (refl, refl, (refl, refl, (refl, refl, (refl, refl, (refl, refl, (refl, refl, (refl, refl, (refl, refl, (refl, refl, (refl, refl, (refl, refl, tt))))))))))))); whole = refl }) };
           shallow = refl;
         };
         written = (binary (record { sign = operator.Or; with_bool = false }) None (binary (record { sign = operator.Equal; with_bool = true }) None (binary (record { sign = operator.Add; with_bool = false }) None (number (pos 1000000)) (binary (record { sign = operator.Mul; with_bool = false }) None (number (pos 2000000)) (number (pos 3000000)))) (number (pos 4000000))) (call (codes "vector") (more (number (pos 1000000)) none)));
@@ -100,7 +101,7 @@ signs = record {
     known = record {
       written = record {
         shallow = record {
-          cut = record { short = omega arith; are_tokens = record { begins = (refl, refl, (refl, refl, (refl, refl, (refl, refl, (refl, refl, (refl, refl, (refl, refl, (refl, refl, (refl, refl, (refl, refl, tt)))))))))); whole = refl } };
+          cut = record { short = omega arith; are_tokens = are_tokens (record { begins = (refl, refl, (refl, refl, (refl, refl, (refl, refl, (refl, refl, (refl, refl, (refl, refl, (refl, refl, (refl, refl, (refl, refl, tt)))))))))); whole = refl }) };
           shallow = refl;
         };
         written = (binary (record { sign = operator.Rem; with_bool = false }) None (unary true (unary true (select (record { metric = (Some (codes "x")); braces = None }) None (record { offset = (Some (record { minus = false; millis = 300000 })); at = (Some (time front.bare (pos 1500000))); at_first = true })))) (unary false (number (pos 2000000))));
@@ -133,7 +134,7 @@ matching = record {
     known = record {
       written = record {
         shallow = record {
-          cut = record { short = omega arith; are_tokens = record { begins = (refl, refl, (refl, refl, (refl, refl, (refl, refl, (refl, refl, (refl, refl, (refl, refl, (refl, refl, (refl, refl, (refl, refl, (refl, refl, (refl, refl, (refl, refl, (refl, refl, (refl, refl, (refl, refl, (refl, refl, (refl, refl, (refl, refl, (refl, refl, (refl, refl, tt))))))))))))))))))))); whole = refl } };
+          cut = record { short = omega arith; are_tokens = are_tokens (record { begins = (refl, refl, (refl, refl, (refl, refl, (refl, refl, (refl, refl, (refl, refl, (refl, refl, (refl, refl, (refl, refl, (refl, refl, (refl, refl, (refl, refl, (refl, refl, (refl, refl, (refl, refl, (refl, refl, (refl, refl, (refl, refl, (refl, refl, (refl, refl, (refl, refl, tt))))))))))))))))))))); whole = refl }) };
           shallow = refl;
         };
         written = (binary (record { sign = operator.Unless; with_bool = false }) None (binary (record { sign = operator.Div; with_bool = false }) (Some (record { on = true; labels = (record { labels = (codes "job" ∷ codes "pod" ∷ []); comma = true }); group = (Some (record { left = true; include = (Some (record { labels = (codes "node" ∷ []); comma = false })) })) })) (select (record { metric = (Some (codes "a")); braces = None }) None (record { offset = None; at = None; at_first = false })) (select (record { metric = None; braces = (Some (record { matchers = ((record { label = codes "b"; sign = match.Equal; text = codes "c" }) ∷ []); comma = true })) }) None (record { offset = None; at = None; at_first = false }))) (select (record { metric = (Some (codes "b")); braces = None }) None (record { offset = None; at = None; at_first = false })));
@@ -166,7 +167,7 @@ group_without_labels = record {
     known = record {
       written = record {
         shallow = record {
-          cut = record { short = omega arith; are_tokens = record { begins = (refl, refl, (refl, refl, (refl, refl, (refl, refl, (refl, refl, (refl, refl, (refl, refl, (refl, refl, tt)))))))); whole = refl } };
+          cut = record { short = omega arith; are_tokens = are_tokens (record { begins = (refl, refl, (refl, refl, (refl, refl, (refl, refl, (refl, refl, (refl, refl, (refl, refl, (refl, refl, tt)))))))); whole = refl }) };
           shallow = refl;
         };
         written = (binary (record { sign = operator.Add; with_bool = false }) (Some (record { on = false; labels = (record { labels = (codes "x" ∷ []); comma = false }); group = (Some (record { left = false; include = None })) })) (select (record { metric = (Some (codes "a")); braces = None }) None (record { offset = None; at = None; at_first = false })) (select (record { metric = (Some (codes "b")); braces = None }) None (record { offset = None; at = None; at_first = false })));
@@ -199,7 +200,7 @@ subquery_at_end = record {
     known = record {
       written = record {
         shallow = record {
-          cut = record { short = omega arith; are_tokens = record { begins = (refl, refl, (refl, refl, (refl, refl, (refl, refl, (refl, refl, (refl, refl, (refl, refl, (refl, refl, (refl, refl, (refl, refl, (refl, refl, (refl, refl, (refl, refl, (refl, refl, (refl, refl, (refl, refl, (refl, refl, tt))))))))))))))))); whole = refl } };
+          cut = record { short = omega arith; are_tokens = are_tokens (record { begins = (refl, refl, (refl, refl, (refl, refl, (refl, refl, (refl, refl, (refl, refl, (refl, refl, (refl, refl, (refl, refl, (refl, refl, (refl, refl, (refl, refl, (refl, refl, (refl, refl, (refl, refl, (refl, refl, (refl, refl, tt))))))))))))))))); whole = refl }) };
           shallow = refl;
         };
         written = (call (codes "max_over_time") (more (subquery (brackets (binary (record { sign = operator.Add; with_bool = false }) None (select (record { metric = (Some (codes "a")); braces = None }) None (record { offset = None; at = None; at_first = false })) (select (record { metric = (Some (codes "b")); braces = None }) None (record { offset = None; at = None; at_first = false })))) 5400000 (Some 15000) (record { offset = None; at = (Some end); at_first = true })) none));
@@ -232,7 +233,7 @@ keywords_as_labels = record {
     known = record {
       written = record {
         shallow = record {
-          cut = record { short = omega arith; are_tokens = record { begins = (refl, refl, (refl, refl, (refl, refl, (refl, refl, (refl, refl, (refl, refl, (refl, refl, (refl, refl, (refl, refl, (refl, refl, (refl, refl, (refl, refl, (refl, refl, (refl, refl, (refl, refl, tt))))))))))))))); whole = refl } };
+          cut = record { short = omega arith; are_tokens = are_tokens (record { begins = (refl, refl, (refl, refl, (refl, refl, (refl, refl, (refl, refl, (refl, refl, (refl, refl, (refl, refl, (refl, refl, (refl, refl, (refl, refl, (refl, refl, (refl, refl, (refl, refl, (refl, refl, tt))))))))))))))); whole = refl }) };
           shallow = refl;
         };
         written = (aggregate aggregation.Sum (behind true (record { labels = (codes "sum" ∷ codes "__name__" ∷ []); comma = false })) (more (select (record { metric = (Some (codes "x")); braces = (Some (record { matchers = ((record { label = codes "by"; sign = match.Equal; text = codes "on" }) ∷ []); comma = false })) }) None (record { offset = None; at = None; at_first = false })) none));
@@ -265,7 +266,7 @@ quantile_of = record {
     known = record {
       written = record {
         shallow = record {
-          cut = record { short = omega arith; are_tokens = record { begins = (refl, refl, (refl, refl, (refl, refl, (refl, refl, (refl, refl, (refl, refl, (refl, refl, (refl, refl, (refl, refl, (refl, refl, (refl, refl, (refl, refl, (refl, refl, (refl, refl, (refl, refl, (refl, refl, (refl, refl, tt))))))))))))))))); whole = refl } };
+          cut = record { short = omega arith; are_tokens = are_tokens (record { begins = (refl, refl, (refl, refl, (refl, refl, (refl, refl, (refl, refl, (refl, refl, (refl, refl, (refl, refl, (refl, refl, (refl, refl, (refl, refl, (refl, refl, (refl, refl, (refl, refl, (refl, refl, (refl, refl, (refl, refl, tt))))))))))))))))); whole = refl }) };
           shallow = refl;
         };
         written = (aggregate aggregation.Quantile absent (more (number (pos 900000)) (more (call (codes "label_replace") (more (select (record { metric = (Some (codes "up")); braces = None }) None (record { offset = None; at = None; at_first = false })) (more (text (codes "dst")) (more (text ((36 ∷ 49 ∷ 10 ∷ []))) (more (text (codes "src")) (more (text (codes "(.*)")) none)))))) none)));
@@ -298,7 +299,7 @@ string_at_root = record {
     known = record {
       written = record {
         shallow = record {
-          cut = record { short = omega arith; are_tokens = record { begins = (refl, refl, tt); whole = refl } };
+          cut = record { short = omega arith; are_tokens = are_tokens (record { begins = (refl, refl, tt); whole = refl }) };
           shallow = refl;
         };
         written = (text ((97 ∷ 195 ∷ 169 ∷ 34 ∷ [])));

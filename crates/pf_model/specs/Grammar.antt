@@ -235,15 +235,9 @@ abbrev mutual
 
 -- the level of what binds last: 0 for what stands alone, 1 for a sign, the operator's own for an operation
 abbrev pub level : Written → ℕ
-level (number micros) = 0
-level (text bytes) = 0
-level (brackets e) = 0
-level (call f args) = 0
-level (aggregate op clause args) = 0
 level (unary minus e) = 1
 level (binary op keys a b) = level_of op.sign
-level (select s range mods) = 0
-level (subquery e range resolution mods) = 0
+level _ = 0
 
 abbrev pub is_nil : {A : Type 0} → List A → Bool
 is_nil [] = true

@@ -9,6 +9,7 @@ pub mod Direct
 pub mod ErrorTexts
 pub mod Evaluation
 pub mod Exposition
+pub mod FirstBytes
 pub mod Grammar
 pub mod InstantFunctions
 pub mod Json
@@ -29,6 +30,7 @@ pub mod Resolving
 pub mod Selection
 pub mod Sharding
 pub mod Tests
+pub mod TokenScans
 pub mod Tokens
 pub mod Trees
 pub mod Typing

@@ -43,9 +43,7 @@ verdict_on (Some floor) held r =
 
 abbrev pub is_taken : Verdict → Bool
 is_taken taken = true
-is_taken (too_old floor) = false
-is_taken repeated = false
-is_taken (differs held) = false
+is_taken _ = false
 
 -- the verdicts on a batch in order: rows that are taken are held by those behind them
 abbrev pub verdicts_on : Option ℕ → List Row → List Row → List Verdict

@@ -4,7 +4,7 @@ use Rattle.std.specs.Option.{is_none}
 use Rattle.std.specs.Str.{bytes_eq}
 use Rattle.pf_base.specs.Limits.{greatest_time}
 use Rattle.pf_model.specs.Grammar.{Written, IsDerived, Derives, IsUnexpected}
-use Rattle.pf_model.specs.Tokens.{Sort, word, number, duration, string, sign, Token, AreTokens, IsBadToken}
+use Rattle.pf_model.specs.Tokens.{Sort, word, number, duration, sign, Token, AreTokens, IsBadToken}
 use Rattle.pf_model.specs.Trees.{Tree, height}
 use Rattle.pf_model.specs.Words.{is_keyword, function_of}
 
@@ -26,11 +26,8 @@ abbrev pub sorts : List Token → List Sort
 sorts tokens = map (λ t. t.sort) tokens
 
 abbrev pub is_the_sign : List ℕ → Sort → Bool
-is_the_sign bytes (word w) = false
-is_the_sign bytes (number micros) = false
-is_the_sign bytes (duration millis) = false
-is_the_sign bytes (string s) = false
 is_the_sign bytes (sign s) = bytes_eq s bytes
+is_the_sign bytes _ = false
 
 -- ---- brackets
 
@@ -59,10 +56,7 @@ begins_with_bracket (t ∷ ts) = is_the_sign (codes "(") t.sort
 -- a word before `(` that is no keyword and no function's name
 abbrev pub is_unknown : Sort → List Token → Bool
 is_unknown (word w) behind = not (is_keyword w) && begins_with_bracket behind && is_none (function_of w)
-is_unknown (number micros) behind = false
-is_unknown (duration millis) behind = false
-is_unknown (string s) behind = false
-is_unknown (sign s) behind = false
+is_unknown _ behind = false
 
 -- the first called name that is no function; behind `@` none is called
 abbrev pub unknown_at : (behind_at : Bool) → List Token → Option ℕ
@@ -72,11 +66,9 @@ unknown_at behind_at (t ∷ ts) =
 
 -- a duration, or the seconds of an `@`, past the greatest time
 abbrev pub is_too_large : (behind_at : Bool) → Sort → Bool
-is_too_large behind_at (word w) = false
 is_too_large behind_at (number micros) = behind_at && nat_lt greatest_time (nat_abs micros / 1000)
 is_too_large behind_at (duration millis) = nat_lt greatest_time millis
-is_too_large behind_at (string s) = false
-is_too_large behind_at (sign s) = false
+is_too_large behind_at _ = false
 
 -- a number is that of an `@` behind it, or behind it and a sign
 abbrev pub is_behind_at : Bool → Sort → Bool

@@ -1,18 +1,14 @@
 -- The tokens of a query's text. Prometheus, Querying basics: Literals, Comments; that a number is cut to micros and has at
 -- most 128 bytes, and that `nan` is refused, is this project's own.
-use Rattle.std.specs.Prelude.{◌≡◌, ℕ, zero, suc, ℤ, pos, ◌+◌, ◌*◌, ◌<◌, ◌&&◌, ◌||◌, Bool, true, false, not, cond, codes, encode_utf8, option_map, List, [], ◌∷◌, ◌++◌, drop, length, take, nat_eq, nat_le, Option, Some, None}
+use Rattle.std.specs.Prelude.{◌≡◌, ℕ, zero, suc, ℤ, ◌+◌, ◌*◌, ◌<◌, ◌&&◌, ◌||◌, Bool, true, false, not, cond, codes, encode_utf8, option_map, List, [], ◌∷◌, ◌++◌, drop, length, take, nat_eq, Option, Some, None, ◌⊎◌, ◌-◌, ◌≤◌}
 use lib.Utf8.{scalar}
 use Rattle.std.specs.Char.{digit_value, is_ascii_hexdigit}
-use Rattle.std.specs.Option.{option_or}
 use Rattle.std.specs.List.{list_all, list_any}
 use Rattle.std.specs.Str.{bytes_eq, str_eq_ignore_ascii_case}
-use Rattle.pf_base.specs.Arithmetic.{clamp}
-use Rattle.pf_base.specs.DurationScans.{rest_after, total_of}
-use Rattle.pf_base.specs.DurationTexts.{units}
+use Rattle.pf_base.specs.DurationTexts.{IsDuration}
 use Rattle.pf_base.specs.LabelSets.{goes_on, is_empty, starts_name}
-use Rattle.pf_base.specs.Limits.{greatest_value, most_number_bytes}
-use Rattle.pf_base.specs.NumberScans.{decimal_of}
-use Rattle.pf_base.specs.NumberTexts.{decimal_micros}
+use Rattle.pf_base.specs.Limits.{greatest_value}
+use Rattle.pf_base.specs.NumberTexts.{IsNumber, bare}
 use Rattle.pf_model.specs.Cuts.{only_if}
 
 -- what a token is: a word, a number in micros, a duration in milliseconds, the bytes of a string, or a sign
@@ -46,19 +42,6 @@ separators in_comment (b ∷ bs) =
 abbrev pub is_word : List ℕ → Bool
 is_word [] = false
 is_word (b ∷ bs) = (starts_name b || nat_eq b 58) && list_all (λ c. goes_on c || nat_eq c 58) bs
-
--- `inf`, in any case of letters, is the greatest number
-abbrev pub word_sort : List ℕ → Sort
-word_sort bytes = cond (str_eq_ignore_ascii_case bytes (codes "inf")) (number greatest_value) (word bytes)
-
--- ---- numbers and durations
-
-abbrev pub number_form : List ℕ → Option Sort
-number_form bytes =
-    cond (nat_le (length bytes) most_number_bytes) (option_map (λ d. number (clamp (pos (decimal_micros d)))) (decimal_of bytes)) None
-
-abbrev pub duration_form : List ℕ → Option Sort
-duration_form bytes = only_if (not (is_empty bytes) && is_empty (rest_after units bytes)) (duration (total_of units bytes))
 
 -- ---- strings
 
@@ -135,19 +118,19 @@ is_sign inside bytes = list_any (bytes_eq bytes) signs || (inside && bytes_eq by
 
 -- ---- tokens
 
--- what these bytes are as a token
-abbrev pub form : (inside : Bool) → List ℕ → Option Sort
-form inside bytes =
-    option_or (only_if (not inside && is_word bytes) (word_sort bytes))
-    (option_or (number_form bytes)
-    (option_or (duration_form bytes) (option_or (string_form bytes) (only_if (is_sign inside bytes) (sign bytes)))))
+-- `inf`, in any case of letters
+abbrev pub is_infinite : List ℕ → Bool
+is_infinite bytes = str_eq_ignore_ascii_case bytes (codes "inf")
 
--- the longest token that the first n bytes have in front, beginning at a place
-abbrev pub longest : (inside : Bool) → (at : ℕ) → List ℕ → ℕ → Option Token
-longest inside at bytes zero = None
-longest inside at bytes (suc n) =
-    option_or (option_map (λ s. record { from = at; to = at + suc n; sort = s }) (form inside (take (suc n) bytes)))
-    (longest inside at bytes n)
+-- bytes are a token: a word; a number without a sign, or `inf` as the greatest; a duration; a string; or a sign
+abbrev pub Forms : (inside : Bool) → List ℕ → Sort → Type 0
+Forms inside bytes (word w) = (inside ≡ false) × (is_word bytes ≡ true) × (is_infinite bytes ≡ false) × (w ≡ bytes)
+Forms inside bytes (number micros) =
+    ((inside ≡ false) × (is_word bytes ≡ true) × (is_infinite bytes ≡ true) × (micros ≡ greatest_value))
+    ⊎ ((n : IsNumber bytes micros) × (n.sign ≡ bare))
+Forms inside bytes (duration millis) = IsDuration bytes millis
+Forms inside bytes (string written) = string_form bytes ≡ Some (string written)
+Forms inside bytes (sign s) = (is_sign inside bytes ≡ true) × (s ≡ bytes)
 
 -- a letter, a digit or `_` stands in front
 abbrev pub has_letter : List ℕ → Bool
@@ -162,21 +145,22 @@ may_precede (duration millis) behind = not (has_letter behind)
 may_precede (string bytes) behind = true
 may_precede (sign bytes) behind = true
 
-abbrev pub lawful : List ℕ → Option Token → Option Token
-lawful text None = None
-lawful text (Some t) = only_if (may_precede t.sort (drop t.to text)) t
+-- a text's bytes from one place to another
+abbrev pub part : List ℕ → ℕ → ℕ → List ℕ
+part text from to = take (to - from) (drop from text)
 
--- the token that begins at a place
-abbrev pub token_at : (inside : Bool) → List ℕ → ℕ → Option Token
-token_at inside text at = lawful text (longest inside at (drop at text) (length (drop at text)))
+-- the longest part of a text from a place on that is a token, where what follows it lets it be one
+pub record IsToken (inside : Bool) (text : List ℕ) (t : Token) : Type 0 where
+  pub some : t.from < t.to
+  pub within : t.to ≤ length text
+  pub forms : Forms inside (part text t.from t.to) t.sort
+  pub longest : (to : ℕ) (s : Sort) → t.to < to → to ≤ length text → Forms inside (part text t.from to) s → ⊥
+  pub alone : may_precede t.sort (drop t.to text) ≡ true
 
 -- whether what follows a token is inside square brackets
 abbrev pub inside_behind : Bool → Sort → Bool
 inside_behind inside (sign bytes) = not (bytes_eq bytes (codes "]")) && (inside || bytes_eq bytes (codes "["))
-inside_behind inside (word bytes) = inside
-inside_behind inside (number micros) = inside
-inside_behind inside (duration millis) = inside
-inside_behind inside (string bytes) = inside
+inside_behind inside _ = inside
 
 abbrev pub inside_after : Bool → List Token → Bool
 inside_after inside [] = inside
@@ -194,7 +178,7 @@ next_at text at = at + separators false (drop at text)
 abbrev pub BeginsWith : (text : List ℕ) → (inside : Bool) → (at : ℕ) → List Token → Type 0
 BeginsWith text inside at [] = Unit {0}
 BeginsWith text inside at (t ∷ ts) =
-    (next_at text at ≡ t.from) × (token_at inside text t.from ≡ Some t) × BeginsWith text (inside_behind inside t.sort) t.to ts
+    (next_at text at ≡ t.from) × IsToken inside text t × BeginsWith text (inside_behind inside t.sort) t.to ts
 
 -- the tokens of a text
 pub record AreTokens (text : List ℕ) (tokens : List Token) : Type 0 where
@@ -207,4 +191,4 @@ pub record IsBadToken (text : List ℕ) (at : ℕ) : Type 0 where
   pub begins : BeginsWith text false 0 before
   pub place : next_at text (end_of 0 before) ≡ at
   pub within : at < length text
-  pub bad : token_at (inside_after false before) text at ≡ None
+  pub bad : (t : Token) → t.from ≡ at → IsToken (inside_after false before) text t → ⊥

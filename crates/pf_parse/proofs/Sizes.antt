@@ -1,9 +1,7 @@
 -- A tree has no more nodes than its text has bytes: each node has a token of its own, and each token a byte.
-use Rattle.std.proofs.Common.{◌≡◌, refl, ap, subst, ℕ, zero, suc, ◌+◌, ◌<◌, ◌≤◌, Bool, true, false, List, [], ◌∷◌, ◌++◌, length, drop, take, Option, Some, None, IfSome, Ok, option_map, codes, arith, length-append}
+use Rattle.std.proofs.Common.{◌≡◌, refl, ap, ℕ, suc, ◌+◌, ◌≤◌, Bool, false, List, [], ◌∷◌, ◌++◌, length, Option, Some, None, Ok, option_map, codes, arith, length-append}
 use Rattle.std.proofs.lemmas.List.{length-map}
 use Rattle.std.specs.List.{All}
-use Rattle.std.specs.Option.{option_or}
-use Rattle.pf_model.specs.Cuts.{only_if}
 use Rattle.pf_lex.specs.declared.token.Token as read
 use Rattle.pf_lex.specs.Seen.{IsTokenOf}
 use Rattle.pf_model.specs.Clauses.{Matched}
@@ -12,7 +10,7 @@ use Rattle.pf_model.specs.declared.expr.Function.{Function}
 use Rattle.pf_model.specs.Grammar.{Terminal, Written, Arguments, brackets, call, aggregate, unary, binary, select, subquery, none, more, text_of, texts_of, more_texts, FitAll, IsLawful, AreLawful, Derives, Braces, AreSelected, selected_text, these, range_text, modifiers_text, before_text, behind_text, bool_text, keys_text, operator_terminal, meaning, meanings, both, grouped_of, matched_of, mods_of}
 use Rattle.pf_model.specs.Grammar as grammar
 use Rattle.pf_model.specs.Parsing.{sorts, Parses}
-use Rattle.pf_model.specs.Tokens.{Sort, Token, AreTokens, BeginsWith, end_of, form, inside_behind, lawful, longest, may_precede, token_at}
+use Rattle.pf_model.specs.Tokens.{Sort, Token, AreTokens, BeginsWith, end_of, inside_behind}
 use Rattle.pf_model.specs.Trees.{Tree, Trees, size, sizes}
 use Rattle.pf_model.specs.Trees as tree
 use Rattle.pf_model.specs.Words.{function_of}
@@ -147,33 +145,10 @@ derived_size us t d =
 
 -- ---- tokens and bytes
 
-longest_ends : (inside : Bool) (at : ℕ) (bytes : List ℕ) (n : ℕ) → IfSome (longest inside at bytes n) (λ t. at < t.to)
-longest_ends inside at bytes zero = tt
-longest_ends inside at bytes (suc n) = by_form (form inside (take (suc n) bytes)) (longest_ends inside at bytes n)
-  where
-    by_form : (o : Option Sort) → IfSome (longest inside at bytes n) (λ t. at < t.to)
-        → IfSome (option_or (option_map (λ s. record { from = at; to = at + suc n; sort = s }) o) (longest inside at bytes n)) (λ t. at < t.to)
-    by_form None h = h
-    by_form (Some s) h = omega arith
-
-lawful_ends : (text : List ℕ) (at : ℕ) (o : Option Token) → IfSome o (λ t. at < t.to) → IfSome (lawful text o) (λ t. at < t.to)
-lawful_ends text at None h = tt
-lawful_ends text at (Some t) h = by_test (may_precede t.sort (drop t.to text))
-  where
-    by_test : (b : Bool) → IfSome (only_if b t) (λ t. at < t.to)
-    by_test true = h
-    by_test false = tt
-
--- a token ends behind its first place
-token_ends : (inside : Bool) (text : List ℕ) (at : ℕ) (t : Token) → token_at inside text at ≡ Some t → at < t.to
-token_ends inside text at t h =
-    subst (λ o. IfSome o (λ t. at < t.to)) h
-    (lawful_ends text at (longest inside at (drop at text) (length (drop at text))) (longest_ends inside at (drop at text) (length (drop at text))))
-
 tokens_end : (text : List ℕ) (inside : Bool) (at : ℕ) (ts : List Token) → BeginsWith text inside at ts → at + length ts ≤ end_of at ts
 tokens_end text inside at [] h = omega arith
 tokens_end text inside at (t ∷ ts) h =
-    omega (arith, h.0, token_ends inside text t.from t h.1, tokens_end text (inside_behind inside t.sort) t.to ts h.2)
+    omega (arith, h.0, h.1.some, tokens_end text (inside_behind inside t.sort) t.to ts h.2)
 
 pub tokens_length : (text : List ℕ) (ts : List Token) → AreTokens text ts → length ts ≤ length text
 tokens_length text ts h = omega (arith, h.whole, tokens_end text false 0 ts h.begins)

@@ -2,17 +2,16 @@
 use Rattle.std.proofs.Common.{◌≡◌, ◌≤◌, ℕ, ◌+◌, max, ap, arith, refl, subst, sym, Option, Some, None, IfSome}
 use Rattle.pf_base.specs.Limits.{greatest_time}
 use Rattle.pf_lex.proofs.Printable.{can_be_printed}
-use Rattle.pf_lex.specs.CanonicalTokens.{ArePrintable, AreMods, HasTree, IsMoment, IsPrintable, IsTime}
+use Rattle.pf_lex.specs.CanonicalTokens.{ArePrintable, IsMoment, IsPrintable, IsTime}
 use Rattle.pf_model.specs.Canonical.{canonical}
 use Rattle.pf_model.specs.declared.expr.At.{At}
 use Rattle.pf_model.specs.declared.expr.At.TheVariants as at
-use Rattle.pf_model.specs.declared.expr.Mods.{Mods}
 use Rattle.pf_model.specs.Evaluation.{resolution_or_minute}
 use Rattle.pf_model.specs.Grammar.{IsPositive}
-use Rattle.pf_model.specs.Resolving.{all_resolved, resolved, resolved_at, resolved_mods}
+use Rattle.pf_model.specs.Resolving.{all_resolved, resolved, resolved_at}
 use Rattle.pf_model.specs.Trees as tree
 use Rattle.pf_model.specs.Trees.{Tree, Trees, height, heights}
-use Rattle.pf_print.specs.OwnTexts.{HasText, HaveOwnTexts, KeepTexts}
+use Rattle.pf_print.specs.OwnTexts.{HaveOwnTexts, KeepTexts}
 use Rattle.pf_print.specs.Printed.{IsDerivedBy}
 use Rattle.pf_print.proofs.CanonicalDerived.{AreWell, IsWell, canonical_derives, derived_well}
 use Rattle.pf_print.proofs.ReadBack.{has_text, only_one}

@@ -17,7 +17,7 @@ use Rattle.pf_model.specs.Built.{is_distance}
 use Rattle.pf_model.specs.Grammar.{Terminal, key, name, label, exactly, sign, number, duration, string, Fits, FitAll, has_colon}
 use Rattle.pf_model.specs.Parsing.{is_behind_at, is_too_large, too_large_at, sorts}
 use Rattle.pf_model.specs.Tokens as token
-use Rattle.pf_model.specs.Tokens.{AreTokens, BeginsWith, Sort, Token, form, inside_behind, is_sign, is_word, lawful, longest, number_form, duration_form, raw_from, string_form, string_from, token_at, word_sort}
+use Rattle.pf_model.specs.Tokens.{BeginsWith, Forms, Sort, Token, inside_behind, is_word, part}
 use Rattle.pf_types.proofs.LawfulKinds.{both_of, given, left_of, none_is_some, right_of}
 
 -- ---- words of tokens
@@ -26,95 +26,12 @@ abbrev pub is_lawful_sort : Sort → Bool
 is_lawful_sort (token.word w) = is_word w
 is_lawful_sort _ = true
 
-abbrev is_lawful_form : Option Sort → Bool
-is_lawful_form None = true
-is_lawful_form (Some s) = is_lawful_sort s
-
-either_form : (a b : Option Sort) → is_lawful_form a ≡ true → is_lawful_form b ≡ true → is_lawful_form (option_or a b) ≡ true
-either_form None b p q = q
-either_form (Some s) b p q = p
-
-word_form : (inside : Bool) (bytes : List ℕ) → is_lawful_form (only_if (not inside && is_word bytes) (word_sort bytes)) ≡ true
-word_form true bytes = refl
-word_form false bytes = by (is_word bytes) refl where
-  chosen : (b : Bool) → is_word bytes ≡ true → is_lawful_sort (cond b (token.number (pos 1000000000000000000)) (token.word bytes)) ≡ true
-  chosen true h = refl
-  chosen false h = h
-
-  by : (b : Bool) → is_word bytes ≡ b → is_lawful_form (only_if b (word_sort bytes)) ≡ true
-  by true h = chosen (str_eq_ignore_ascii_case bytes (codes "inf")) h
-  by false h = refl
-
-mapped_number : {A : Type 0} (f : A → ℤ) (o : Option A) → is_lawful_form (option_map (λ d. token.number (f d)) o) ≡ true
-mapped_number f None = refl
-mapped_number f (Some x) = refl
-
-mapped_string : (o : Option (List ℕ)) → is_lawful_form (option_map token.string o) ≡ true
-mapped_string None = refl
-mapped_string (Some x) = refl
-
-chosen_form : (b : Bool) (o p : Option Sort) → is_lawful_form o ≡ true → is_lawful_form p ≡ true → is_lawful_form (cond b o p) ≡ true
-chosen_form true o p h g = h
-chosen_form false o p h g = g
-
-given_form : (b : Bool) (s : Sort) → is_lawful_sort s ≡ true → is_lawful_form (only_if b s) ≡ true
-given_form true s h = h
-given_form false s h = refl
-
-string_is_lawful : (bytes : List ℕ) → is_lawful_form (string_form bytes) ≡ true
-string_is_lawful [] = refl
-string_is_lawful (b ∷ bs) =
-    chosen_form (nat_eq b 34 || nat_eq b 39) (option_map token.string (string_from b zero bs))
-    (cond (nat_eq b 96) (option_map token.string (raw_from bs)) None) (mapped_string (string_from b zero bs))
-    (chosen_form (nat_eq b 96) (option_map token.string (raw_from bs)) None (mapped_string (raw_from bs)) refl)
-
-number_is_lawful : (bytes : List ℕ) → is_lawful_form (number_form bytes) ≡ true
-number_is_lawful bytes = by (nat_le (length bytes) 128) where
-  by : (b : Bool) → is_lawful_form (cond b (option_map (λ d. token.number (clamp (pos (decimal_micros d)))) (decimal_of bytes)) None) ≡ true
-  by true = mapped_number (λ d. clamp (pos (decimal_micros d))) (decimal_of bytes)
-  by false = refl
-
-duration_is_lawful : (bytes : List ℕ) → is_lawful_form (duration_form bytes) ≡ true
-duration_is_lawful bytes =
-    given_form (not (is_empty bytes) && is_empty (rest_after units bytes)) (token.duration (total_of units bytes)) refl
-
-form_is_lawful : (inside : Bool) (bytes : List ℕ) → is_lawful_form (form inside bytes) ≡ true
-form_is_lawful inside bytes =
-    either_form (only_if (not inside && is_word bytes) (word_sort bytes)) behind_word (word_form inside bytes)
-    (either_form (number_form bytes) behind_number (number_is_lawful bytes)
-    (either_form (duration_form bytes) behind_duration (duration_is_lawful bytes)
-    (either_form (string_form bytes) (only_if (is_sign inside bytes) (token.sign bytes)) (string_is_lawful bytes)
-    (given_form (is_sign inside bytes) (token.sign bytes) refl)))) where
-      behind_duration : Option Sort
-      behind_duration = option_or (string_form bytes) (only_if (is_sign inside bytes) (token.sign bytes))
-
-      behind_number : Option Sort
-      behind_number = option_or (duration_form bytes) (option_or (string_form bytes) (only_if (is_sign inside bytes) (token.sign bytes)))
-
-      behind_word : Option Sort
-      behind_word = option_or (number_form bytes) (option_or (duration_form bytes) (option_or (string_form bytes) (only_if (is_sign inside bytes) (token.sign bytes))))
-
-abbrev is_lawful_token : Option Token → Bool
-is_lawful_token None = true
-is_lawful_token (Some t) = is_lawful_sort t.sort
-
-longer_is_lawful : (from to : ℕ) (o : Option Sort) (t : Option Token) → is_lawful_form o ≡ true → is_lawful_token t ≡ true
-    → is_lawful_token (option_or (option_map (λ s. record { from = from; to = to; sort = s }) o) t) ≡ true
-longer_is_lawful from to None t h g = g
-longer_is_lawful from to (Some s) t h g = h
-
-longest_is_lawful : (inside : Bool) (place : ℕ) (bytes : List ℕ) (n : ℕ) → is_lawful_token (longest inside place bytes n) ≡ true
-longest_is_lawful inside place bytes zero = refl
-longest_is_lawful inside place bytes (suc n) =
-    longer_is_lawful place (place + suc n) (form inside (take (suc n) bytes)) (longest inside place bytes n) (form_is_lawful inside (take (suc n) bytes))
-    (longest_is_lawful inside place bytes n)
-
-kept_is_lawful : (text : List ℕ) (o : Option Token) → is_lawful_token o ≡ true → is_lawful_token (lawful text o) ≡ true
-kept_is_lawful text None h = refl
-kept_is_lawful text (Some t) h = by (token.may_precede t.sort _) where
-  by : (b : Bool) → is_lawful_token (only_if b t) ≡ true
-  by true = h
-  by false = refl
+form_is_lawful : (inside : Bool) (bytes : List ℕ) (s : Sort) → Forms inside bytes s → is_lawful_sort s ≡ true
+form_is_lawful inside bytes (token.word w) h = ap is_word h.3 ∙ h.1
+form_is_lawful inside bytes (token.number n) h = refl
+form_is_lawful inside bytes (token.duration n) h = refl
+form_is_lawful inside bytes (token.string w) h = refl
+form_is_lawful inside bytes (token.sign w) h = refl
 
 abbrev pub are_lawful_sorts : List Sort → Bool
 are_lawful_sorts ss = list_all is_lawful_sort ss
@@ -124,9 +41,7 @@ pub tokens_are_lawful : (text : List ℕ) (inside : Bool) (place : ℕ) (ts : Li
 tokens_are_lawful text inside place [] h = refl
 tokens_are_lawful text inside place (t ∷ ts) h =
     both_of (is_lawful_sort t.sort) (are_lawful_sorts (sorts ts))
-    (sym (ap is_lawful_token h.1)
-    ∙ kept_is_lawful text (longest inside t.from (drop t.from text) (length (drop t.from text)))
-    (longest_is_lawful inside t.from (drop t.from text) (length (drop t.from text))))
+    (form_is_lawful inside (part text t.from t.to) t.sort h.1.forms)
     (tokens_are_lawful text (inside_behind inside t.sort) t.to ts h.2)
 
 -- ---- what terminals say

@@ -1,5 +1,5 @@
 use Rattle.std.proofs.Common.{◌∙◌, sym, ap, refl}
-use Rattle.pf_model.specs.Tokens.{token_at}
+use Rattle.pf_model.specs.TokenScans.{token_at}
 use Rattle.pf_lex.proofs.Places.{begins_at, none_at}
 use Rattle.pf_lex.proofs.lexer.token_at.Goals as goal
 

@@ -1,4 +1,4 @@
-use Rattle.std.proofs.Common.{◌-ℤ◌, arith}
+use Rattle.std.proofs.Common.{◌-ℤ◌, arith, pos}
 use Rattle.std.proofs.lemmas.Int.{ints}
 use Rattle.pf_base.specs.Limits.{lookback}
 use Rattle.pf_selectors.proofs.Places.{last_in_at}

@@ -1,6 +1,6 @@
--- What bytes are as a token, by the first of them.
+-- What bytes are found to be as a token, by the first of them.
 use Rattle.std.proofs.Common.{◌≡◌, ◌∙◌, ℕ, Bool, true, false, not, ◌&&◌, ◌||◌, inl, inr, Option, Some, None, List, [], ◌∷◌, refl, sym, ap, arith, codes}
-use Rattle.std.specs.Prelude.{nat_eq, slice_index}
+use Rattle.std.specs.Prelude.{cond, length, nat_eq, nat_le, option_map, pos, slice_index}
 use Rattle.std.specs.Char.{is_ascii_digit}
 use Rattle.std.specs.List.{list_all, list_any}
 use Rattle.std.specs.Option.{option_or}
@@ -10,12 +10,15 @@ use Rattle.std.proofs.lemmas.Bool.Decides.{nat_tests}
 use Rattle.pf_base.specs.LabelSets.{goes_on, is_empty}
 use Rattle.pf_base.specs.DurationScans.{past_part, rest_after, total_of}
 use Rattle.pf_base.specs.DurationTexts.{units}
-use Rattle.pf_base.specs.NumberScans.{digits_in_front}
+use Rattle.pf_base.specs.Arithmetic.{clamp}
+use Rattle.pf_base.specs.Limits.{most_number_bytes}
+use Rattle.pf_base.specs.NumberScans.{decimal_of, digits_in_front, exponent_of, with_digits}
+use Rattle.pf_base.specs.NumberTexts.{Exponent, decimal_micros}
 use Rattle.pf_model.specs.Cuts.{only_if}
 use Rattle.pf_base.proofs.Readings.{bool_cases}
-use Rattle.pf_model.specs.Tokens.{Sort, duration, duration_form, form, is_sign, is_word, number_form, sign, signs, string_form, word_sort}
-use Rattle.pf_lex.specs.FirstBytes.{begins_mark, begins_quantity, begins_string, begins_word}
-use Rattle.pf_lex.proofs.Numbers.{no_number_first}
+use Rattle.pf_model.specs.TokenScans.{duration_form, form, number_form, word_sort}
+use Rattle.pf_model.specs.Tokens.{Sort, duration, number, is_sign, is_word, sign, signs, string_form}
+use Rattle.pf_model.specs.FirstBytes.{begins_mark, begins_quantity, begins_string, begins_word}
 
 -- a byte that passes differs from one that does not
 other : (p : ℕ → Bool) (b k : ℕ) → p b ≡ true → p k ≡ false → nat_eq b k ≡ false
@@ -66,7 +69,21 @@ no_duration_first b bs n =
     let e = rest_same units (b ∷ bs) (rw n refl) in
     ap (λ xs. only_if (is_empty xs) (duration (total_of units (b ∷ bs)))) e
 
-no_quantity : (b : ℕ) (bs : List ℕ) → begins_quantity b ≡ false → (number_form (b ∷ bs) ≡ None) × (duration_form (b ∷ bs) ≡ None)
+no_digits : (e : Option (Option Exponent)) → with_digits [] None e ≡ None
+no_digits None = refl
+no_digits (Some e) = refl
+
+pub no_number_first : (b : ℕ) (bs : List ℕ) → is_ascii_digit b ≡ false → nat_eq b 46 ≡ false → number_form (b ∷ bs) ≡ None
+no_number_first b bs n k = by (nat_le (length (b ∷ bs)) most_number_bytes)
+  where
+    none : decimal_of (b ∷ bs) ≡ None
+    none = rw (n, k) (no_digits (exponent_of (b ∷ bs)))
+
+    by : (t : Bool) → cond t (option_map (λ d. number (clamp (pos (decimal_micros d)))) (decimal_of (b ∷ bs))) None ≡ None
+    by true = ap (option_map (λ d. number (clamp (pos (decimal_micros d))))) none
+    by false = refl
+
+pub no_quantity : (b : ℕ) (bs : List ℕ) → begins_quantity b ≡ false → (number_form (b ∷ bs) ≡ None) × (duration_form (b ∷ bs) ≡ None)
 no_quantity b bs h = (no_number_first b bs digit (grind (arith, nat_tests)), no_duration_first b bs digit)
   where
     digit : is_ascii_digit b ≡ false
@@ -107,7 +124,7 @@ not_inside : (inside : Bool) (b : ℕ) (bs : List ℕ) → (not inside && begins
 not_inside true b bs h = refl
 not_inside false b bs h = no_word false b bs h
 
-strings_apart : (b : ℕ) (bs : List ℕ) → begins_string b ≡ false → string_form (b ∷ bs) ≡ None
+pub strings_apart : (b : ℕ) (bs : List ℕ) → begins_string b ≡ false → string_form (b ∷ bs) ≡ None
 strings_apart b bs h =
     let outer = or_parts (nat_eq b 34 || nat_eq b 39) (nat_eq b 96) h in
     let x = outer.0 in

@@ -4,7 +4,8 @@ use Rattle.std.specs.Prelude.{option_map}
 use Rattle.std.specs.Option.{option_or}
 use Rattle.std.proofs.lemmas.Bool.{cases_order}
 use Rattle.pf_model.specs.Cuts.{only_if}
-use Rattle.pf_model.specs.Tokens.{Sort, Token, form, lawful, longest, may_precede, token_at}
+use Rattle.pf_model.specs.TokenScans.{form, lawful, longest, token_at}
+use Rattle.pf_model.specs.Tokens.{Sort, Token, may_precede}
 
 pub some_is : {X : Type 0} (x y : X) → Some x ≡ Some y → x ≡ y
 some_is x y e = cc
