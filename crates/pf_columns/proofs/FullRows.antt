@@ -1,12 +1,14 @@
 -- Rows in label order whose points are those of some steps are what is gathered of the steps, but for rows without points.
-use Rattle.std.proofs.Common.{◌≡◌, Bool, true, false, cond, ◌&&◌, ◌||◌, List, [], ◌∷◌, ◌++◌, map, refl, sym, ap, ◌∙◌}
+use Rattle.std.proofs.Common.{◌≡◌, pos, Bool, true, false, cond, ◌&&◌, ◌||◌, List, [], ◌∷◌, ◌++◌, map, refl, sym, ap, ◌∙◌}
 use Rattle.std.proofs.Math.Bool.{and-false, and-true}
 use Rattle.std.specs.Ordering.{is_eq}
 use Rattle.std.specs.declared.cmp.Ordering.TheVariants.{Less}
 use Rattle.pf_base.specs.declared.plain.Sample.{Sample}
 use Rattle.pf_base.specs.LabelOrder.{labels_cmp}
 use Rattle.pf_base.specs.LabelSets.{Pairs}
-use Rattle.pf_model.specs.Direct.{MatrixRow, Step, gather, occurring, points_of}
+use Rattle.pf_model.specs.declared.cell.Element.{Element}
+use Rattle.pf_model.specs.Cells.{occurring}
+use Rattle.pf_model.specs.Direct.{MatrixRow, Step, gather, points_of}
 use Rattle.pf_model.specs.Lists.{Each}
 use Rattle.pf_model.specs.Selection.{same_labels}
 use Rattle.pf_model.proofs.KeySets.{alike, below_all, same_is, same_self, same_turned, stands_in}
@@ -83,9 +85,12 @@ each_of_steps : (ss : List Step) (all : List MatrixRow) → ((l : Pairs) → poi
 each_of_steps ss all e [] h = tt
 each_of_steps ss all e (r ∷ rows) h = (sym (e r.labels) ∙ h.0, each_of_steps ss all e rows h.1)
 
+abbrev vector : Step → List Element
+vector s = s.elements
+
 pub gather_by : (ss : List Step) (rows : List MatrixRow) → AreRising (rows_labels rows) → ((l : Pairs) → points_for l rows ≡ points_of l ss) → gather ss ≡ full_rows rows
 gather_by ss rows r e =
-    let same : (l : Pairs) → stands_in l (occurring ss) ≡ stands_in l (rows_labels (full_rows rows)) =
-    λ l. occurring_in l ss ∙ ap is_full (sym (e l)) ∙ sym (rows_have l rows r) in
-    ap (map (λ l. record { labels = l; points = points_of l ss })) (alike (occurring ss) (rows_labels (full_rows rows)) (occurring_ascend ss) (rows_ascend rows r) same)
+    let same : (l : Pairs) → stands_in l (occurring vector ss) ≡ stands_in l (rows_labels (full_rows rows)) =
+    λ l. occurring_in (λ (s : Step). pos s.time) vector l ss ∙ ap is_full (sym (e l)) ∙ sym (rows_have l rows r) in
+    ap (map (λ l. record { labels = l; points = points_of l ss })) (alike (occurring vector ss) (rows_labels (full_rows rows)) (occurring_ascend vector ss) (rows_ascend rows r) same)
     ∙ sym (rows_made (λ l. points_of l ss) rows (each_of_steps ss rows e rows (found rows r)))

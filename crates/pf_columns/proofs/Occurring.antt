@@ -1,14 +1,14 @@
--- The label sets that occur at some step are those that have a point.
-use Rattle.std.proofs.Common.{◌≡◌, ℕ, pos, Bool, true, false, cond, ◌||◌, List, [], ◌∷◌, ◌++◌, map, refl, sym, ap, ◌∙◌}
-use Rattle.std.proofs.Math.Bool.{or_assoc}
+-- The label sets that occur in vectors are those that have a sample.
+use Rattle.std.proofs.Common.{◌≡◌, ℕ, ℤ, pos, Bool, true, false, cond, ◌||◌, List, [], ◌∷◌, ◌++◌, map, refl, sym, ◌∙◌}
 use Rattle.std.specs.List.{filter}
 use Rattle.pf_base.specs.declared.plain.Sample.{Sample}
 use Rattle.pf_base.specs.LabelSets.{Pairs}
 use Rattle.pf_model.specs.declared.cell.Element.{Element}
-use Rattle.pf_model.specs.Direct.{Step, occurring, points_of, put_elements}
+use Rattle.pf_model.specs.Cells.{labels_of, occurring, samples_of}
+use Rattle.pf_model.specs.Lists.{joined}
 use Rattle.pf_model.specs.Selection.{same_labels}
-use Rattle.pf_model.proofs.KeySets.{put_in, same_turned, stands_in}
-use Rattle.pf_model.proofs.SelectorLabels.{Ascends, put_ascends}
+use Rattle.pf_model.proofs.KeySets.{distinct_ascends, distinct_in, in_append, same_turned, stands_in}
+use Rattle.pf_model.proofs.SelectorLabels.{Ascends}
 
 abbrev pub point_of : ℕ → Element → Sample
 point_of t e = record { time = pos t; value = e.value }
@@ -32,26 +32,26 @@ full_by : (l : Pairs) (e : Element) (es : List Element) (b : Bool) → (b || is_
 full_by l e es true = refl
 full_by l e es false = refl
 
-put_elements_in : (l : Pairs) (es : List Element) (ls : List Pairs) → stands_in l (put_elements es ls) ≡ (is_full (with_labels l es) || stands_in l ls)
-put_elements_in l [] ls = refl
-put_elements_in l (e ∷ es) ls =
-    put_in l e.labels (put_elements es ls)
-    ∙ (λ i. same_turned l e.labels i || put_elements_in l es ls i)
-    ∙ sym (or_assoc (same_labels e.labels l) (is_full (with_labels l es)) (stands_in l ls))
-    ∙ ap (λ b. b || stands_in l ls) (full_by l e es (same_labels e.labels l))
+labels_in : (l : Pairs) (es : List Element) → stands_in l (labels_of es) ≡ is_full (with_labels l es)
+labels_in l [] = refl
+labels_in l (e ∷ es) = (λ i. same_turned l e.labels i || labels_in l es i) ∙ full_by l e es (same_labels e.labels l)
 
-pub occurring_in : (l : Pairs) (steps : List Step) → stands_in l (occurring steps) ≡ is_full (points_of l steps)
-occurring_in l [] = refl
-occurring_in l (s ∷ ss) =
-    let here : List Sample = map (point_of s.time) (with_labels l s.elements) in
-    put_elements_in l s.elements (occurring ss)
-    ∙ (λ i. sym (full_map (point_of s.time) (with_labels l s.elements)) i || occurring_in l ss i)
-    ∙ sym (full_append here (points_of l ss))
+module _ {X : Type 0} (time : X → ℤ) (vector : X → List Element) where
+  abbrev timed : X → Element → Sample
+  timed x e = record { time = time x; value = e.value }
 
-put_elements_ascend : (es : List Element) (ls : List Pairs) → Ascends ls → Ascends (put_elements es ls)
-put_elements_ascend [] ls h = h
-put_elements_ascend (e ∷ es) ls h = put_ascends e.labels (put_elements es ls) (put_elements_ascend es ls h)
+  abbrev all_labels : List X → List Pairs
+  all_labels xs = joined (λ x. labels_of (vector x)) xs
 
-pub occurring_ascend : (steps : List Step) → Ascends (occurring steps)
-occurring_ascend [] = tt
-occurring_ascend (s ∷ ss) = put_elements_ascend s.elements (occurring ss) (occurring_ascend ss)
+  pub have_samples : (l : Pairs) (xs : List X) → stands_in l (all_labels xs) ≡ is_full (samples_of time vector l xs)
+  have_samples l [] = refl
+  have_samples l (x ∷ xs) =
+      in_append l (labels_of (vector x)) (all_labels xs)
+      ∙ (λ i. (labels_in l (vector x) ∙ sym (full_map (timed x) (with_labels l (vector x)))) i || have_samples l xs i)
+      ∙ sym (full_append (map (timed x) (with_labels l (vector x))) (samples_of time vector l xs))
+
+  pub occurring_in : (l : Pairs) (xs : List X) → stands_in l (occurring vector xs) ≡ is_full (samples_of time vector l xs)
+  occurring_in l xs = distinct_in l (all_labels xs) ∙ have_samples l xs
+
+pub occurring_ascend : {X : Type 0} (vector : X → List Element) (xs : List X) → Ascends (occurring vector xs)
+occurring_ascend vector xs = distinct_ascends (joined (λ x. labels_of (vector x)) xs)

@@ -1,5 +1,5 @@
 -- Direct evaluation of a query over its grid, and the matrix that is gathered. Prometheus, HTTP API: Range queries.
-use Rattle.std.specs.Prelude.{ℕ, pos, Option, Some, None, List, [], ◌∷◌, map, filter}
+use Rattle.std.specs.Prelude.{ℕ, pos, Option, Some, None, List, [], ◌∷◌, map}
 use Rattle.pf_base.specs.declared.plain.Row.{Row}
 use Rattle.pf_base.specs.declared.plain.Sample.{Sample}
 use Rattle.pf_base.specs.GridLists.{GridData}
@@ -9,9 +9,8 @@ use Rattle.pf_model.specs.declared.cell.Element.{Element}
 use Rattle.pf_model.specs.declared.cell.ErrorKind.{ErrorKind}
 use Rattle.pf_model.specs.declared.cell.StepCell.{StepCell}
 use Rattle.pf_model.specs.declared.cell.StepCell.TheVariants.{Good, Bad}
-use Rattle.pf_model.specs.Evaluation.{eval, put}
-use Rattle.pf_model.specs.Lists.{joined}
-use Rattle.pf_model.specs.Selection.{same_labels}
+use Rattle.pf_model.specs.Cells.{occurring, samples_of}
+use Rattle.pf_model.specs.Evaluation.{eval}
 use Rattle.pf_model.specs.Trees.{Tree}
 
 -- an asked query: its tree, the grid's ends put in, and its grid
@@ -34,22 +33,13 @@ pub data Answer : Type 0 where
   gathered : List MatrixRow → Answer
   failed : ℕ → ErrorKind → Answer
 
--- the label sets that occur at some step, each once, in label order
-abbrev pub put_elements : List Element → List Pairs → List Pairs
-put_elements [] ls = ls
-put_elements (e ∷ es) ls = put e.labels (put_elements es ls)
-
-abbrev pub occurring : List Step → List Pairs
-occurring [] = []
-occurring (s ∷ ss) = put_elements s.elements (occurring ss)
-
 -- the points of one label set
 abbrev pub points_of : Pairs → List Step → List Sample
-points_of l steps =
-    joined (λ s. map (λ e. record { time = pos s.time; value = e.value }) (filter (λ e. same_labels e.labels l) s.elements)) steps
+points_of l steps = samples_of (λ s. pos s.time) (λ s. s.elements) l steps
 
+-- for each label set that occurs its points
 abbrev pub gather : List Step → List MatrixRow
-gather steps = map (λ l. record { labels = l; points = points_of l steps }) (occurring steps)
+gather steps = map (λ l. record { labels = l; points = points_of l steps }) (occurring (λ s. s.elements) steps)
 
 -- a query at one time
 pub record Evaluated : Type 0 where

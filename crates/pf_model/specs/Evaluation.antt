@@ -19,7 +19,7 @@ use Rattle.pf_model.specs.declared.expr.Matcher.{Matcher}
 use Rattle.pf_model.specs.declared.expr.Mods.{Mods}
 use Rattle.pf_model.specs.declared.functions.InstantFn.{InstantFn}
 use Rattle.pf_model.specs.declared.functions.InstantFn.TheVariants.{Timestamp}
-use Rattle.pf_model.specs.Cells.{distinct, labels_of, cell_of}
+use Rattle.pf_model.specs.Cells.{cell_of, occurring, samples_of}
 use Rattle.pf_model.specs.InstantFunctions.{Beside, absent_labels, each_value}
 use Rattle.pf_model.specs.Lists.{joined, at}
 use Rattle.pf_model.specs.Micros.{seconds, cut_down}
@@ -100,17 +100,13 @@ abbrev pub moment_elements : Outcome → List Element
 moment_elements (elements es) = es
 moment_elements o = []
 
--- the samples of a label set at the times at which it occurs
-abbrev pub samples_at : Pairs → List Moment → List Sample
-samples_at l ms =
-    joined (λ m. map (λ e. record { time = m.time; value = e.value }) (filter (λ e. same_labels e.labels l) (moment_elements m.outcome)))
-    ms
+abbrev pub vector_of : Moment → List Element
+vector_of m = moment_elements m.outcome
 
 -- for each label set that occurs its samples
 abbrev pub subquery_series : List Moment → List Series
 subquery_series ms =
-    map (λ l. record { labels = l; samples = samples_at l ms })
-    (distinct (joined (λ m. labels_of (moment_elements m.outcome)) ms))
+    map (λ l. record { labels = l; samples = samples_of (λ m. m.time) vector_of l ms }) (occurring vector_of ms)
 
 -- the earliest error comes first
 abbrev pub subquery_over : ℤ → ℤ → List Moment → Outcome

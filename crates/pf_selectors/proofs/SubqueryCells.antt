@@ -11,22 +11,22 @@ use Rattle.pf_columns.specs.Columns.{AreRising, ColumnData, cell_at, columns_lab
 use Rattle.pf_columns.specs.Steps.{StepsData, bad_in, step_at, unless_bad}
 use Rattle.pf_columns.proofs.Below.{in_below}
 use Rattle.pf_columns.proofs.GroupedCells.{has_filter, rises_filter}
-use Rattle.pf_columns.proofs.Occurring.{is_full, with_labels}
+use Rattle.pf_columns.proofs.Occurring.{is_full, occurring_ascend, occurring_in, with_labels}
 use Rattle.pf_columns.proofs.Rising.{ascends}
 use Rattle.pf_model.specs.declared.cell.Element.{Element}
 use Rattle.pf_model.specs.declared.cell.ErrorKind.{ErrorKind}
 use Rattle.pf_model.specs.declared.cell.StepCell.TheVariants.{Good, Bad}
 use Rattle.pf_model.specs.declared.functions.RangeFn.{RangeFn}
 use Rattle.pf_model.specs.declared.functions.RangeFn.TheVariants.{AbsentOverTime}
-use Rattle.pf_model.specs.Cells.{cell_of, distinct, element, labels_of}
-use Rattle.pf_model.specs.Evaluation.{Moment, moment_elements, moments, samples_at, subquery_over, subquery_series}
+use Rattle.pf_model.specs.Cells.{cell_of, element, occurring, samples_of}
+use Rattle.pf_model.specs.Evaluation.{Moment, moment_elements, moments, subquery_over, subquery_series, vector_of}
 use Rattle.pf_model.specs.Lists.{Each, joined}
 use Rattle.pf_model.specs.Merging.{below}
 use Rattle.pf_model.specs.Micros.{one}
 use Rattle.pf_model.specs.Outcomes.{Outcome, Series, bad, elements, first_bad, of_cell, of_series, range_call, ranged_labels, ranges, scalar, text}
 use Rattle.pf_model.specs.RangeFunctions.{range_function}
 use Rattle.pf_model.specs.Selection.{same_labels}
-use Rattle.pf_model.proofs.KeySets.{alike, below_all, distinct_ascends, distinct_in, in_append, same_self, same_turned, stands_in}
+use Rattle.pf_model.proofs.KeySets.{alike, below_all, same_self, same_turned, stands_in}
 use Rattle.pf_model.proofs.SelectorLabels.{AllAbove}
 use Rattle.pf_selectors.specs.declared.moments.BadMoment.{BadMoment}
 use Rattle.pf_selectors.specs.declared.times.Times.{Times}
@@ -109,35 +109,11 @@ all_own (c ∷ cs) r = (
 
 -- ---- the label sets that occur are those with samples
 
-full_map : {X Y : Type 0} (f : X → Y) (xs : List X) → is_full (map f xs) ≡ is_full xs
-full_map f [] = refl
-full_map f (x ∷ xs) = refl
-
-full_append : {X : Type 0} (xs ys : List X) → is_full (xs ++ ys) ≡ (is_full xs || is_full ys)
-full_append [] ys = refl
-full_append (x ∷ xs) ys = refl
-
-full_by : (l : Pairs) (e : Element) (es : List Element) (b : Bool) → (b || is_full (with_labels l es)) ≡ is_full (cond b (e ∷ with_labels l es) (with_labels l es))
-full_by l e es true = refl
-full_by l e es false = refl
-
-labels_in : (l : Pairs) (es : List Element) → stands_in l (labels_of es) ≡ is_full (with_labels l es)
-labels_in l [] = refl
-labels_in l (e ∷ es) = (λ i. same_turned l e.labels i || labels_in l es i) ∙ full_by l e es (same_labels e.labels l)
-
 abbrev timed_value : ℤ → Element → Sample
 timed_value t e = record { time = t; value = e.value }
 
-abbrev all_labels : List Moment → List Pairs
-all_labels ms = joined (λ (m : Moment). labels_of (moment_elements m.outcome)) ms
-
-has_samples : (l : Pairs) (ms : List Moment) → stands_in l (all_labels ms) ≡ is_full (samples_at l ms)
-has_samples l [] = refl
-has_samples l (m ∷ ms) =
-    let es = moment_elements m.outcome in
-    in_append l (labels_of es) (all_labels ms)
-    ∙ (λ i. (labels_in l es ∙ sym (full_map (timed_value m.time) (with_labels l es))) i || has_samples l ms i)
-    ∙ sym (full_append (map (timed_value m.time) (with_labels l es)) (samples_at l ms))
+abbrev samples_at : Pairs → List Moment → List Sample
+samples_at l ms = samples_of (λ (m : Moment). m.time) vector_of l ms
 
 not_full : {X : Type 0} (xs : List X) → is_full xs ≡ false → xs ≡ []
 not_full [] h = refl
@@ -314,12 +290,12 @@ module _ (from to : ℤ) where
             (λ j. ap (λ xs. cond (lies_in from to (t j)) xs []) (ap (map (timed_value (t j))) (own j) ∙ value_sample (t j) c.labels (value_in c.values j))) n
             ∙ sym (within_all from to t (value_in c.values) n)
 
-        sets_are : distinct (all_labels window) ≡ filter (λ l. is_full (samples_at l window)) (columns_labels m.columns)
+        sets_are : occurring vector_of window ≡ filter (λ l. is_full (samples_at l window)) (columns_labels m.columns)
         sets_are =
             let full : Pairs → Bool = λ l. is_full (samples_at l window) in
             let ls = columns_labels m.columns in
-            alike (distinct (all_labels window)) (filter full ls) (distinct_ascends (all_labels window)) (ascends (filter full ls) (rises_filter full ls rising))
-            (λ l. distinct_in l (all_labels window) ∙ has_samples l window ∙ and_of (stands_in l ls) (full l) (λ h. ap is_full (no_samples l h)) ∙ sym (has_filter full l ls))
+            alike (occurring vector_of window) (filter full ls) (occurring_ascend vector_of window) (ascends (filter full ls) (rises_filter full ls rising))
+            (λ l. occurring_in (λ (m : Moment). m.time) vector_of l window ∙ and_of (stands_in l ls) (full l) (λ h. ap is_full (no_samples l h)) ∙ sym (has_filter full l ls))
 
         module _ {Y : Type 0} (g : Series → List Y) (none : (l : Pairs) → g (record { labels = l; samples = [] }) ≡ []) where
           abbrev of_set : Pairs → List Y
@@ -342,7 +318,7 @@ module _ (from to : ℤ) where
 
           series_are : joined g (subquery_series window) ≡ joined g (map (λ (c : ColumnData). record { labels = c.labels; samples = own_samples c }) m.columns)
           series_are =
-              over_sets g (λ l. samples_at l window) (distinct (all_labels window))
+              over_sets g (λ l. samples_at l window) (occurring vector_of window)
               ∙ ap (joined of_set) sets_are
               ∙ kept (columns_labels m.columns)
               ∙ joined_columns of_set m.columns
