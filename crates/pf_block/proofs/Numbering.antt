@@ -4,7 +4,7 @@ use Rattle.std.specs.Prelude.{nat_le}
 use Rattle.std.specs.Cmp.{first_so, second_so}
 use Rattle.pf_base.specs.declared.plain.Row.{Row}
 use Rattle.pf_base.specs.LabelSets.{Pairs}
-use Rattle.pf_block.specs.Blocks.{Entries, entries_of, entry_of, labels_with, noted, noted_at, number_at, number_of}
+use Rattle.pf_block.specs.Blocks.{Entries, entries_of, entry_of, labels_with, noted, noted_at, number_at, number_of_labels}
 use Rattle.pf_block.specs.SeriesIds.{id_of}
 use Rattle.pf_block.specs.Snaps.{are_timed, sample_of}
 use Rattle.pf_block.proofs.Pairing.{drop_at}
@@ -28,7 +28,7 @@ module _ (rows : List Row) (k : ℕ) (r : Row) (l : k < length rows) (h : r ≡ 
   pub rest_timed : are_timed (drop k rows) ≡ true → are_timed (drop (suc k) rows) ≡ true
   rest_timed t = second_so (nat_le r.time 4398046511103) (are_timed (drop (suc k) rows)) (subst (λ x. are_timed x ≡ true) row_is t)
 
-  module _ (labels : List Pairs) (ks new : List (ℕ × (ℤ × ℤ))) (e : ℕ × (ℤ × ℤ)) (p : new ≡ ks ++ e ∷ []) (q : entry_of e ≡ (number_of labels r.labels, sample_of r)) where
+  module _ (labels : List Pairs) (ks new : List (ℕ × (ℤ × ℤ))) (e : ℕ × (ℤ × ℤ)) (p : new ≡ ks ++ e ∷ []) (q : entry_of e ≡ (number_of_labels labels r.labels, sample_of r)) where
     pub entries_next : (whole : Entries) → map entry_of ks ++ entries_of labels (drop k rows) ≡ whole → map entry_of new ++ entries_of (noted labels r.labels) (drop (suc k) rows) ≡ whole
     entries_next whole w =
         ap (λ x. map entry_of x ++ entries_of (noted labels r.labels) (drop (suc k) rows)) p
@@ -40,13 +40,13 @@ module _ (rows : List Row) (k : ℕ) (r : Row) (l : k < length rows) (h : r ≡ 
   pub labels_next : (labels whole : List Pairs) → labels_with labels (drop k rows) ≡ whole → labels_with (noted labels r.labels) (drop (suc k) rows) ≡ whole
   labels_next labels whole w = ap (labels_with labels) (sym row_is) ∙ w
 
-pub known_id : (labels : List Pairs) (l : Pairs) (id : ℕ) → Some id ≡ id_of l labels → number_of labels l ≡ id
+pub known_id : (labels : List Pairs) (l : Pairs) (id : ℕ) → Some id ≡ id_of l labels → number_of_labels labels l ≡ id
 known_id labels l id h = ap (number_at labels) (sym h)
 
 pub known_labels : (labels : List Pairs) (l : Pairs) (id : ℕ) → Some id ≡ id_of l labels → noted labels l ≡ labels
 known_labels labels l id h = ap (noted_at labels l) (sym h)
 
-pub new_id : (labels : List Pairs) (l : Pairs) → id_of l labels ≡ None → number_of labels l ≡ length labels
+pub new_id : (labels : List Pairs) (l : Pairs) → id_of l labels ≡ None → number_of_labels labels l ≡ length labels
 new_id labels l h = ap (number_at labels) h
 
 pub new_labels : (labels : List Pairs) (l : Pairs) → id_of l labels ≡ None → noted labels l ≡ labels ++ l ∷ []

@@ -10,7 +10,7 @@ use Rattle.std.proofs.Math.ListN.{length-set}
 use Rattle.pf_base.specs.declared.plain.Row.{Row}
 use Rattle.pf_base.specs.declared.plain.Sample.{Sample}
 use Rattle.pf_base.specs.LabelSets.{Pairs}
-use Rattle.pf_block.specs.Blocks.{entries_of, labels_with, noted, noted_at, number_at, number_of, same_sample, times_in}
+use Rattle.pf_block.specs.Blocks.{entries_of, labels_with, noted, noted_at, number_at, number_of_labels, same_sample, times_in}
 use Rattle.pf_block.specs.Samples.{is_series, is_timed, put_sample}
 use Rattle.pf_block.specs.SeriesIds.{id_of}
 use Rattle.pf_block.specs.Snaps.{SnapData, IsSnap, are_new, are_timed, held_by, held_of, put_into, put_row, sample_of, samples_of, with_rows}
@@ -86,7 +86,7 @@ rows_times k x s (r ∷ rs) a =
     let t = rows_times k x (put_row s r) rs (alike_by s r (id_of r.labels s.labels) a) in
     let u : times k x (entries_of ((put_row s r).labels) rs) ≡ times k x (entries_of (noted s.labels r.labels) rs) = ap (λ ls. times k x (entries_of ls rs)) (row_labels s r) in
     let o = row_times_by x k s r (id_of r.labels s.labels) a refl in
-    let m = times_more k x (number_of s.labels r.labels, sample_of r) (entries_of (noted s.labels r.labels) rs) in
+    let m = times_more k x (number_of_labels s.labels r.labels, sample_of r) (entries_of (noted s.labels r.labels) rs) in
     omega (arith, t, u, o, m)
 
 -- ---- no series goes

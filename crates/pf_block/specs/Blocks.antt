@@ -62,13 +62,13 @@ abbrev pub number_at : List Pairs → Option ℕ → ℕ
 number_at labels None = length labels
 number_at labels (Some id) = id
 
-abbrev pub number_of : List Pairs → Pairs → ℕ
-number_of labels l = number_at labels (id_of l labels)
+abbrev pub number_of_labels : List Pairs → Pairs → ℕ
+number_of_labels labels l = number_at labels (id_of l labels)
 
 -- rows with the ids of their series
 abbrev pub entries_of : List Pairs → List Row → Entries
 entries_of labels [] = []
-entries_of labels (r ∷ rs) = (number_of labels r.labels, sample_of r) ∷ entries_of (noted labels r.labels) rs
+entries_of labels (r ∷ rs) = (number_of_labels labels r.labels, sample_of r) ∷ entries_of (noted labels r.labels) rs
 
 -- an entry as it is sorted
 abbrev pub entry_of : ℕ × (ℤ × ℤ) → ℕ × Sample

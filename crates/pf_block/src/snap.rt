@@ -3,7 +3,7 @@
 ghost use Rattle.std.specs.Prelude.{◌≡◌, ◌<◌, ◌≤◌, ◌++◌, true, IfOk, length, vec_len, slice_index_or, nat_le, nat_lt, map, drop};
 ghost use Rattle.std.specs.List.{All, list_all};
 ghost use Rattle.std.specs.Arc.{arc_value};
-ghost use Rattle.pf_block.specs.Blocks.{entries_of, entry_of, labels_with, noted, number_of};
+ghost use Rattle.pf_block.specs.Blocks.{entries_of, entry_of, labels_with, noted, number_of_labels};
 ghost use Rattle.pf_block.specs.Samples.{window_of, last_of};
 ghost use Rattle.pf_base.specs.LabelSets.{IsLabels};
 ghost use Rattle.pf_base.specs.Limits.{greatest_time};
@@ -73,7 +73,7 @@ fn known(alloc: Global, index: &Index, rows: &[Row]) -> Result<Vec<Entry>, OutOf
 /// The id of a series, and the index with its labels.
 fn numbered_in(index: Index, labels: &Labels) -> Result<(Index, u32), OutOfMemory>
     ensures index { IfOk result (λ p. p.0 ≡ noted index labels.now) }
-    ensures id { IfOk result (λ p. p.1 ≡ number_of index labels.now) }
+    ensures id { IfOk result (λ p. p.1 ≡ number_of_labels index labels.now) }
 {
     if let Some(id) = index.find(labels) {
         return Ok((index, id));

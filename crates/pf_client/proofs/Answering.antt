@@ -30,7 +30,7 @@ use Rattle.pf_model.specs.Lists.{Each}
 use Rattle.pf_model.specs.declared.expr.Kind.{Kind}
 use Rattle.pf_model.specs.declared.expr.Kind.TheVariants.{Scalar, Instant, Range, Text}
 use Rattle.pf_query.specs.Tables.{hands_with}
-use Rattle.pf_report.specs.Bodies.{code_in, result_body, text_of}
+use Rattle.pf_report.specs.Bodies.{code_in, result_body, text_of_body}
 use Rattle.pf_report.specs.declared.bodies.Body.{Body}
 use Rattle.pf_report.specs.declared.bodies.Body.TheVariants as body
 use Rattle.pf_client.proofs.Asking.{code_400, code_429, code_503, code_507}
@@ -55,7 +55,7 @@ use Rattle.pf_types.specs.Errors.{words_of_error}
 
 -- the body of an evaluation
 evaluated_body : (l : Limits) (o : Open) (b : Body) (a : Answer) → a ≡ machine.answer_of l o → o.cancelled ≡ None
-    → text_of b ≡ body_text o.asked a → code_in b ≡ code_of a → told_with b ≡ nothing → IsBody l o b
+    → text_of_body b ≡ body_text o.asked a → code_in b ≡ code_of a → told_with b ≡ nothing → IsBody l o b
 evaluated_body l o b (gathered rows) is un text code told = record {
   coded = subst (λ (c : Option ℕ). IsCode l o c (code_in b)) (sym un) (inl (code ∙ ap code_of is));
   text = rw code (sym (text ∙ ap (body_text o.asked) is));
@@ -197,17 +197,17 @@ reply_starved : (known : Known) (n : ℕ) (id : List ℕ) (asking : Option Ran) 
     → refused_reply known n id asking None ≡ unanswered n id (codes "507") memory_body
 reply_starved known n id asking r there told = rw there (rw told refl)
 
-said_as : (number : ℕ) (id : List ℕ) (c : Body) (code : ℕ) (word text : List ℕ) → code_in c ≡ code → decimal code ≡ word → text_of c ≡ text
-    → unanswered number id (decimal (code_in c)) (text_of c) ≡ unanswered number id word text
+said_as : (number : ℕ) (id : List ℕ) (c : Body) (code : ℕ) (word text : List ℕ) → code_in c ≡ code → decimal code ≡ word → text_of_body c ≡ text
+    → unanswered number id (decimal (code_in c)) (text_of_body c) ≡ unanswered number id word text
 said_as number id c code word text e f g =
-    ap (λ (x : ℕ). unanswered number id (decimal x) (text_of c)) e ∙ ap (λ (x : List ℕ). unanswered number id x (text_of c)) f ∙ ap (λ (x : List ℕ). unanswered number id word x) g
+    ap (λ (x : ℕ). unanswered number id (decimal x) (text_of_body c)) e ∙ ap (λ (x : List ℕ). unanswered number id x (text_of_body c)) f ∙ ap (λ (x : List ℕ). unanswered number id word x) g
 
 module _ (known : Known) (above : List Ran) (hands : List Hand) (old new : Client) (held : new.hands ≡ old.hands) (number : ℕ) (id : List ℕ) (k : ℕ) where
   -- an open query is answered
   pub step_answered : (by : By) (q : ℕ) (reply : Reply) (o : Open) (a : Asked) (b : Body) → IsKnown known new.core → (h : IsAskAt known above (own_of old.client old.core) k q)
       → IsReplied old.core by q reply new.core → Stands new.core → by.client ≡ old.client → by.line ≡ number
       → open_at q (machine_of old.core).queries ≡ Some o → o.asked ≡ a → b ≡ outcome_body a.instant a.kind reply.outcome
-      → new.out.items ≡ old.out.items ++ answered number id (decimal reply.code) reply.cached reply.evaluated (text_of b)
+      → new.out.items ≡ old.out.items ++ answered number id (decimal reply.code) reply.cached reply.evaluated (text_of_body b)
       → IsQueryAnswer known (naming (own_of old.client old.core) above hands (script.answer id k)) old (record { number = number; line = script.answer id k }) q true new
   step_answered by q reply o a b kn h r stands client line there asked made said =
       let found = r.is_open in
@@ -220,7 +220,7 @@ module _ (known : Known) (above : List Ran) (hands : List Hand) (old new : Clien
       let entered : Enters old.core by what new.core = entered_after old.core r.middle new.core by what r.works.history r.entered in
       let of_ask : IsOfAsk (moment_of k (own_of old.client old.core)) q = subst (λ (m : Option Moment). IsOfAsk m q) (sym h.there) (sym h.place) in
       let limits : known.limits ≡ old.core.limits = kn.limits ∙ entered.limits in
-      let text : body_of known.limits (told_with b) reply.code (open_at q (machine_of old.core).queries) ≡ text_of b =
+      let text : body_of known.limits (told_with b) reply.code (open_at q (machine_of old.core).queries) ≡ text_of_body b =
       rw found (rw limits (rw (sym code) is.text)) in
       let beside : ToldOfCode (nat_eq reply.code 500) (told_with b) = subst (λ (c : ℕ). ToldOfCode (nat_eq c 500) (told_with b)) code is.told in
       let queries : open_at q (machine_of r.middle).queries ≡ Some r.opened =
@@ -317,7 +317,7 @@ module _ (known : Known) (above : List Ran) (hands : List Hand) (old new : Clien
   -- the answer of an ask that was refused
   pub step_unanswered : (s : Slot) (b : Body) → new.core ≡ old.core → SlotRight known above (own_of old.client old.core) k (Some s)
       → ((q : ℕ) → s ≡ slot.Asked q → ⊥) → IsRefusedBody s b
-      → new.out.items ≡ old.out.items ++ unanswered number id (decimal (code_in b)) (text_of b)
+      → new.out.items ≡ old.out.items ++ unanswered number id (decimal (code_in b)) (text_of_body b)
       → IsUnanswered known (naming (own_of old.client old.core) above hands (script.answer id k)) old (record { number = number; line = script.answer id k }) new
   step_unanswered s b same right shut is said = record {
     none = refl;
@@ -335,7 +335,7 @@ module _ (known : Known) (above : List Ran) (hands : List Hand) (old new : Clien
     no_query slot.NoMemory r n = subst (λ (m : Option Moment). HasNoQuery (what_of m)) (sym r.none) tt
 
     reply_is : (x : Slot) (c : Body) → SlotRight known above (own_of old.client old.core) k (Some x) → ((q : ℕ) → x ≡ slot.Asked q → ⊥) → IsRefusedBody x c
-        → refused_reply known number id (ran_at k above) (what_of (moment_of k (own_of old.client old.core))) ≡ unanswered number id (decimal (code_in c)) (text_of c)
+        → refused_reply known number id (ran_at k above) (what_of (moment_of k (own_of old.client old.core))) ≡ unanswered number id (decimal (code_in c)) (text_of_body c)
     reply_is (slot.Asked q) c r n i = absurd (n q refl)
     reply_is (slot.BadGrid e) c r n i =
         ap (λ (m : Option Moment). refused_reply known number id (ran_at k above) (what_of m)) r.none

@@ -11,7 +11,7 @@ use Rattle.pf_model.specs.Direct.{Answer, MatrixRow, direct, gathered, failed}
 use Rattle.pf_journal.specs.Asking.{Asked}
 use Rattle.pf_journal.specs.Bodies.{body_text, result_text}
 use Rattle.pf_journal.specs.Machine.{code_of}
-use Rattle.pf_report.specs.Bodies.{answer_body, code_in, result_body, text_of}
+use Rattle.pf_report.specs.Bodies.{answer_body, code_in, result_body, text_of_body}
 use Rattle.pf_report.specs.declared.bodies.Body.{Body}
 use Rattle.pf_report.specs.declared.bodies.Body.TheVariants as body
 
@@ -39,7 +39,7 @@ pub has_failed : (samples : List Row) (asked : Asked) (step : ℕ) (kind : Error
     → direct samples asked.query ≡ failed step kind → body.Failed step kind ≡ answer_body asked.instant asked.kind (direct samples asked.query)
 has_failed samples asked step kind d = ap (answer_body asked.instant asked.kind) (sym d)
 
-pub result_texts : (instant : Bool) (kind : Kind) (rows : List MatrixRow) → text_of (result_body instant kind rows) ≡ result_text instant kind rows
+pub result_texts : (instant : Bool) (kind : Kind) (rows : List MatrixRow) → text_of_body (result_body instant kind rows) ≡ result_text instant kind rows
 result_texts false kind rows = refl
 result_texts true Scalar rows = refl
 result_texts true Instant rows = refl
@@ -53,7 +53,7 @@ result_codes true Instant rows = refl
 result_codes true Range rows = refl
 result_codes true Text rows = refl
 
-texts : (asked : Asked) (a : Answer) → text_of (answer_body asked.instant asked.kind a) ≡ body_text asked a
+texts : (asked : Asked) (a : Answer) → text_of_body (answer_body asked.instant asked.kind a) ≡ body_text asked a
 texts asked (gathered rows) = result_texts asked.instant asked.kind rows
 texts asked (failed step kind) = refl
 
@@ -62,8 +62,8 @@ codes asked (gathered rows) = result_codes asked.instant asked.kind rows
 codes asked (failed step kind) = refl
 
 -- the text and the code of an answer's body
-pub body_texts : (asked : Asked) (a : Answer) (b : Body) → b ≡ answer_body asked.instant asked.kind a → text_of b ≡ body_text asked a
-body_texts asked a b is = ap text_of is ∙ texts asked a
+pub body_texts : (asked : Asked) (a : Answer) (b : Body) → b ≡ answer_body asked.instant asked.kind a → text_of_body b ≡ body_text asked a
+body_texts asked a b is = ap text_of_body is ∙ texts asked a
 
 pub body_codes : (asked : Asked) (a : Answer) (b : Body) → b ≡ answer_body asked.instant asked.kind a → code_in b ≡ code_of a
 body_codes asked a b is = ap code_in is ∙ codes asked a

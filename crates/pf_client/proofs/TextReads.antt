@@ -25,11 +25,11 @@ use Rattle.pf_model.proofs.TreeOf.{number_tree, text_tree, unary_tree, binary_tr
 use Rattle.pf_model.specs.declared.matchers.Matchers.{Matchers}
 use Rattle.pf_model.specs.ErrorTexts.{QueryFault, of_grammar, of_kinds, refused_pattern, empty_selector}
 use Rattle.pf_model.specs.Lists.{Each, at}
-use Rattle.pf_model.specs.Queries.{CanRefuse, first_empty, IsFaultOf, IsNoSelector, IsQuery, IsReading, is_plain, is_unmodified, lawful, may_be_no_selector, may_be_refused, no_selector, selecting, selector}
+use Rattle.pf_model.specs.Queries.{CanRefuse, first_empty, IsFaultOf, IsNoSelector, IsQuery, IsReading, is_plain_selector, is_unmodified, lawful, may_be_no_selector, may_be_refused, no_selector, selecting, selector}
 use Rattle.pf_journal.specs.Scripts.{Numbered}
 use Rattle.pf_model.specs.Selection.{accepts_empty, all_compared}
 use Rattle.pf_model.specs.Trees.{Tree, number, text, unary, binary, call, aggregate, select, subquery, instant, no_mods, tree_of}
-use Rattle.pf_model.specs.Typing.{Fault, asked_fault}
+use Rattle.pf_model.specs.Typing.{TypeFault, asked_fault}
 use Rattle.pf_script.specs.Lines.{numbered_of}
 use Rattle.pf_script.specs.declared.script.NumberedLine.{NumberedLine}
 use Rattle.pf_types.specs.Errors.{IsFaultFor, query_fault}
@@ -48,7 +48,7 @@ use Rattle.pf_client.proofs.Cases.{bool_cases}
 -- ---- trees as selectors
 
 -- a tree that is no instant selector without modifiers is no selector
-pub other_tree : (t : Tree) → is_plain t ≡ false → selecting t ≡ no_selector
+pub other_tree : (t : Tree) → is_plain_selector t ≡ false → selecting t ≡ no_selector
 other_tree (number v) h = refl
 other_tree (text b) h = refl
 other_tree (unary m e) h = refl
@@ -60,7 +60,7 @@ other_tree (select ms (Some range) mods) h = refl
 other_tree (subquery e range resolution mods) h = refl
 
 -- a tree whose kinds are wrong is no selector
-ill_typed : (t : Tree) (f : Fault) → asked_fault t ≡ Some f → selecting t ≡ no_selector
+ill_typed : (t : Tree) (f : TypeFault) → asked_fault t ≡ Some f → selecting t ≡ no_selector
 ill_typed (number v) f h = refl
 ill_typed (text b) f h = refl
 ill_typed (unary m e) f h = refl
@@ -68,7 +68,7 @@ ill_typed (binary op m a b) f h = refl
 ill_typed (call f args) g h = refl
 ill_typed (aggregate op g args) f h = refl
 ill_typed (select ms None mods) f h = absurd (none_is f h) where
-  none_is : (g : Fault) → None ≡ Some g → ⊥
+  none_is : (g : TypeFault) → None ≡ Some g → ⊥
   none_is g e = cc
 ill_typed (select ms (Some range) mods) f h = refl
 ill_typed (subquery e range resolution mods) f h = refl
@@ -89,7 +89,7 @@ empty_tree (select ms (Some range) mods) n h = refl
 empty_tree (subquery e range resolution mods) n h = refl
 
 -- the pattern of an instant selector is refused where a pattern of its tree is
-own_pattern : (t : Tree) (n : ℕ) → is_plain t ≡ true → CanRefuse n t → may_be_refused t ≡ true
+own_pattern : (t : Tree) (n : ℕ) → is_plain_selector t ≡ true → CanRefuse n t → may_be_refused t ≡ true
 own_pattern (number v) n h c = absurd (true≢false (sym h))
 own_pattern (text b) n h c = absurd (true≢false (sym h))
 own_pattern (unary m e) n h c = absurd (true≢false (sym h))
@@ -113,32 +113,32 @@ unmodified mods h = made mods.at mods.offset h where
   made None offset h = let zero_offset : offset ≡ pos 0 = (Decides-int_eq offset (pos 0)).0 h in ap (λ o. record { at = None; offset = o }) zero_offset
   made (Some time) offset h = absurd (true≢false (sym h))
 
-pub number_other : (e : Expr) (v : ℤ) → e ≡ expr.Number v → is_plain (tree_of e) ≡ false
-number_other e v is = ap is_plain (ap tree_of is ∙ number_tree v)
+pub number_other : (e : Expr) (v : ℤ) → e ≡ expr.Number v → is_plain_selector (tree_of e) ≡ false
+number_other e v is = ap is_plain_selector (ap tree_of is ∙ number_tree v)
 
-pub text_other : (e : Expr) (s : List ℕ) → e ≡ expr.Text s → is_plain (tree_of e) ≡ false
-text_other e s is = ap is_plain (ap tree_of is ∙ text_tree s)
+pub text_other : (e : Expr) (s : List ℕ) → e ≡ expr.Text s → is_plain_selector (tree_of e) ≡ false
+text_other e s is = ap is_plain_selector (ap tree_of is ∙ text_tree s)
 
-pub unary_other : (e : Expr) (m : Bool) (b : Box Expr _) → e ≡ expr.Unary m b → is_plain (tree_of e) ≡ false
-unary_other e m b is = ap is_plain (ap tree_of is ∙ unary_tree m b)
+pub unary_other : (e : Expr) (m : Bool) (b : Box Expr _) → e ≡ expr.Unary m b → is_plain_selector (tree_of e) ≡ false
+unary_other e m b is = ap is_plain_selector (ap tree_of is ∙ unary_tree m b)
 
-pub binary_other : (e : Expr) (op : BinaryOp) (m : Matched) (a b : Box Expr _) → e ≡ expr.Binary op m a b → is_plain (tree_of e) ≡ false
-binary_other e op m a b is = ap is_plain (ap tree_of is ∙ binary_tree op m a b)
+pub binary_other : (e : Expr) (op : BinaryOp) (m : Matched) (a b : Box Expr _) → e ≡ expr.Binary op m a b → is_plain_selector (tree_of e) ≡ false
+binary_other e op m a b is = ap is_plain_selector (ap tree_of is ∙ binary_tree op m a b)
 
-pub call_other : (e : Expr) (f : Function) (v : Vec Expr _) → e ≡ expr.Call f v → is_plain (tree_of e) ≡ false
-call_other e f v is = ap is_plain (ap tree_of is ∙ call_tree f v)
+pub call_other : (e : Expr) (f : Function) (v : Vec Expr _) → e ≡ expr.Call f v → is_plain_selector (tree_of e) ≡ false
+call_other e f v is = ap is_plain_selector (ap tree_of is ∙ call_tree f v)
 
-pub aggregate_other : (e : Expr) (op : AggOp) (g : Grouped) (v : Vec Expr _) → e ≡ expr.Aggregate op g v → is_plain (tree_of e) ≡ false
-aggregate_other e op g v is = ap is_plain (ap tree_of is ∙ aggregate_tree op g v)
+pub aggregate_other : (e : Expr) (op : AggOp) (g : Grouped) (v : Vec Expr _) → e ≡ expr.Aggregate op g v → is_plain_selector (tree_of e) ≡ false
+aggregate_other e op g v is = ap is_plain_selector (ap tree_of is ∙ aggregate_tree op g v)
 
 pub subquery_other : (e : Expr) (b : Box Expr _) (range : ℕ) (resolution : Option ℕ) (mods : Mods) → e ≡ expr.Subquery b range resolution mods
-    → is_plain (tree_of e) ≡ false
-subquery_other e b range resolution mods is = ap is_plain (ap tree_of is ∙ subquery_tree b range resolution mods)
+    → is_plain_selector (tree_of e) ≡ false
+subquery_other e b range resolution mods is = ap is_plain_selector (ap tree_of is ∙ subquery_tree b range resolution mods)
 
 pub select_other : (e : Expr) (s : List Matcher) (range : Option ℕ) (mods : Mods) → e ≡ expr.Select s range mods
-    → (is_none range && is_unmodified mods) ≡ false → is_plain (tree_of e) ≡ false
-select_other e s range mods is h = ap is_plain (ap tree_of is ∙ select_tree s range mods) ∙ by_range range h where
-  by_range : (r : Option ℕ) → (is_none r && is_unmodified mods) ≡ false → is_plain (select s r mods) ≡ false
+    → (is_none range && is_unmodified mods) ≡ false → is_plain_selector (tree_of e) ≡ false
+select_other e s range mods is h = ap is_plain_selector (ap tree_of is ∙ select_tree s range mods) ∙ by_range range h where
+  by_range : (r : Option ℕ) → (is_none r && is_unmodified mods) ≡ false → is_plain_selector (select s r mods) ≡ false
   by_range None g = g
   by_range (Some x) g = refl
 
@@ -168,7 +168,7 @@ pub empty_selector_right : (words : List ℕ) (t : Tree) (n : ℕ) → first_emp
 empty_selector_right words t n some q = (empty_selector n, (refl, (t, (q, some))))
 
 -- what trees say as selectors
-pub other_refused : (t : Tree) → is_plain t ≡ false → SelectsAs t chosen.Refused
+pub other_refused : (t : Tree) → is_plain_selector t ≡ false → SelectsAs t chosen.Refused
 other_refused t h = inl (other_tree t h)
 
 pub plain_selects : (t : Tree) (s : List Matcher) (m : Arc Matchers Global) → t ≡ instant s → arc_value m ≡ s → accepts_empty s ≡ false → SelectsAs t (chosen.Built m)
@@ -195,7 +195,7 @@ lawful_read words t q s h g is = (h words is, selector_read words t s g is)
 pub fault_selects_none : (words : List ℕ) (fault : QueryFault) → IsFaultOf words fault → IsNoSelector words
 fault_selects_none words (of_grammar refusal) h = inl (refusal, h)
 fault_selects_none words (of_kinds f) h = inr (inl (h.0, (h.1.0, ill_typed h.0 f h.1.1)))
-fault_selects_none words (refused_pattern n) h = elim (bool_cases (is_plain h.0)) [
+fault_selects_none words (refused_pattern n) h = elim (bool_cases (is_plain_selector h.0)) [
   | inl p ↦ inr (inr (h.0, (h.1.0.parses, ap (λ b. b && may_be_refused h.0) p ∙ own_pattern h.0 n p h.1.1)))
   | inr p ↦ inr (inl (h.0, (h.1.0.parses, other_tree h.0 p)))
 ]

@@ -20,7 +20,7 @@ use Rattle.pf_journal.specs.Turns.{Ran, answer_of, is_answer_of, asker_of, momen
 use Rattle.pf_journal.specs.Weave.{ToldOfCode}
 use Rattle.pf_model.specs.ErrorTexts.{grid_text}
 use Rattle.pf_model.specs.declared.expr.Kind.{Kind}
-use Rattle.pf_report.specs.Bodies.{code_in, result_body, text_of}
+use Rattle.pf_report.specs.Bodies.{code_in, result_body, text_of_body}
 use Rattle.pf_report.specs.declared.bodies.Body.{Body}
 use Rattle.pf_report.specs.declared.bodies.Body.TheVariants as body
 use Rattle.pf_script.specs.Lines as lines
@@ -171,17 +171,17 @@ told_with _ = nothing
 -- a body is the answer of an open query, by its code
 pub record IsBody (limits : Limits) (o : Open) (b : Body) : Type 0 where
   pub coded : IsCode limits o o.cancelled (code_in b)
-  pub text : body_of limits (told_with b) (code_in b) (Some o) ≡ text_of b
+  pub text : body_of limits (told_with b) (code_in b) (Some o) ≡ text_of_body b
   pub told : ToldOfCode (nat_eq (code_in b) 500) (told_with b)
 
 -- a body is the answer of a refused ask
 abbrev pub IsRefusedBody : Slot → Body → Type 0
 IsRefusedBody (slot.Asked query) b = Unit {0}
-IsRefusedBody (slot.BadGrid e) b = (code_in b ≡ 400) × (text_of b ≡ refused_body (grid_text e))
-IsRefusedBody (slot.BadQuery e) b = (code_in b ≡ 400) × (text_of b ≡ refused_body (words_of_error e))
-IsRefusedBody slot.Full b = (code_in b ≡ 429) × (text_of b ≡ full_body)
-IsRefusedBody slot.TooManyTenants b = (code_in b ≡ 503) × (text_of b ≡ tenants_body)
-IsRefusedBody slot.NoMemory b = (code_in b ≡ 507) × (text_of b ≡ memory_body)
+IsRefusedBody (slot.BadGrid e) b = (code_in b ≡ 400) × (text_of_body b ≡ refused_body (grid_text e))
+IsRefusedBody (slot.BadQuery e) b = (code_in b ≡ 400) × (text_of_body b ≡ refused_body (words_of_error e))
+IsRefusedBody slot.Full b = (code_in b ≡ 429) × (text_of_body b ≡ full_body)
+IsRefusedBody slot.TooManyTenants b = (code_in b ≡ 503) × (text_of_body b ≡ tenants_body)
+IsRefusedBody slot.NoMemory b = (code_in b ≡ 507) × (text_of_body b ≡ memory_body)
 
 -- an entry answers a query
 abbrev pub answers : ℕ → Option What → Bool

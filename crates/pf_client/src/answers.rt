@@ -9,7 +9,7 @@ ghost use Rattle.pf_journal.specs.Rest.{Known};
 ghost use Rattle.pf_journal.specs.Scripts as script;
 ghost use Rattle.pf_journal.specs.Turns.{Hand, Ran};
 ghost use Rattle.pf_model.specs.Lists.{Each};
-ghost use Rattle.pf_report.specs.Bodies.{code_in, text_of};
+ghost use Rattle.pf_report.specs.Bodies.{code_in, text_of_body};
 ghost use Rattle.pf_client.specs.Asks.{IsAnswerStep, IsAskAt, IsQueryAnswer, IsRefusedBody, IsUnanswered, SlotRight, outcome_body};
 ghost use Rattle.pf_client.specs.Clients.{Grows, IsKnown, IsStep, naming};
 ghost use Rattle.pf_client.specs.Going.{own_of};
@@ -125,7 +125,7 @@ impl Client {
 
     /// Appends an answer without steps.
     fn push_unanswered(&mut self, number: u32, id: &Text, body: &Body) -> Result<(), OutOfMemory>
-        ensures said { OnOk result (self.new.out.items ≡ self.old.out.items ++ unanswered number id.now (decimal (code_in body.now)) (text_of body.now)) }
+        ensures said { OnOk result (self.new.out.items ≡ self.old.out.items ++ unanswered number id.now (decimal (code_in body.now)) (text_of_body body.now)) }
         ensures core { self.new.core ≡ self.old.core }
         ensures slots { self.new.slots ≡ self.old.slots }
         ensures hands { self.new.hands ≡ self.old.hands }

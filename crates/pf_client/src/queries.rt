@@ -5,7 +5,7 @@ ghost use Rattle.std.specs.BTreeMap.{get_by_text};
 ghost use Rattle.pf_model.specs.Parsing.{most_bytes};
 ghost use Rattle.pf_model.specs.Built.{is_evaluated};
 ghost use Rattle.pf_model.specs.Lists.{Each};
-ghost use Rattle.pf_model.specs.Queries.{IsQuery, first_empty, is_plain, is_unmodified};
+ghost use Rattle.pf_model.specs.Queries.{IsQuery, first_empty, is_plain_selector, is_unmodified};
 ghost use Rattle.pf_model.specs.Trees.{height, instant, size, tree_of};
 ghost use Rattle.pf_print.specs.OwnTexts.{HasText};
 ghost use Rattle.pf_script.specs.Lines.{lines_of, numbered_of};
@@ -64,7 +64,7 @@ fn is_unmodified(mods: &Mods) -> bool
 /// The selector of an instant selector without modifiers.
 #[tactic(auto, using(crate::proofs::TextReads::number_other, crate::proofs::TextReads::text_other, crate::proofs::TextReads::unary_other, crate::proofs::TextReads::binary_other, crate::proofs::TextReads::call_other, crate::proofs::TextReads::aggregate_other, crate::proofs::TextReads::subquery_other, crate::proofs::TextReads::select_other, crate::proofs::TextReads::select_plain))]
 fn plain_selector(expr: &Expr) -> Option<&Selector>
-    ensures { MatchOption result (is_plain (tree_of expr.now) ≡ false) (λ s. tree_of expr.now ≡ instant s.now) }
+    ensures { MatchOption result (is_plain_selector (tree_of expr.now) ≡ false) (λ s. tree_of expr.now ≡ instant s.now) }
 {
     match expr {
         Expr::Select {

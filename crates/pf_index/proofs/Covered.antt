@@ -13,7 +13,7 @@ use Rattle.pf_model.specs.declared.expr.Matcher.{Matcher}
 use Rattle.pf_model.specs.declared.expr.MatchSign.{MatchSign}
 use Rattle.pf_model.specs.declared.expr.MatchSign.TheVariants.{Equal, NotEqual, Like, NotLike}
 use Rattle.pf_model.specs.Binding.{accepted_from, accepted_of}
-use Rattle.pf_model.specs.Patterns.{alternatives, is_like, is_plain}
+use Rattle.pf_model.specs.Patterns.{alternatives, is_like, is_plain_pattern}
 use Rattle.pf_model.specs.Selection.{accepts, holds}
 use Rattle.pf_index.specs.Listing.{accepted_in, has_one, all_from, ids_of, labels_at, listed_in, listed_values, unless_empty, values_of}
 use Rattle.pf_index.specs.Sieving.{holds_of}
@@ -58,14 +58,14 @@ chosen : (b c d : Bool) → b ≡ true → cond b c d ≡ true → c ≡ true
 chosen true c d e h = h
 chosen false c d e h = cc
 
-like_alternative : (pattern value : List ℕ) → is_plain pattern ≡ true → is_like pattern value ≡ true → list_any (bytes_eq value) (alternatives pattern) ≡ true
-like_alternative pattern value p h = chosen (is_plain pattern) (list_any (bytes_eq value) (alternatives pattern)) _ p h
+like_alternative : (pattern value : List ℕ) → is_plain_pattern pattern ≡ true → is_like pattern value ≡ true → list_any (bytes_eq value) (alternatives pattern) ≡ true
+like_alternative pattern value p h = chosen (is_plain_pattern pattern) (list_any (bytes_eq value) (alternatives pattern)) _ p h
 
 or_none : (b : Bool) → b ≡ true → (b || false) ≡ true
 or_none true h = refl
 or_none false h = h
 
-asked_like : (pattern value : List ℕ) (b : Bool) → is_plain pattern ≡ b → 0 < length (unless_empty (cond b (alternatives pattern) [])) → is_like pattern value ≡ true
+asked_like : (pattern value : List ℕ) (b : Bool) → is_plain_pattern pattern ≡ b → 0 < length (unless_empty (cond b (alternatives pattern) [])) → is_like pattern value ≡ true
     → list_any (bytes_eq value) (cond b (alternatives pattern) []) ≡ true
 asked_like pattern value true p h a = like_alternative pattern value p a
 asked_like pattern value false p h a = absurd (omega (arith, h))
@@ -73,7 +73,7 @@ asked_like pattern value false p h a = absurd (omega (arith, h))
 asked : (sign : MatchSign) (text value : List ℕ) → 0 < length (unless_empty (values_of sign text)) → holds sign value text ≡ true → list_any (bytes_eq value) (values_of sign text) ≡ true
 asked Equal text value h a = or_none (bytes_eq value text) a
 asked NotEqual text value h a = absurd (omega (arith, h))
-asked Like pattern value h a = asked_like pattern value (is_plain pattern) refl h a
+asked Like pattern value h a = asked_like pattern value (is_plain_pattern pattern) refl h a
 asked NotLike text value h a = absurd (omega (arith, h))
 
 has_one_listed : (m : Matcher) (l : Pairs) → 0 < length (listed_values m) → holds m.sign (value_of l m.label) m.text ≡ true → has_one m.label (listed_values m) l ≡ true
@@ -99,8 +99,8 @@ choice : (b c d : Bool) → b ≡ true → c ≡ true → cond b c d ≡ true
 choice true c d e h = h
 choice false c d e h = cc
 
-held_like : (pattern value : List ℕ) (b : Bool) → is_plain pattern ≡ b → list_any (bytes_eq value) (cond b (alternatives pattern) []) ≡ true → is_like pattern value ≡ true
-held_like pattern value true e h = choice (is_plain pattern) (list_any (bytes_eq value) (alternatives pattern)) _ e h
+held_like : (pattern value : List ℕ) (b : Bool) → is_plain_pattern pattern ≡ b → list_any (bytes_eq value) (cond b (alternatives pattern) []) ≡ true → is_like pattern value ≡ true
+held_like pattern value true e h = choice (is_plain_pattern pattern) (list_any (bytes_eq value) (alternatives pattern)) _ e h
 held_like pattern value false e h = cc
 
 held : (sign : MatchSign) (text value : List ℕ) → list_any (bytes_eq value) (values_of sign text) ≡ true → holds sign value text ≡ true
@@ -109,7 +109,7 @@ held Equal text value h = one_of_one (bytes_eq value text) h where
   one_of_one true h = refl
   one_of_one false h = h
 held NotEqual text value h = cc
-held Like pattern value h = held_like pattern value (is_plain pattern) refl h
+held Like pattern value h = held_like pattern value (is_plain_pattern pattern) refl h
 held NotLike text value h = cc
 
 within_from : (n first : ℕ) (ls : List Pairs) → first + length ls ≤ n → All (λ id. id < n) (all_from first ls)

@@ -6,7 +6,7 @@ use Rattle.pf_block.specs.SeriesIds.{has_pair, ids_with}
 use Rattle.pf_model.specs.declared.expr.Matcher.{Matcher}
 use Rattle.pf_model.specs.declared.expr.MatchSign.{MatchSign}
 use Rattle.pf_model.specs.declared.expr.MatchSign.TheVariants.{Equal, Like}
-use Rattle.pf_model.specs.Patterns.{alternatives, is_plain}
+use Rattle.pf_model.specs.Patterns.{alternatives, is_plain_pattern}
 use Rattle.pf_model.specs.Selection.{accepts}
 
 -- none, where one of them is empty: a series without the label has that value
@@ -16,7 +16,7 @@ unless_empty values = cond (list_any is_empty values) [] values
 -- the values that a sign with a text asks for, none where they aren't told
 abbrev pub values_of : MatchSign → List ℕ → List (List ℕ)
 values_of Equal text = text ∷ []
-values_of Like pattern = cond (is_plain pattern) (alternatives pattern) []
+values_of Like pattern = cond (is_plain_pattern pattern) (alternatives pattern) []
 values_of sign text = []
 
 -- the values of which each series that a matcher accepts has one, none where it also accepts others

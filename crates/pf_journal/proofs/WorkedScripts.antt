@@ -4,7 +4,7 @@ use Rattle.std.specs.Str.{is_utf8}
 use Rattle.std.proofs.lemmas.Str.{is_utf8-from_IsUtf8}
 use Rattle.json.proofs.Printed.Utf8.{IsUtf8-are_ascii, are_ascii}
 use Rattle.pf_journal.specs.Scripts as script
-use Rattle.pf_journal.specs.Scripts.{Issued, Line, Numbered, answer_of, ask_of, behind_word, cancel_of, delete_of, done_of, file_at, ingest_at, ingest_of, instant_of, is_passed, issued_after, keep_of, line_of, line_with, lines_from, most_bytes, next_word, number_of, plan_of, read_line, script_of, take_of, text_of, unanswered_of, with_line, worker_of}
+use Rattle.pf_journal.specs.Scripts.{Issued, Line, Numbered, answer_of, ask_of, behind_word, cancel_of, delete_of, done_of, file_at, ingest_at, ingest_of, instant_of, is_passed, issued_after, keep_of, line_of, line_with, lines_from, most_bytes, next_word, number_of, plan_of, read_line, script_of, take_of, trimmed_text, unanswered_of, with_line, worker_of}
 
 abbrev line : ℕ → Line → Numbered
 line n l = record { number = n; line = l }
@@ -78,12 +78,12 @@ whole_lines =
     ∷ line 15 (script.answer (codes "r") 7) ∷ []
 
 whole_script_is_read : script_of true whole_text ≡ Ok whole_lines
-unfolding script_of delete_of ask_of instant_of cancel_of unanswered_of answer_of plan_of keep_of worker_of take_of done_of number_of text_of
+unfolding script_of delete_of ask_of instant_of cancel_of unanswered_of answer_of plan_of keep_of worker_of take_of done_of number_of trimmed_text
 whole_script_is_read = passed _ _ _ _ _ _ comment (read _ _ _ _ _ _ _ refl refl up_from_zero (read _ _ _ _ _ _ _ refl refl up_at_time (passed _ _ _ _ _ _ refl (read _ _ _ _ _ _ _ refl refl refl (read _ _ _ _ _ _ _ refl refl refl (read _ _ _ _ _ _ _ refl refl refl (read _ _ _ _ _ _ _ refl refl refl (read _ _ _ _ _ _ _ refl refl refl (read _ _ _ _ _ _ _ refl refl refl (read _ _ _ _ _ _ _ refl refl refl (read _ _ _ _ _ _ _ refl refl refl (read _ _ _ _ _ _ _ refl refl refl (read _ _ _ _ _ _ _ refl refl refl (read _ _ _ _ _ _ _ refl refl refl (ended _ _ _)))))))))))))))
 
 -- step lines where they are not allowed
 steps_are_refused : script_of false whole_text ≡ Err 8
-unfolding script_of delete_of ask_of instant_of cancel_of unanswered_of answer_of plan_of keep_of worker_of take_of done_of number_of text_of
+unfolding script_of delete_of ask_of instant_of cancel_of unanswered_of answer_of plan_of keep_of worker_of take_of done_of number_of trimmed_text
 steps_are_refused = passed _ _ _ _ _ _ comment (read _ _ _ _ _ _ _ refl refl up_from_zero (read _ _ _ _ _ _ _ refl refl up_at_time (passed _ _ _ _ _ _ refl (read _ _ _ _ _ _ _ refl refl refl (read _ _ _ _ _ _ _ refl refl refl (read _ _ _ _ _ _ _ refl refl refl (refused _ _ _ _ _ refl refl refl)))))))
 
 empty_script_is_read : script_of false [] ≡ Ok []
@@ -99,70 +99,70 @@ long_script_is_refused steps bytes h = rw h refl
 
 -- an ID that was not asked
 unknown_id : script_of true (codes "ask q acme 1 2 3 up\nanswer r") ≡ Err 2
-unfolding script_of delete_of ask_of instant_of cancel_of unanswered_of answer_of plan_of keep_of worker_of take_of done_of number_of text_of
+unfolding script_of delete_of ask_of instant_of cancel_of unanswered_of answer_of plan_of keep_of worker_of take_of done_of number_of trimmed_text
 unknown_id = read _ _ _ _ _ _ _ refl refl refl (refused _ _ _ _ _ refl refl refl)
 
 -- and of a cancel
 unknown_of_cancel : script_of true (codes "cancel q acme") ≡ Err 1
-unfolding script_of delete_of ask_of instant_of cancel_of unanswered_of answer_of plan_of keep_of worker_of take_of done_of number_of text_of
+unfolding script_of delete_of ask_of instant_of cancel_of unanswered_of answer_of plan_of keep_of worker_of take_of done_of number_of trimmed_text
 unknown_of_cancel = refused _ _ _ _ _ refl refl refl
 
 -- an ID that was asked before
 used_id : script_of true (codes "ask q acme 1 2 3 up\ninstant q acme 1 up") ≡ Err 2
-unfolding script_of delete_of ask_of instant_of cancel_of unanswered_of answer_of plan_of keep_of worker_of take_of done_of number_of text_of
+unfolding script_of delete_of ask_of instant_of cancel_of unanswered_of answer_of plan_of keep_of worker_of take_of done_of number_of trimmed_text
 used_id = read _ _ _ _ _ _ _ refl refl refl (refused _ _ _ _ _ refl refl refl)
 
 -- an ID that was answered before
 answered_before : script_of true (codes "ask q acme 1 2 3 up\nanswer q\n\nanswer q") ≡ Err 4
-unfolding script_of delete_of ask_of instant_of cancel_of unanswered_of answer_of plan_of keep_of worker_of take_of done_of number_of text_of
+unfolding script_of delete_of ask_of instant_of cancel_of unanswered_of answer_of plan_of keep_of worker_of take_of done_of number_of trimmed_text
 answered_before = read _ _ _ _ _ _ _ refl refl refl (read _ _ _ _ _ _ _ refl refl refl (passed _ _ _ _ _ _ refl (refused _ _ _ _ _ refl refl refl)))
 
 -- a plan behind the answer
 planned_after : script_of true (codes "ask q acme 1 2 3 up\nanswer q\nplan q") ≡ Err 3
-unfolding script_of delete_of ask_of instant_of cancel_of unanswered_of answer_of plan_of keep_of worker_of take_of done_of number_of text_of
+unfolding script_of delete_of ask_of instant_of cancel_of unanswered_of answer_of plan_of keep_of worker_of take_of done_of number_of trimmed_text
 planned_after = read _ _ _ _ _ _ _ refl refl refl (read _ _ _ _ _ _ _ refl refl refl (refused _ _ _ _ _ refl refl refl))
 
 -- and a keep
 kept_after : script_of true (codes "ask q acme 1 2 3 up\nanswer q\nkeep q") ≡ Err 3
-unfolding script_of delete_of ask_of instant_of cancel_of unanswered_of answer_of plan_of keep_of worker_of take_of done_of number_of text_of
+unfolding script_of delete_of ask_of instant_of cancel_of unanswered_of answer_of plan_of keep_of worker_of take_of done_of number_of trimmed_text
 kept_after = read _ _ _ _ _ _ _ refl refl refl (read _ _ _ _ _ _ _ refl refl refl (refused _ _ _ _ _ refl refl refl))
 
 -- a second keep
 kept_twice : script_of true (codes "ask q acme 1 2 3 up\nkeep q\nkeep q") ≡ Err 3
-unfolding script_of delete_of ask_of instant_of cancel_of unanswered_of answer_of plan_of keep_of worker_of take_of done_of number_of text_of
+unfolding script_of delete_of ask_of instant_of cancel_of unanswered_of answer_of plan_of keep_of worker_of take_of done_of number_of trimmed_text
 kept_twice = read _ _ _ _ _ _ _ refl refl refl (read _ _ _ _ _ _ _ refl refl refl (refused _ _ _ _ _ refl refl refl))
 
 -- a worker past 15
 no_such_worker : script_of true (codes "take 15\ntake 16") ≡ Err 2
-unfolding script_of delete_of ask_of instant_of cancel_of unanswered_of answer_of plan_of keep_of worker_of take_of done_of number_of text_of
+unfolding script_of delete_of ask_of instant_of cancel_of unanswered_of answer_of plan_of keep_of worker_of take_of done_of number_of trimmed_text
 no_such_worker = read _ _ _ _ _ _ _ refl refl refl (refused _ _ _ _ _ refl refl refl)
 
 -- a blank before the first word
 blank_first : script_of true (codes " take 1") ≡ Err 1
-unfolding script_of delete_of ask_of instant_of cancel_of unanswered_of answer_of plan_of keep_of worker_of take_of done_of number_of text_of
+unfolding script_of delete_of ask_of instant_of cancel_of unanswered_of answer_of plan_of keep_of worker_of take_of done_of number_of trimmed_text
 blank_first = refused _ _ _ _ _ refl refl refl
 
 -- a blank behind the last word
 blank_last : script_of true (codes "take 1 ") ≡ Err 1
-unfolding script_of delete_of ask_of instant_of cancel_of unanswered_of answer_of plan_of keep_of worker_of take_of done_of number_of text_of
+unfolding script_of delete_of ask_of instant_of cancel_of unanswered_of answer_of plan_of keep_of worker_of take_of done_of number_of trimmed_text
 blank_last = refused _ _ _ _ _ refl refl refl
 
 -- no query
 no_query : script_of true (codes "instant q acme 1  ") ≡ Err 1
-unfolding script_of delete_of ask_of instant_of cancel_of unanswered_of answer_of plan_of keep_of worker_of take_of done_of number_of text_of
+unfolding script_of delete_of ask_of instant_of cancel_of unanswered_of answer_of plan_of keep_of worker_of take_of done_of number_of trimmed_text
 no_query = refused _ _ _ _ _ refl refl refl
 
 -- another word
 no_verb : script_of true (codes "limit acme 3") ≡ Err 1
-unfolding script_of delete_of ask_of instant_of cancel_of unanswered_of answer_of plan_of keep_of worker_of take_of done_of number_of text_of
+unfolding script_of delete_of ask_of instant_of cancel_of unanswered_of answer_of plan_of keep_of worker_of take_of done_of number_of trimmed_text
 no_verb = refused _ _ _ _ _ refl refl refl
 
 -- no name of a tenant
 no_tenant : script_of true (codes "ask q acme 1 2 3 up\ncancel q ..") ≡ Err 2
-unfolding script_of delete_of ask_of instant_of cancel_of unanswered_of answer_of plan_of keep_of worker_of take_of done_of number_of text_of
+unfolding script_of delete_of ask_of instant_of cancel_of unanswered_of answer_of plan_of keep_of worker_of take_of done_of number_of trimmed_text
 no_tenant = read _ _ _ _ _ _ _ refl refl refl (refused _ _ _ _ _ refl refl refl)
 
 -- a time past the greatest
 too_late : script_of true (codes "ingest acme up.prom at 4398046511104") ≡ Err 1
-unfolding script_of delete_of ask_of instant_of cancel_of unanswered_of answer_of plan_of keep_of worker_of take_of done_of number_of text_of
+unfolding script_of delete_of ask_of instant_of cancel_of unanswered_of answer_of plan_of keep_of worker_of take_of done_of number_of trimmed_text
 too_late = refused _ _ _ _ _ refl refl late_time

@@ -15,7 +15,7 @@ use Rattle.pf_model.specs.Typing.{kind_of}
 -- an asked query: its tree with the grid's ends put in and its grid, its kind, whether it is an instant query, and its
 -- canonical text
 pub record Asked : Type 0 where
-  pub query : direct.Asked
+  pub query : direct.GridQuery
   pub kind : Kind
   pub instant : Bool
   pub text : List ℕ

@@ -10,7 +10,7 @@ use Rattle.pf_model.specs.Log.{Verdict, taken, too_old, repeated, differs}
 use Rattle.pf_journal.specs.Asking.{Asked, ranged, at_once}
 use Rattle.pf_journal.specs.Bodies.{body_text, cancelled_body, failed_body, full_body, memory_body, refused_body, tenants_body}
 use Rattle.pf_journal.specs.Entered.{what_of}
-use Rattle.pf_journal.specs.Files.{Refusal, at_line, too_long}
+use Rattle.pf_journal.specs.Files.{FileRefusal, at_line, too_long}
 use Rattle.pf_journal.specs.Legal.{Moment}
 use Rattle.pf_journal.specs.Machine.{What, append, delete, ask, full, answer, Open, answer_of, open_at}
 use Rattle.pf_journal.specs.Rest.{Known, Told, refused_file, no_memory, journal_full, waiting, of_plan, of_take, of_done, of_keep, failed_five}
@@ -71,7 +71,7 @@ refusals_from i [] = []
 refusals_from i (v ∷ vs) = refusal_text i v ++ refusals_from (i + 1) vs
 
 -- why a file is refused
-abbrev pub refusal_words : Refusal → List (List ℕ)
+abbrev pub refusal_words : FileRefusal → List (List ℕ)
 refusal_words (at_line bad_line n) = codes "bad" ∷ codes "line" ∷ decimal n ∷ []
 refusal_words (at_line late_line n) = codes "time" ∷ codes "too" ∷ codes "large" ∷ codes "line" ∷ decimal n ∷ []
 refusal_words (at_line too_many n) = codes "too" ∷ codes "many" ∷ codes "samples" ∷ []

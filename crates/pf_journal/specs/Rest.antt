@@ -2,7 +2,7 @@
 use Rattle.std.specs.Prelude.{ℕ, List, length}
 use Rattle.pf_base.specs.declared.plain.Limits.{Limits}
 use Rattle.pf_model.specs.Queries.{Readings}
-use Rattle.pf_journal.specs.Files.{Refusal}
+use Rattle.pf_journal.specs.Files.{FileRefusal}
 use Rattle.pf_journal.specs.Steps.{PlanReply, TakeReply, DoneReply, KeepReply}
 
 -- what lines and journals are judged by: the limits of the run, the names of the known tenants by number, what files hold by
@@ -16,7 +16,7 @@ pub record Known : Type 0 where
 -- what was told of a line beside its entry
 pub data Told : Type 0 where
   nothing : Told
-  refused_file : Refusal → Told
+  refused_file : FileRefusal → Told
   no_memory : Told
   journal_full : Told
   -- an answer waits for so many jobs in workers' hands

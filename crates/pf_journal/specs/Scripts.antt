@@ -72,8 +72,8 @@ without_blanks [] = []
 without_blanks (b ∷ bs) = cond (are_blanks (b ∷ bs)) [] (b ∷ without_blanks bs)
 
 -- what stands there without the blanks at its end, and not empty
-unfoldable pub text_of : List ℕ → Option (List ℕ)
-text_of bytes = only_if (not (is_empty (without_blanks bytes))) (without_blanks bytes)
+unfoldable pub trimmed_text : List ℕ → Option (List ℕ)
+trimmed_text bytes = only_if (not (is_empty (without_blanks bytes))) (without_blanks bytes)
 
 -- ---- numbers and names
 
@@ -166,7 +166,7 @@ delete_of words = do
   to ← next_word from.behind
   first ← number_of from.front
   last ← number_of to.front
-  selector ← text_of to.behind
+  selector ← trimmed_text to.behind
   only_if (is_tenant tenant.front) (delete tenant.front first last selector)
 
 -- `ask ID TENANT START END STEP QUERY`, with an ID that is new
@@ -180,7 +180,7 @@ ask_of is words = do
   start ← number_of first.front
   end ← number_of last.front
   step ← number_of by.front
-  query ← text_of by.behind
+  query ← trimmed_text by.behind
   only_if (is_id id.front && is_new id.front is && is_tenant tenant.front)
       (ask id.front tenant.front start end step query)
 
@@ -191,7 +191,7 @@ instant_of is words = do
   tenant ← next_word id.behind
   at ← next_word tenant.behind
   time ← number_of at.front
-  query ← text_of at.behind
+  query ← trimmed_text at.behind
   only_if (is_id id.front && is_new id.front is && is_tenant tenant.front) (instant id.front tenant.front time query)
 
 -- `cancel ID TENANT`, with an ID that was asked

@@ -193,7 +193,7 @@ each_label : (labels : List (List ℕ)) → AreWords labels → ArePart labels (
 each_label [] h = tt
 each_label (l ∷ ls) h = let parts = and_parts (is_label l) (list_all is_label ls) h in (a_word l (and_parts (is_plain_word l) _ parts.0).0, each_label ls parts.1)
 
-the_labels : (labels : List (List ℕ)) → AreWords labels → Gap (text.labels_text labels) (labels_sorts labels)
+the_labels : (labels : List (List ℕ)) → AreWords labels → Gap (text.names_text labels) (labels_sorts labels)
 the_labels labels h = bracketed (all_separated (codes ", ") labels (map label_sort labels) comma_blank (each_label labels h))
 
 a_bool : (b : Bool) → Optional (text.bool_text b) (bool_sorts b)
@@ -203,7 +203,7 @@ a_bool true = gap_part a_blank (a_word (codes "bool") refl)
 the_keys : (m : Matched) → AreWords m.labels → Optional (text.keys_text m) (keys_sorts m)
 the_keys m h = by (is_nil m.labels && not m.on && is_one m.side) m.on
   where
-    by : (none on : Bool) → Optional (cond none [] (cond on (codes " on ") (codes " ignoring ") ++ text.labels_text m.labels)) (cond none [] (word (cond on (codes "on") (codes "ignoring")) ∷ labels_sorts m.labels))
+    by : (none on : Bool) → Optional (cond none [] (cond on (codes " on ") (codes " ignoring ") ++ text.names_text m.labels)) (cond none [] (word (cond on (codes "on") (codes "ignoring")) ∷ labels_sorts m.labels))
     by true on = nothing
     by false true = gap_is_option (gap_closed (spaced (codes "on") refl) (gap_is_closed (the_labels m.labels h)))
     by false false = gap_is_option (gap_closed (spaced (codes "ignoring") refl) (gap_is_closed (the_labels m.labels h)))
@@ -216,7 +216,7 @@ the_group side.Right include h = gap_is_option (gap_closed (spaced (codes "group
 the_grouping : (g : Grouped) → AreWords g.labels → Gap (text.grouping_text g) (grouping_sorts g)
 the_grouping g h = by g.without
   where
-    by : (without : Bool) → Gap (cond without (codes " without ") (codes " by ") ++ text.labels_text g.labels) (word (cond without (codes "without") (codes "by")) ∷ labels_sorts g.labels)
+    by : (without : Bool) → Gap (cond without (codes " without ") (codes " by ") ++ text.names_text g.labels) (word (cond without (codes "without") (codes "by")) ∷ labels_sorts g.labels)
     by true = gap_closed (spaced (codes "without") refl) (gap_is_closed (the_labels g.labels h))
     by false = gap_closed (spaced (codes "by") refl) (gap_is_closed (the_labels g.labels h))
 

@@ -23,7 +23,7 @@ use Rattle.pf_model.specs.declared.functions.Sign.TheVariants as operator
 use Rattle.pf_model.specs.Canonical.{is_one}
 use Rattle.pf_model.specs.Clauses.{Grouped, Matched}
 use Rattle.pf_model.specs.Grammar as written
-use Rattle.pf_model.specs.Grammar.{Arguments, FitAll, Fits, Terminal, Written, bool_text, commas_before, has_colon, is_nil, keys_text, labels_text, listed, matcher_text, modifiers_text, moment_text, offset_text, operator_terminal, range_text, text_of, texts_of, more_texts, these, without_text}
+use Rattle.pf_model.specs.Grammar.{Arguments, FitAll, Fits, Terminal, Written, bool_terminals, commas_before, has_colon, is_nil, keys_terminals, labels_terminals, listed, matcher_terminals, modifiers_terminals, at_modifier_terminals, offset_terminals, operator_terminal, range_terminals, terminals_of, all_terminals, more_terminals, these, without_terminals}
 use Rattle.pf_model.specs.Tokens.{Sort, duration, sign, word}
 use Rattle.pf_model.specs.Trees as tree
 use Rattle.pf_model.specs.Trees.{Tree, Trees}
@@ -70,10 +70,10 @@ each_label : (labels : List (List ℕ)) → AreWords labels → AllFit (map (λ 
 each_label [] h = tt
 each_label (l ∷ ls) h = let parts = and_parts (is_label l) (list_all is_label ls) h in (((refl, no_colon l parts.0), tt), each_label ls parts.1)
 
-fit_labels : (labels : List (List ℕ)) → AreWords labels → FitAll (labels_text (labels_written labels)) (labels_sorts labels)
+fit_labels : (labels : List (List ℕ)) → AreWords labels → FitAll (labels_terminals (labels_written labels)) (labels_sorts labels)
 fit_labels labels h = fit_brackets (listed (map (λ n. written.label n ∷ []) labels)) (separated (map label_sort labels)) (fit_listed _ _ (each_label labels h))
 
-each_matcher : (ms : List Matcher) → HaveWords ms → AllFit (map matcher_text ms) (map matcher_sorts ms)
+each_matcher : (ms : List Matcher) → HaveWords ms → AllFit (map matcher_terminals ms) (map matcher_sorts ms)
 each_matcher [] h = tt
 each_matcher (m ∷ ms) h =
     let parts = and_parts (is_label m.label) (list_all (λ (m : Matcher). is_label m.label) ms) h in
@@ -81,21 +81,21 @@ each_matcher (m ∷ ms) h =
 
 -- ---- modifiers
 
-fit_at : (at : Option At) → FitAll (these moment_text (option_map moment_written at)) (at_sorts at)
+fit_at : (at : Option At) → FitAll (these at_modifier_terminals (option_map moment_written at)) (at_sorts at)
 fit_at None = tt
 fit_at (Some (Time millis)) = (refl, (refl, tt))
 fit_at (Some Start) = (refl, (refl, (refl, (refl, tt))))
 fit_at (Some End) = (refl, (refl, (refl, (refl, tt))))
 
-fit_offset : (z : ℤ) → FitAll (these offset_text (offset_written z)) (offset_sorts z)
+fit_offset : (z : ℤ) → FitAll (these offset_terminals (offset_written z)) (offset_sorts z)
 fit_offset (pos zero) = tt
 fit_offset (pos (suc n)) = (refl, (refl, tt))
 fit_offset (negsuc n) = (refl, (refl, (refl, tt)))
 
-fit_mods : (mods : Mods) → FitAll (modifiers_text (mods_written mods)) (mods_sorts mods)
+fit_mods : (mods : Mods) → FitAll (modifiers_terminals (mods_written mods)) (mods_sorts mods)
 fit_mods mods = fit_both _ _ _ _ (fit_at mods.at) (fit_offset mods.offset)
 
-fit_range : (range : Option ℕ) → FitAll (these range_text range) (range_sorts range)
+fit_range : (range : Option ℕ) → FitAll (these range_terminals range) (range_sorts range)
 fit_range None = tt
 fit_range (Some n) = (refl, (refl, (refl, tt)))
 
@@ -124,7 +124,7 @@ fit_operator op = by op.sign op.with_bool
     by operator.Or b = refl
     by operator.Unless b = refl
 
-fit_bool : (b : Bool) → FitAll (bool_text b) (bool_sorts b)
+fit_bool : (b : Bool) → FitAll (bool_terminals b) (bool_sorts b)
 fit_bool false = tt
 fit_bool true = (refl, tt)
 
@@ -132,29 +132,29 @@ fit_on : (on : Bool) → Fits (written.key (cond on (codes "on") (codes "ignorin
 fit_on true = refl
 fit_on false = refl
 
-fit_group : (s : Side) (include : List (List ℕ)) → AreWords include → FitAll (these written.group_text (group_written s include)) (group_sorts s include)
+fit_group : (s : Side) (include : List (List ℕ)) → AreWords include → FitAll (these written.group_terminals (group_written s include)) (group_sorts s include)
 fit_group side.One include h = tt
 fit_group side.Left include h = (refl, fit_labels include h)
 fit_group side.Right include h = (refl, fit_labels include h)
 
 -- the keys and the group
-fit_keys : (m : Matched) → AreWords m.labels → AreWords m.include → FitAll (these keys_text (keys_written m)) (keys_sorts m ++ group_sorts m.side m.include)
+fit_keys : (m : Matched) → AreWords m.labels → AreWords m.include → FitAll (these keys_terminals (keys_written m)) (keys_sorts m ++ group_sorts m.side m.include)
 fit_keys m h k = by (is_nil m.labels && not m.on) m.side
   where
-    full : (s : Side) → FitAll (keys_text (record { on = m.on; labels = labels_written m.labels; group = group_written s m.include })) ((word (cond m.on (codes "on") (codes "ignoring")) ∷ labels_sorts m.labels) ++ group_sorts s m.include)
-    full s = (fit_on m.on, fit_both (labels_text (labels_written m.labels)) (these written.group_text (group_written s m.include)) (labels_sorts m.labels) (group_sorts s m.include) (fit_labels m.labels h) (fit_group s m.include k))
+    full : (s : Side) → FitAll (keys_terminals (record { on = m.on; labels = labels_written m.labels; group = group_written s m.include })) ((word (cond m.on (codes "on") (codes "ignoring")) ∷ labels_sorts m.labels) ++ group_sorts s m.include)
+    full s = (fit_on m.on, fit_both (labels_terminals (labels_written m.labels)) (these written.group_terminals (group_written s m.include)) (labels_sorts m.labels) (group_sorts s m.include) (fit_labels m.labels h) (fit_group s m.include k))
 
-    by : (bare_keys : Bool) (s : Side) → FitAll (these keys_text (cond (bare_keys && is_one s) None (Some (record { on = m.on; labels = labels_written m.labels; group = group_written s m.include }))))
+    by : (bare_keys : Bool) (s : Side) → FitAll (these keys_terminals (cond (bare_keys && is_one s) None (Some (record { on = m.on; labels = labels_written m.labels; group = group_written s m.include }))))
         (cond (bare_keys && is_one s) [] (word (cond m.on (codes "on") (codes "ignoring")) ∷ labels_sorts m.labels) ++ group_sorts s m.include)
     by true side.One = tt
     by true side.Left = full side.Left
     by true side.Right = full side.Right
     by false s = full s
 
-fit_grouping : (g : Grouped) → AreWords g.labels → FitAll (without_text g.without (labels_written g.labels)) (grouping_sorts g)
+fit_grouping : (g : Grouped) → AreWords g.labels → FitAll (without_terminals g.without (labels_written g.labels)) (grouping_sorts g)
 fit_grouping g h = by g.without
   where
-    by : (without : Bool) → FitAll (without_text without (labels_written g.labels)) (word (cond without (codes "without") (codes "by")) ∷ labels_sorts g.labels)
+    by : (without : Bool) → FitAll (without_terminals without (labels_written g.labels)) (word (cond without (codes "without") (codes "by")) ∷ labels_sorts g.labels)
     by true = (refl, fit_labels g.labels h)
     by false = (refl, fit_labels g.labels h)
 
@@ -216,43 +216,43 @@ fit_sign false = refl
 -- ---- trees
 
 mutual
-  fit_tree : (t : Tree) → IsPrintable t → FitAll (text_of (written_of t)) (sorts_of t)
+  fit_tree : (t : Tree) → IsPrintable t → FitAll (terminals_of (written_of t)) (sorts_of t)
   fit_tree (tree.number micros) h = (refl, tt)
   fit_tree (tree.text bytes) h = (refl, tt)
-  fit_tree (tree.unary minus e) h = (fit_sign minus, fit_brackets (text_of (written_of e)) (sorts_of e) (fit_tree e h))
+  fit_tree (tree.unary minus e) h = (fit_sign minus, fit_brackets (terminals_of (written_of e)) (sorts_of e) (fit_tree e h))
   fit_tree (tree.binary op m a b) h =
-      fit_both (text_of (written.brackets (written_of a))) (operator_terminal op ∷ (bool_text op.with_bool ++ (these keys_text (keys_written m) ++ text_of (written.brackets (written_of b)))))
+      fit_both (terminals_of (written.brackets (written_of a))) (operator_terminal op ∷ (bool_terminals op.with_bool ++ (these keys_terminals (keys_written m) ++ terminals_of (written.brackets (written_of b)))))
       (in_brackets (sorts_of a)) (operator_sort op.sign ∷ (bool_sorts op.with_bool ++ (keys_sorts m ++ (group_sorts m.side m.include ++ in_brackets (sorts_of b)))))
-      (fit_brackets (text_of (written_of a)) (sorts_of a) (fit_tree a h.2)) (
+      (fit_brackets (terminals_of (written_of a)) (sorts_of a) (fit_tree a h.2)) (
         fit_operator op,
-        fit_both (bool_text op.with_bool) (these keys_text (keys_written m) ++ text_of (written.brackets (written_of b))) (bool_sorts op.with_bool) (keys_sorts m ++ (group_sorts m.side m.include ++ in_brackets (sorts_of b))) (fit_bool op.with_bool)
-            (subst (FitAll (these keys_text (keys_written m) ++ text_of (written.brackets (written_of b)))) (append_assoc (keys_sorts m) (group_sorts m.side m.include) (in_brackets (sorts_of b)))
-            (fit_both (these keys_text (keys_written m)) (text_of (written.brackets (written_of b))) (keys_sorts m ++ group_sorts m.side m.include) (in_brackets (sorts_of b)) (fit_keys m h.0 h.1)
-            (fit_brackets (text_of (written_of b)) (sorts_of b) (fit_tree b h.3)))),
+        fit_both (bool_terminals op.with_bool) (these keys_terminals (keys_written m) ++ terminals_of (written.brackets (written_of b))) (bool_sorts op.with_bool) (keys_sorts m ++ (group_sorts m.side m.include ++ in_brackets (sorts_of b))) (fit_bool op.with_bool)
+            (subst (FitAll (these keys_terminals (keys_written m) ++ terminals_of (written.brackets (written_of b)))) (append_assoc (keys_sorts m) (group_sorts m.side m.include) (in_brackets (sorts_of b)))
+            (fit_both (these keys_terminals (keys_written m)) (terminals_of (written.brackets (written_of b))) (keys_sorts m ++ group_sorts m.side m.include) (in_brackets (sorts_of b)) (fit_keys m h.0 h.1)
+            (fit_brackets (terminals_of (written_of b)) (sorts_of b) (fit_tree b h.3)))),
       )
-  fit_tree (tree.call f args) h = ((refl, function_free f), fit_brackets (texts_of (all_written args)) (separated (all_sorts args)) (fit_all args h))
+  fit_tree (tree.call f args) h = ((refl, function_free f), fit_brackets (all_terminals (all_written args)) (separated (all_sorts args)) (fit_all args h))
   fit_tree (tree.aggregate op g args) h = (
     small_letters op,
-    fit_both (without_text g.without (labels_written g.labels)) (written.sign (codes "(") ∷ (texts_of (all_written args) ++ (written.sign (codes ")") ∷ []))) (grouping_sorts g) (in_brackets (separated (all_sorts args)))
-        (fit_grouping g h.0) (fit_brackets (texts_of (all_written args)) (separated (all_sorts args)) (fit_all args h.1)),
+    fit_both (without_terminals g.without (labels_written g.labels)) (written.sign (codes "(") ∷ (all_terminals (all_written args) ++ (written.sign (codes ")") ∷ []))) (grouping_sorts g) (in_brackets (separated (all_sorts args)))
+        (fit_grouping g h.0) (fit_brackets (all_terminals (all_written args)) (separated (all_sorts args)) (fit_all args h.1)),
   )
   fit_tree (tree.select ms range mods) h =
-      fit_both (written.braces_text (record { matchers = ms; comma = false })) (these range_text range ++ modifiers_text (mods_written mods)) (selector_sorts ms) (range_sorts range ++ mods_sorts mods)
-      (refl, fit_both (listed (map matcher_text ms)) (written.sign (codes "}") ∷ []) (separated (map matcher_sorts ms)) (sign (codes "}") ∷ []) (fit_listed (map matcher_text ms) (map matcher_sorts ms) (each_matcher ms h.0)) (refl, tt))
-      (fit_both (these range_text range) (modifiers_text (mods_written mods)) (range_sorts range) (mods_sorts mods) (fit_range range) (fit_mods mods))
+      fit_both (written.braces_terminals (record { matchers = ms; comma = false })) (these range_terminals range ++ modifiers_terminals (mods_written mods)) (selector_sorts ms) (range_sorts range ++ mods_sorts mods)
+      (refl, fit_both (listed (map matcher_terminals ms)) (written.sign (codes "}") ∷ []) (separated (map matcher_sorts ms)) (sign (codes "}") ∷ []) (fit_listed (map matcher_terminals ms) (map matcher_sorts ms) (each_matcher ms h.0)) (refl, tt))
+      (fit_both (these range_terminals range) (modifiers_terminals (mods_written mods)) (range_sorts range) (mods_sorts mods) (fit_range range) (fit_mods mods))
   fit_tree (tree.subquery e range resolution mods) h =
-      fit_both (text_of (written.brackets (written_of e))) (written.sign (codes "[") ∷ written.duration range ∷ written.sign (codes ":") ∷ (these (λ r. written.duration r ∷ []) resolution ++ (written.sign (codes "]") ∷ modifiers_text (mods_written mods))))
+      fit_both (terminals_of (written.brackets (written_of e))) (written.sign (codes "[") ∷ written.duration range ∷ written.sign (codes ":") ∷ (these (λ r. written.duration r ∷ []) resolution ++ (written.sign (codes "]") ∷ modifiers_terminals (mods_written mods))))
       (in_brackets (sorts_of e)) (sign (codes "[") ∷ duration range ∷ sign (codes ":") ∷ (resolution_sorts resolution ++ (sign (codes "]") ∷ mods_sorts mods)))
-      (fit_brackets (text_of (written_of e)) (sorts_of e) (fit_tree e h.0))
-      (refl, (refl, (refl, fit_both (these (λ r. written.duration r ∷ []) resolution) (written.sign (codes "]") ∷ modifiers_text (mods_written mods)) (resolution_sorts resolution) (sign (codes "]") ∷ mods_sorts mods) (fit_resolution resolution) (refl, fit_mods mods))))
+      (fit_brackets (terminals_of (written_of e)) (sorts_of e) (fit_tree e h.0))
+      (refl, (refl, (refl, fit_both (these (λ r. written.duration r ∷ []) resolution) (written.sign (codes "]") ∷ modifiers_terminals (mods_written mods)) (resolution_sorts resolution) (sign (codes "]") ∷ mods_sorts mods) (fit_resolution resolution) (refl, fit_mods mods))))
 
-  fit_all : (ts : Trees) → ArePrintable ts → FitAll (texts_of (all_written ts)) (separated (all_sorts ts))
+  fit_all : (ts : Trees) → ArePrintable ts → FitAll (all_terminals (all_written ts)) (separated (all_sorts ts))
   fit_all tree.none h = tt
-  fit_all (tree.more e es) h = fit_both (text_of (written_of e)) (more_texts (all_written es)) (sorts_of e) (behind_commas (all_sorts es)) (fit_tree e h.0) (fit_more es h.1)
+  fit_all (tree.more e es) h = fit_both (terminals_of (written_of e)) (more_terminals (all_written es)) (sorts_of e) (behind_commas (all_sorts es)) (fit_tree e h.0) (fit_more es h.1)
 
-  fit_more : (ts : Trees) → ArePrintable ts → FitAll (more_texts (all_written ts)) (behind_commas (all_sorts ts))
+  fit_more : (ts : Trees) → ArePrintable ts → FitAll (more_terminals (all_written ts)) (behind_commas (all_sorts ts))
   fit_more tree.none h = tt
-  fit_more (tree.more e es) h = (refl, fit_both (text_of (written_of e)) (more_texts (all_written es)) (sorts_of e) (behind_commas (all_sorts es)) (fit_tree e h.0) (fit_more es h.1))
+  fit_more (tree.more e es) h = (refl, fit_both (terminals_of (written_of e)) (more_terminals (all_written es)) (sorts_of e) (behind_commas (all_sorts es)) (fit_tree e h.0) (fit_more es h.1))
 
 pub canonical_fits : AreFit
 canonical_fits = fit_tree

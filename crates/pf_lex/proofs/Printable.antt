@@ -9,7 +9,7 @@ use Rattle.pf_base.specs.NumberTexts as front
 use Rattle.pf_base.proofs.Readings.{bool_cases}
 use Rattle.pf_model.specs.declared.expr.Matcher.{Matcher}
 use Rattle.pf_model.specs.Grammar as g
-use Rattle.pf_model.specs.Grammar.{Arguments, Braces, Clause, FitAll, Fits, Group, Keys, Labels, Modifiers, Moment, Offset, Selected, Terminal, Written, both, braces_matchers, braces_text, commas_before, comma_if, front_text, group_text, grouped_of, has_colon, include_of, keys_text, labels_of, labels_text, listed, matched_of, matcher_text, meaning, meanings, metric_matcher, millis_of, minus_if, mods_of, modifiers_text, moment_of, moment_text, more_texts, offset_of, offset_text, operator_terminal, range_text, bool_text, selected_text, text_of, texts_of, these, without_text, before_text, behind_text}
+use Rattle.pf_model.specs.Grammar.{Arguments, Braces, Clause, FitAll, Fits, Group, Keys, Labels, Modifiers, AtModifier, Offset, Selected, Terminal, Written, both, braces_matchers, braces_terminals, commas_before, comma_if, front_terminals, group_terminals, grouped_of, has_colon, include_of, keys_terminals, labels_of, labels_terminals, listed, matched_of, matcher_terminals, meaning, meanings, metric_matcher, millis_of, minus_if, mods_of, modifiers_terminals, at_of, at_modifier_terminals, more_terminals, offset_of, offset_terminals, operator_terminal, range_terminals, bool_terminals, selected_terminals, terminals_of, all_terminals, these, without_terminals, before_terminals, behind_terminals}
 use Rattle.pf_model.specs.Parsing.{is_behind_at, is_too_large, sorts, too_large_at}
 use Rattle.pf_model.specs.Tokens.{Sort, Token, duration, number, sign, string, word}
 use Rattle.pf_model.specs.Trees as tree
@@ -126,33 +126,33 @@ good_list (l ∷ ls) h =
     and_from (is_label l) (list_all is_label ls) (good_label l (first_good (g.label l) (commas_before (map (λ n. g.label n ∷ []) ls)) h))
     (good_words ls (rest_good (g.label l) (commas_before (map (λ n. g.label n ∷ []) ls)) h))
 
-good_labels : (l : Labels) → Good (labels_text l) → AreWords l.labels
+good_labels : (l : Labels) → Good (labels_terminals l) → AreWords l.labels
 good_labels l h =
     good_list l.labels (front_good (listed (map (λ n. g.label n ∷ []) l.labels)) (comma_if l.comma ++ (g.sign (codes ")") ∷ []))
     (rest_good (g.sign (codes "(")) (listed (map (λ n. g.label n ∷ []) l.labels) ++ (comma_if l.comma ++ (g.sign (codes ")") ∷ []))) h))
 
-good_matchers_behind : (ms : List Matcher) → Good (commas_before (map matcher_text ms)) → HaveWords ms
+good_matchers_behind : (ms : List Matcher) → Good (commas_before (map matcher_terminals ms)) → HaveWords ms
 good_matchers_behind [] h = refl
 good_matchers_behind (m ∷ ms) h =
-    let r = rest_good (g.sign (codes ",")) (matcher_text m ++ commas_before (map matcher_text ms)) h in
+    let r = rest_good (g.sign (codes ",")) (matcher_terminals m ++ commas_before (map matcher_terminals ms)) h in
     and_from (is_label m.label) (list_all (λ (m : Matcher). is_label m.label) ms)
-    (good_label m.label (first_good (g.label m.label) _ (front_good (matcher_text m) (commas_before (map matcher_text ms)) r)))
-    (good_matchers_behind ms (behind_good (matcher_text m) (commas_before (map matcher_text ms)) r))
+    (good_label m.label (first_good (g.label m.label) _ (front_good (matcher_terminals m) (commas_before (map matcher_terminals ms)) r)))
+    (good_matchers_behind ms (behind_good (matcher_terminals m) (commas_before (map matcher_terminals ms)) r))
 
-good_matchers : (ms : List Matcher) → Good (listed (map matcher_text ms)) → HaveWords ms
+good_matchers : (ms : List Matcher) → Good (listed (map matcher_terminals ms)) → HaveWords ms
 good_matchers [] h = refl
 good_matchers (m ∷ ms) h =
     and_from (is_label m.label) (list_all (λ (m : Matcher). is_label m.label) ms)
-    (good_label m.label (first_good (g.label m.label) _ (front_good (matcher_text m) (commas_before (map matcher_text ms)) h)))
-    (good_matchers_behind ms (behind_good (matcher_text m) (commas_before (map matcher_text ms)) h))
+    (good_label m.label (first_good (g.label m.label) _ (front_good (matcher_terminals m) (commas_before (map matcher_terminals ms)) h)))
+    (good_matchers_behind ms (behind_good (matcher_terminals m) (commas_before (map matcher_terminals ms)) h))
 
-good_braces : (b : Braces) → Good (braces_text b) → HaveWords b.matchers
+good_braces : (b : Braces) → Good (braces_terminals b) → HaveWords b.matchers
 good_braces b h =
-    good_matchers b.matchers (front_good (listed (map matcher_text b.matchers)) (comma_if b.comma ++ (g.sign (codes "}") ∷ []))
-    (rest_good (g.sign (codes "{")) (listed (map matcher_text b.matchers) ++ (comma_if b.comma ++ (g.sign (codes "}") ∷ []))) h))
+    good_matchers b.matchers (front_good (listed (map matcher_terminals b.matchers)) (comma_if b.comma ++ (g.sign (codes "}") ∷ []))
+    (rest_good (g.sign (codes "{")) (listed (map matcher_terminals b.matchers) ++ (comma_if b.comma ++ (g.sign (codes "}") ∷ []))) h))
 
 -- the metric's name is the value of a matcher
-good_selected : (metric : Option (List ℕ)) (braces : Option Braces) → Good (these braces_text braces) → HaveWords (metric_matcher metric ++ braces_matchers braces)
+good_selected : (metric : Option (List ℕ)) (braces : Option Braces) → Good (these braces_terminals braces) → HaveWords (metric_matcher metric ++ braces_matchers braces)
 good_selected None None h = refl
 good_selected None (Some b) h = good_braces b h
 good_selected (Some n) None h = refl
@@ -213,7 +213,7 @@ signed_time s x z f (a ∷ (b ∷ (c ∷ cs))) q h k =
     let second : is_behind_at (is_behind_at f a) b ≡ true = ap (λ t. is_behind_at t b) first ∙ ap (is_behind_at true) (sign_is x b h.1.0) ∙ q in
     amount_at s z (is_behind_at (is_behind_at f a) b) c second (number_is z c h.1.1.0) k.2.2.0 k.2.2.1
 
-good_moment : (m : Moment) → Good (moment_text m) → IsMoment (moment_of m)
+good_moment : (m : AtModifier) → Good (at_modifier_terminals m) → IsMoment (at_of m)
 good_moment (g.time front.bare z) h = bare_time z h.flag h.kinds h.fits h.sound
 good_moment (g.time front.plus z) h = signed_time front.plus (codes "+") z h.flag h.kinds refl h.fits h.sound
 good_moment (g.time front.minus z) h = signed_time front.minus (codes "-") z h.flag h.kinds refl h.fits h.sound
@@ -225,34 +225,34 @@ offset_by true zero h = h
 offset_by true (suc n) h = h
 offset_by false n h = h
 
-good_offset : (o : Offset) → Good (offset_text o) → IsOffset (cond o.minus (neg_ℤ (pos o.millis)) (pos o.millis))
+good_offset : (o : Offset) → Good (offset_terminals o) → IsOffset (cond o.minus (neg_ℤ (pos o.millis)) (pos o.millis))
 good_offset o h =
     let r = rest_good (g.key (codes "offset")) (minus_if o.minus ++ (g.duration o.millis ∷ [])) h in
     offset_by o.minus o.millis (good_duration o.millis (first_good (g.duration o.millis) [] (behind_good (minus_if o.minus) (g.duration o.millis ∷ []) r)))
 
 record GoodMods (m : Modifiers) : Type 0 where
-  at : Good (these moment_text m.at)
-  offset : Good (these offset_text m.offset)
+  at : Good (these at_modifier_terminals m.at)
+  offset : Good (these offset_terminals m.offset)
 
-parted : (m : Modifiers) → Good (modifiers_text m) → GoodMods m
+parted : (m : Modifiers) → Good (modifiers_terminals m) → GoodMods m
 parted m h = by m.at_first h
   where
-    by : (t : Bool) → Good (cond t (these moment_text m.at ++ these offset_text m.offset) (these offset_text m.offset ++ these moment_text m.at)) → GoodMods m
-    by true h = record { at = front_good (these moment_text m.at) (these offset_text m.offset) h; offset = behind_good (these moment_text m.at) (these offset_text m.offset) h }
-    by false h = record { at = behind_good (these offset_text m.offset) (these moment_text m.at) h; offset = front_good (these offset_text m.offset) (these moment_text m.at) h }
+    by : (t : Bool) → Good (cond t (these at_modifier_terminals m.at ++ these offset_terminals m.offset) (these offset_terminals m.offset ++ these at_modifier_terminals m.at)) → GoodMods m
+    by true h = record { at = front_good (these at_modifier_terminals m.at) (these offset_terminals m.offset) h; offset = behind_good (these at_modifier_terminals m.at) (these offset_terminals m.offset) h }
+    by false h = record { at = behind_good (these offset_terminals m.offset) (these at_modifier_terminals m.at) h; offset = front_good (these offset_terminals m.offset) (these at_modifier_terminals m.at) h }
 
-some_moment : (m : Option Moment) → Good (these moment_text m) → IfSome (option_map moment_of m) IsMoment
+some_moment : (m : Option AtModifier) → Good (these at_modifier_terminals m) → IfSome (option_map at_of m) IsMoment
 some_moment None h = tt
 some_moment (Some m) h = good_moment m h
 
-some_offset : (o : Option Offset) → Good (these offset_text o) → IsOffset (offset_of o)
+some_offset : (o : Option Offset) → Good (these offset_terminals o) → IsOffset (offset_of o)
 some_offset None h = omega arith
 some_offset (Some o) h = good_offset o h
 
-good_mods : (m : Modifiers) → Good (modifiers_text m) → AreMods (mods_of m)
+good_mods : (m : Modifiers) → Good (modifiers_terminals m) → AreMods (mods_of m)
 good_mods m h = let p = parted m h in (some_moment m.at p.at, some_offset m.offset p.offset)
 
-good_range : (range : Option ℕ) → Good (these range_text range) → IfSome range IsTime
+good_range : (range : Option ℕ) → Good (these range_terminals range) → IfSome range IsTime
 good_range None h = tt
 good_range (Some n) h = good_duration n (first_good (g.duration n) _ (rest_good (g.sign (codes "[")) (g.duration n ∷ g.sign (codes "]") ∷ []) h))
 
@@ -262,25 +262,25 @@ good_resolution (Some n) h = good_duration n (first_good (g.duration n) [] h)
 
 -- ---- clauses
 
-some_labels : (l : Option Labels) → Good (these labels_text l) → AreWords (labels_of l)
+some_labels : (l : Option Labels) → Good (these labels_terminals l) → AreWords (labels_of l)
 some_labels None h = refl
 some_labels (Some l) h = good_labels l h
 
-some_group : (x : Option Group) → Good (these group_text x) → AreWords (include_of x)
+some_group : (x : Option Group) → Good (these group_terminals x) → AreWords (include_of x)
 some_group None h = refl
-some_group (Some x) h = some_labels x.include (rest_good (g.key (cond x.left (codes "group_left") (codes "group_right"))) (these labels_text x.include) h)
+some_group (Some x) h = some_labels x.include (rest_good (g.key (cond x.left (codes "group_left") (codes "group_right"))) (these labels_terminals x.include) h)
 
-good_keys : (k : Option Keys) → Good (these keys_text k) → AreWords (matched_of k).labels × AreWords (matched_of k).include
+good_keys : (k : Option Keys) → Good (these keys_terminals k) → AreWords (matched_of k).labels × AreWords (matched_of k).include
 good_keys None h = (refl, refl)
 good_keys (Some k) h =
-    let r = rest_good (g.key (cond k.on (codes "on") (codes "ignoring"))) (labels_text k.labels ++ these group_text k.group) h in
-    (good_labels k.labels (front_good (labels_text k.labels) (these group_text k.group) r), some_group k.group (behind_good (labels_text k.labels) (these group_text k.group) r))
+    let r = rest_good (g.key (cond k.on (codes "on") (codes "ignoring"))) (labels_terminals k.labels ++ these group_terminals k.group) h in
+    (good_labels k.labels (front_good (labels_terminals k.labels) (these group_terminals k.group) r), some_group k.group (behind_good (labels_terminals k.labels) (these group_terminals k.group) r))
 
-good_without : (without : Bool) (l : Labels) → Good (without_text without l) → AreWords l.labels
-good_without false l h = good_labels l (rest_good (g.key (codes "by")) (labels_text l) h)
-good_without true l h = good_labels l (rest_good (g.key (codes "without")) (labels_text l) h)
+good_without : (without : Bool) (l : Labels) → Good (without_terminals without l) → AreWords l.labels
+good_without false l h = good_labels l (rest_good (g.key (codes "by")) (labels_terminals l) h)
+good_without true l h = good_labels l (rest_good (g.key (codes "without")) (labels_terminals l) h)
 
-good_clause : (c : Clause) → Good (before_text c) → Good (behind_text c) → AreWords (grouped_of c).labels
+good_clause : (c : Clause) → Good (before_terminals c) → Good (behind_terminals c) → AreWords (grouped_of c).labels
 good_clause g.absent h k = refl
 good_clause (g.before without l) h k = good_without without l h
 good_clause (g.behind without l) h k = good_without without l k
@@ -307,66 +307,66 @@ in_brackets : (ts : List Terminal) → Good (g.sign (codes "(") ∷ (ts ++ (g.si
 in_brackets ts h = front_good ts (g.sign (codes ")") ∷ []) (rest_good (g.sign (codes "(")) (ts ++ (g.sign (codes ")") ∷ [])) h)
 
 mutual
-  good_tree : (w : Written) (t : Tree) → Good (text_of w) → meaning w ≡ Some t → IsPrintable t
+  good_tree : (w : Written) (t : Tree) → Good (terminals_of w) → meaning w ≡ Some t → IsPrintable t
   good_tree (g.number z) t h e = subst IsPrintable (some_is (tree.number z) t e) (good_number z (first_good (g.number z) [] h))
   good_tree (g.text bytes) t h e = subst IsPrintable (some_is (tree.text bytes) t e) tt
-  good_tree (g.brackets w) t h e = good_tree w t (in_brackets (text_of w) h) e
+  good_tree (g.brackets w) t h e = good_tree w t (in_brackets (terminals_of w) h) e
   good_tree (g.call f args) t h e =
       let p = both_some tree.call (function_of f) (meanings args) t e in
-      subst IsPrintable p.is (good_trees args p.right (in_brackets (texts_of args) (rest_good (g.name f) (g.sign (codes "(") ∷ (texts_of args ++ (g.sign (codes ")") ∷ []))) h)) p.right_is)
+      subst IsPrintable p.is (good_trees args p.right (in_brackets (all_terminals args) (rest_good (g.name f) (g.sign (codes "(") ∷ (all_terminals args ++ (g.sign (codes ")") ∷ []))) h)) p.right_is)
   good_tree (g.aggregate op clause args) t h e =
       let p = mapped_some (tree.aggregate op (grouped_of clause)) (meanings args) t e in
-      let a = rest_good (g.key _) (before_text clause ++ (g.sign (codes "(") ∷ (texts_of args ++ (g.sign (codes ")") ∷ behind_text clause)))) h in
-      let b = behind_good (before_text clause) (g.sign (codes "(") ∷ (texts_of args ++ (g.sign (codes ")") ∷ behind_text clause))) a in
-      let c = rest_good (g.sign (codes "(")) (texts_of args ++ (g.sign (codes ")") ∷ behind_text clause)) b in
-      let d = rest_good (g.sign (codes ")")) (behind_text clause) (behind_good (texts_of args) (g.sign (codes ")") ∷ behind_text clause) c) in
+      let a = rest_good (g.key _) (before_terminals clause ++ (g.sign (codes "(") ∷ (all_terminals args ++ (g.sign (codes ")") ∷ behind_terminals clause)))) h in
+      let b = behind_good (before_terminals clause) (g.sign (codes "(") ∷ (all_terminals args ++ (g.sign (codes ")") ∷ behind_terminals clause))) a in
+      let c = rest_good (g.sign (codes "(")) (all_terminals args ++ (g.sign (codes ")") ∷ behind_terminals clause)) b in
+      let d = rest_good (g.sign (codes ")")) (behind_terminals clause) (behind_good (all_terminals args) (g.sign (codes ")") ∷ behind_terminals clause) c) in
       subst IsPrintable p.1.1 (
-        good_clause clause (front_good (before_text clause) (g.sign (codes "(") ∷ (texts_of args ++ (g.sign (codes ")") ∷ behind_text clause))) a) d,
-        good_trees args p.0 (front_good (texts_of args) (g.sign (codes ")") ∷ behind_text clause) c) p.1.0,
+        good_clause clause (front_good (before_terminals clause) (g.sign (codes "(") ∷ (all_terminals args ++ (g.sign (codes ")") ∷ behind_terminals clause))) a) d,
+        good_trees args p.0 (front_good (all_terminals args) (g.sign (codes ")") ∷ behind_terminals clause) c) p.1.0,
       )
   good_tree (g.unary minus w) t h e =
       let p = mapped_some (tree.unary minus) (meaning w) t e in
-      subst IsPrintable p.1.1 (good_tree w p.0 (rest_good (g.sign (cond minus (codes "-") (codes "+"))) (text_of w) h) p.1.0)
+      subst IsPrintable p.1.1 (good_tree w p.0 (rest_good (g.sign (cond minus (codes "-") (codes "+"))) (terminals_of w) h) p.1.0)
   good_tree (g.binary op keys a b) t h e =
       let p = both_some (tree.binary op (matched_of keys)) (meaning a) (meaning b) t e in
-      let x = front_good (text_of a) (operator_terminal op ∷ (bool_text op.with_bool ++ (these keys_text keys ++ text_of b))) h in
-      let y = rest_good (operator_terminal op) (bool_text op.with_bool ++ (these keys_text keys ++ text_of b)) (behind_good (text_of a) (operator_terminal op ∷ (bool_text op.with_bool ++ (these keys_text keys ++ text_of b))) h) in
-      let z = behind_good (bool_text op.with_bool) (these keys_text keys ++ text_of b) y in
-      let k = good_keys keys (front_good (these keys_text keys) (text_of b) z) in
-      subst IsPrintable p.is (k.0, k.1, good_tree a p.left x p.left_is, good_tree b p.right (behind_good (these keys_text keys) (text_of b) z) p.right_is)
+      let x = front_good (terminals_of a) (operator_terminal op ∷ (bool_terminals op.with_bool ++ (these keys_terminals keys ++ terminals_of b))) h in
+      let y = rest_good (operator_terminal op) (bool_terminals op.with_bool ++ (these keys_terminals keys ++ terminals_of b)) (behind_good (terminals_of a) (operator_terminal op ∷ (bool_terminals op.with_bool ++ (these keys_terminals keys ++ terminals_of b))) h) in
+      let z = behind_good (bool_terminals op.with_bool) (these keys_terminals keys ++ terminals_of b) y in
+      let k = good_keys keys (front_good (these keys_terminals keys) (terminals_of b) z) in
+      subst IsPrintable p.is (k.0, k.1, good_tree a p.left x p.left_is, good_tree b p.right (behind_good (these keys_terminals keys) (terminals_of b) z) p.right_is)
   good_tree (g.select s range mods) t h e =
-      let a = front_good (selected_text s) (these range_text range ++ modifiers_text mods) h in
-      let b = behind_good (selected_text s) (these range_text range ++ modifiers_text mods) h in
+      let a = front_good (selected_terminals s) (these range_terminals range ++ modifiers_terminals mods) h in
+      let b = behind_good (selected_terminals s) (these range_terminals range ++ modifiers_terminals mods) h in
       subst IsPrintable (some_is (tree.select (metric_matcher s.metric ++ braces_matchers s.braces) range (mods_of mods)) t e) (
-        good_selected s.metric s.braces (behind_good (these (λ n. g.name n ∷ []) s.metric) (these braces_text s.braces) a),
-        good_range range (front_good (these range_text range) (modifiers_text mods) b),
-        good_mods mods (behind_good (these range_text range) (modifiers_text mods) b),
+        good_selected s.metric s.braces (behind_good (these (λ n. g.name n ∷ []) s.metric) (these braces_terminals s.braces) a),
+        good_range range (front_good (these range_terminals range) (modifiers_terminals mods) b),
+        good_mods mods (behind_good (these range_terminals range) (modifiers_terminals mods) b),
       )
   good_tree (g.subquery w range resolution mods) t h e =
       let p = mapped_some (λ inner. tree.subquery inner range resolution (mods_of mods)) (meaning w) t e in
-      let tail = g.sign (codes "[") ∷ g.duration range ∷ g.sign (codes ":") ∷ (these (λ r. g.duration r ∷ []) resolution ++ (g.sign (codes "]") ∷ modifiers_text mods)) in
-      let a = rest_good (g.sign (codes "[")) (g.duration range ∷ g.sign (codes ":") ∷ (these (λ r. g.duration r ∷ []) resolution ++ (g.sign (codes "]") ∷ modifiers_text mods))) (behind_good (text_of w) tail h) in
-      let b = rest_good (g.sign (codes ":")) (these (λ r. g.duration r ∷ []) resolution ++ (g.sign (codes "]") ∷ modifiers_text mods))
-      (rest_good (g.duration range) (g.sign (codes ":") ∷ (these (λ r. g.duration r ∷ []) resolution ++ (g.sign (codes "]") ∷ modifiers_text mods))) a) in
+      let tail = g.sign (codes "[") ∷ g.duration range ∷ g.sign (codes ":") ∷ (these (λ r. g.duration r ∷ []) resolution ++ (g.sign (codes "]") ∷ modifiers_terminals mods)) in
+      let a = rest_good (g.sign (codes "[")) (g.duration range ∷ g.sign (codes ":") ∷ (these (λ r. g.duration r ∷ []) resolution ++ (g.sign (codes "]") ∷ modifiers_terminals mods))) (behind_good (terminals_of w) tail h) in
+      let b = rest_good (g.sign (codes ":")) (these (λ r. g.duration r ∷ []) resolution ++ (g.sign (codes "]") ∷ modifiers_terminals mods))
+      (rest_good (g.duration range) (g.sign (codes ":") ∷ (these (λ r. g.duration r ∷ []) resolution ++ (g.sign (codes "]") ∷ modifiers_terminals mods))) a) in
       subst IsPrintable p.1.1 (
-        good_tree w p.0 (front_good (text_of w) tail h) p.1.0,
-        good_duration range (first_good (g.duration range) (g.sign (codes ":") ∷ (these (λ r. g.duration r ∷ []) resolution ++ (g.sign (codes "]") ∷ modifiers_text mods))) a),
-        good_resolution resolution (front_good (these (λ r. g.duration r ∷ []) resolution) (g.sign (codes "]") ∷ modifiers_text mods) b),
-        good_mods mods (rest_good (g.sign (codes "]")) (modifiers_text mods) (behind_good (these (λ r. g.duration r ∷ []) resolution) (g.sign (codes "]") ∷ modifiers_text mods) b)),
+        good_tree w p.0 (front_good (terminals_of w) tail h) p.1.0,
+        good_duration range (first_good (g.duration range) (g.sign (codes ":") ∷ (these (λ r. g.duration r ∷ []) resolution ++ (g.sign (codes "]") ∷ modifiers_terminals mods))) a),
+        good_resolution resolution (front_good (these (λ r. g.duration r ∷ []) resolution) (g.sign (codes "]") ∷ modifiers_terminals mods) b),
+        good_mods mods (rest_good (g.sign (codes "]")) (modifiers_terminals mods) (behind_good (these (λ r. g.duration r ∷ []) resolution) (g.sign (codes "]") ∷ modifiers_terminals mods) b)),
       )
 
-  good_trees : (a : Arguments) (ts : Trees) → Good (texts_of a) → meanings a ≡ Some ts → ArePrintable ts
+  good_trees : (a : Arguments) (ts : Trees) → Good (all_terminals a) → meanings a ≡ Some ts → ArePrintable ts
   good_trees g.none ts h e = subst ArePrintable (some_is tree.none ts e) tt
   good_trees (g.more w ws) ts h e =
       let p = both_some tree.more (meaning w) (meanings ws) ts e in
-      subst ArePrintable p.is (good_tree w p.left (front_good (text_of w) (more_texts ws) h) p.left_is, good_more ws p.right (behind_good (text_of w) (more_texts ws) h) p.right_is)
+      subst ArePrintable p.is (good_tree w p.left (front_good (terminals_of w) (more_terminals ws) h) p.left_is, good_more ws p.right (behind_good (terminals_of w) (more_terminals ws) h) p.right_is)
 
-  good_more : (a : Arguments) (ts : Trees) → Good (more_texts a) → meanings a ≡ Some ts → ArePrintable ts
+  good_more : (a : Arguments) (ts : Trees) → Good (more_terminals a) → meanings a ≡ Some ts → ArePrintable ts
   good_more g.none ts h e = subst ArePrintable (some_is tree.none ts e) tt
   good_more (g.more w ws) ts h e =
       let p = both_some tree.more (meaning w) (meanings ws) ts e in
-      let r = rest_good (g.sign (codes ",")) (text_of w ++ more_texts ws) h in
-      subst ArePrintable p.is (good_tree w p.left (front_good (text_of w) (more_texts ws) r) p.left_is, good_more ws p.right (behind_good (text_of w) (more_texts ws) r) p.right_is)
+      let r = rest_good (g.sign (codes ",")) (terminals_of w ++ more_terminals ws) h in
+      subst ArePrintable p.is (good_tree w p.left (front_good (terminals_of w) (more_terminals ws) r) p.left_is, good_more ws p.right (behind_good (terminals_of w) (more_terminals ws) r) p.right_is)
 
 -- a tree that a text derives, of any height, can be printed
 pub can_be_printed : CanBePrinted

@@ -9,7 +9,7 @@ use Rattle.pf_model.specs.declared.expr.Side.TheVariants as side
 use Rattle.pf_model.specs.Canonical.{is_one}
 use Rattle.pf_model.specs.Clauses.{Matched}
 use Rattle.pf_model.specs.Grammar as written
-use Rattle.pf_model.specs.Grammar.{Arguments, FitAll, Group, Keys, Labels, Modifiers, Moment, Offset, Written, is_nil, text_of}
+use Rattle.pf_model.specs.Grammar.{Arguments, FitAll, Group, Keys, Labels, Modifiers, AtModifier, Offset, Written, is_nil, terminals_of}
 use Rattle.pf_model.specs.Trees as tree
 use Rattle.pf_model.specs.Trees.{Tree, Trees}
 use Rattle.pf_model.specs.Words.{function_name}
@@ -18,7 +18,7 @@ use Rattle.pf_lex.specs.CanonicalTokens.{IsPrintable, sorts_of}
 abbrev pub labels_written : List (List ℕ) → Labels
 labels_written labels = record { labels = labels; comma = false }
 
-abbrev pub moment_written : At → Moment
+abbrev pub moment_written : At → AtModifier
 moment_written (Time millis) = written.time bare (pos (millis * 1000))
 moment_written Start = written.start
 moment_written End = written.end
@@ -61,4 +61,4 @@ abbrev mutual
 
 -- the law: the tokens of the canonical text are those that the grammar wants
 abbrev pub AreFit : Type 0
-AreFit = (t : Tree) → IsPrintable t → FitAll (text_of (written_of t)) (sorts_of t)
+AreFit = (t : Tree) → IsPrintable t → FitAll (terminals_of (written_of t)) (sorts_of t)

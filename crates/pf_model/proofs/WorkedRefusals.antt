@@ -1,6 +1,6 @@
 -- Texts of queries that are refused, each with its refusal and its place.
 use Rattle.std.proofs.Common.{◌≡◌, ℕ, zero, suc, ◌+◌, pos, List, [], ◌∷◌, ◌++◌, refl, ap, codes, arith, Some, None, Option, true, false}
-use Rattle.pf_model.specs.Grammar.{Terminal, Fits, FitAll, Written, number, text, brackets, call, aggregate, unary, binary, select, subquery, Arguments, none, more, IsLawful, text_of, IsDerived, Begins, IsUnexpected, Selected, Braces}
+use Rattle.pf_model.specs.Grammar.{Terminal, Fits, FitAll, Written, number, text, brackets, call, aggregate, unary, binary, select, subquery, Arguments, none, more, IsLawful, terminals_of, IsDerived, Begins, IsUnexpected, Selected, Braces}
 use Rattle.pf_model.specs.Grammar as grammar
 use Rattle.pf_model.specs.Parsing.{Refuses, unexpected, too_deep_at}
 use Rattle.pf_model.specs.Tokens.{Token}
@@ -27,12 +27,12 @@ none_of_two [] ys y h = h
 none_of_two (x ∷ xs) ys y h = h
 
 none_selected : (m : Option (List ℕ)) (b : Option Braces) (ys : List Terminal)
-    → grammar.AreSelected m b → FitAll (grammar.selected_text (record { metric = m; braces = b }) ++ ys) [] → ⊥
+    → grammar.AreSelected m b → FitAll (grammar.selected_terminals (record { metric = m; braces = b }) ++ ys) [] → ⊥
 none_selected None None ys l h = l
 none_selected None (Some b) ys l h = h
 none_selected (Some n) b ys l h = h
 
-none_written : (w : Written) → IsLawful w → FitAll (text_of w) [] → ⊥
+none_written : (w : Written) → IsLawful w → FitAll (terminals_of w) [] → ⊥
 none_written (number n) l h = h
 none_written (text b) l h = h
 none_written (brackets e) l h = h
@@ -40,9 +40,9 @@ none_written (call f es) l h = h
 none_written (aggregate op c none) l h = h
 none_written (aggregate op c (more e es)) l h = h
 none_written (unary m e) l h = h
-none_written (binary op k a b) l h = none_of_two (text_of a) _ _ h
+none_written (binary op k a b) l h = none_of_two (terminals_of a) _ _ h
 none_written (select s r m) l h = none_selected s.metric s.braces _ l.0 h
-none_written (subquery e r d m) l h = none_of_two (text_of e) _ _ h
+none_written (subquery e r d m) l h = none_of_two (terminals_of e) _ _ h
 
 -- a query that is expected and doesn't come: unexpected at the text's end
 a_comment_alone : Refuses (codes " # up") (unexpected 5)
@@ -82,12 +82,12 @@ first_byte (b ∷ bs) = b
 
 -- no query begins with `)`
 closing_selected : (m : Option (List ℕ)) (b : Option Braces) (ys : List Terminal)
-    → grammar.AreSelected m b → Starts (grammar.selected_text (record { metric = m; braces = b }) ++ ys) (token.sign (codes ")")) → ⊥
+    → grammar.AreSelected m b → Starts (grammar.selected_terminals (record { metric = m; braces = b }) ++ ys) (token.sign (codes ")")) → ⊥
 closing_selected None None ys l h = l
 closing_selected None (Some b) ys l h = omega (arith, ap first_byte h)
 closing_selected (Some n) b ys l h = h
 
-closing_written : (w : Written) → IsLawful w → Starts (text_of w) (token.sign (codes ")")) → ⊥
+closing_written : (w : Written) → IsLawful w → Starts (terminals_of w) (token.sign (codes ")")) → ⊥
 closing_written (number n) l h = h
 closing_written (text b) l h = h
 closing_written (brackets e) l h = omega (arith, ap first_byte h)
@@ -96,9 +96,9 @@ closing_written (aggregate op c none) l h = h
 closing_written (aggregate op c (more e es)) l h = h
 closing_written (unary false e) l h = omega (arith, ap first_byte h)
 closing_written (unary true e) l h = omega (arith, ap first_byte h)
-closing_written (binary op k a b) l h = closing_written a l.5 (starts_left (text_of a) _ _ (none_written a l.5) h)
+closing_written (binary op k a b) l h = closing_written a l.5 (starts_left (terminals_of a) _ _ (none_written a l.5) h)
 closing_written (select s r m) l h = closing_selected s.metric s.braces _ l.0 h
-closing_written (subquery e r d m) l h = closing_written e l.1 (starts_left (text_of e) _ _ (none_written e l.1) h)
+closing_written (subquery e r d m) l h = closing_written e l.1 (starts_left (terminals_of e) _ _ (none_written e l.1) h)
 
 a_closing_bracket_first : Refuses (codes " )") (unexpected 1)
 a_closing_bracket_first = (
@@ -110,8 +110,8 @@ a_closing_bracket_first = (
       record {
         within = omega arith;
         begins = record { further = token.number (pos 0) ∷ []; written = number (pos 0); derived = record { fits = (refl, tt); lawful = tt } };
-        unlawful = λ h b. closing_written b.written b.derived.lawful (first_fits (text_of b.written) _ _ b.derived.fits);
-        unfinished = λ w d. closing_written w d.lawful (first_fits (text_of w) _ _ d.fits);
+        unlawful = λ h b. closing_written b.written b.derived.lawful (first_fits (terminals_of b.written) _ _ b.derived.fits);
+        unfinished = λ w d. closing_written w d.lawful (first_fits (terminals_of w) _ _ d.fits);
       },
       refl,
     ),

@@ -58,8 +58,8 @@ offset_text (negsuc n) = codes " offset -" ++ millis_text (suc n)
 abbrev pub mods_text : Mods → List ℕ
 mods_text mods = at_text mods.at ++ offset_text mods.offset
 
-abbrev pub labels_text : List (List ℕ) → List ℕ
-labels_text labels = in_brackets (separated (codes ", ") labels)
+abbrev pub names_text : List (List ℕ) → List ℕ
+names_text labels = in_brackets (separated (codes ", ") labels)
 
 abbrev pub bool_text : Bool → List ℕ
 bool_text false = []
@@ -73,15 +73,15 @@ is_one side.Right = false
 -- `on` or `ignoring` stands where its list is not empty, where it is `on`, and where a grouping follows
 abbrev pub keys_text : Matched → List ℕ
 keys_text m =
-    cond (is_nil m.labels && not m.on && is_one m.side) [] (cond m.on (codes " on ") (codes " ignoring ") ++ labels_text m.labels)
+    cond (is_nil m.labels && not m.on && is_one m.side) [] (cond m.on (codes " on ") (codes " ignoring ") ++ names_text m.labels)
 
 abbrev pub group_text : Side → List (List ℕ) → List ℕ
 group_text side.One include = []
-group_text side.Left include = codes " group_left " ++ labels_text include
-group_text side.Right include = codes " group_right " ++ labels_text include
+group_text side.Left include = codes " group_left " ++ names_text include
+group_text side.Right include = codes " group_right " ++ names_text include
 
 abbrev pub grouping_text : Grouped → List ℕ
-grouping_text g = cond g.without (codes " without ") (codes " by ") ++ labels_text g.labels
+grouping_text g = cond g.without (codes " without ") (codes " by ") ++ names_text g.labels
 
 abbrev pub resolution_text : Option ℕ → List ℕ
 resolution_text None = []

@@ -14,7 +14,7 @@ use Rattle.pf_model.specs.Evaluation.{eval}
 use Rattle.pf_model.specs.Trees.{Tree}
 
 -- an asked query: its tree, the grid's ends put in, and its grid
-pub record Asked : Type 0 where
+pub record GridQuery : Type 0 where
   pub tree : Tree
   pub grid : GridData
 
@@ -80,5 +80,5 @@ abbrev pub answered : List Evaluated → Answer
 answered cells = answer_unless (first_failure cells) (steps_of cells)
 
 -- the direct evaluation of a query over samples: its value at each time of its grid
-abbrev pub direct : List Row → Asked → Answer
+abbrev pub direct : List Row → GridQuery → Answer
 direct samples asked = answered (evaluated samples asked.tree (points asked.grid))

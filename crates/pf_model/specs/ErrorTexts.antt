@@ -9,7 +9,7 @@ use Rattle.pf_model.specs.declared.cell.ErrorKind.TheVariants.{DoubleLabels, Dou
 use Rattle.pf_model.specs.declared.expr.Kind.{Kind}
 use Rattle.pf_model.specs.declared.expr.Kind.TheVariants.{Scalar, Instant, Range, Text}
 use Rattle.pf_model.specs.Parsing.{Refusal, too_long, bad_token, too_deep, unexpected, unknown_name, time_too_large, too_tall}
-use Rattle.pf_model.specs.Typing.{Fault, arg_count, wrong, bad_name, bool_needed, bad_matching, subquery_too_fine}
+use Rattle.pf_model.specs.Typing.{TypeFault, arg_count, wrong, bad_name, bool_needed, bad_matching, subquery_too_fine}
 
 abbrev pub kind_text : ErrorKind → List ℕ
 kind_text DoubleLabels = codes "two elements have equal labels"
@@ -40,7 +40,7 @@ kind_name Text = codes "string"
 abbrev pub node_text : ℕ → List ℕ → List ℕ
 node_text n what = codes "node " ++ (decimal n ++ what)
 
-abbrev pub fault_text : Fault → List ℕ
+abbrev pub fault_text : TypeFault → List ℕ
 fault_text (arg_count n) = node_text n (codes ": wrong number of arguments")
 fault_text (wrong n wanted found) =
     node_text n (codes ": wanted " ++ (kind_name wanted ++ (codes ", found " ++ kind_name found)))
@@ -64,7 +64,7 @@ refusal_text too_tall = codes "expression too tall"
 -- selectors and calls of `label_replace` are counted together from 0, in preorder
 pub data QueryFault : Type 0 where
   of_grammar : Refusal → QueryFault
-  of_kinds : Fault → QueryFault
+  of_kinds : TypeFault → QueryFault
   refused_pattern : (which : ℕ) → QueryFault
   empty_selector : (which : ℕ) → QueryFault
 

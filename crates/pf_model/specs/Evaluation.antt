@@ -100,13 +100,13 @@ abbrev pub moment_elements : Outcome → List Element
 moment_elements (elements es) = es
 moment_elements o = []
 
-abbrev pub vector_of : Moment → List Element
-vector_of m = moment_elements m.outcome
+abbrev pub inner_elements : Moment → List Element
+inner_elements m = moment_elements m.outcome
 
 -- for each label set that occurs its samples
 abbrev pub subquery_series : List Moment → List Series
 subquery_series ms =
-    map (λ l. record { labels = l; samples = samples_of (λ m. m.time) vector_of l ms }) (occurring vector_of ms)
+    map (λ l. record { labels = l; samples = samples_of (λ m. m.time) inner_elements l ms }) (occurring inner_elements ms)
 
 -- the earliest error comes first
 abbrev pub subquery_over : ℤ → ℤ → List Moment → Outcome

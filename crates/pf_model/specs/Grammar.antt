@@ -78,15 +78,15 @@ pub record Offset : Type 0 where
   pub millis : ℕ
 
 -- what stands behind `@`: seconds as micros with a sign or none, `start()` or `end()`
-pub data Moment : Type 0 where
-  time : front.Sign → ℤ → Moment
-  start : Moment
-  end : Moment
+pub data AtModifier : Type 0 where
+  time : front.Sign → ℤ → AtModifier
+  start : AtModifier
+  end : AtModifier
 
 -- at most one `offset` and one `@`, in either order
 pub record Modifiers : Type 0 where
   pub offset : Option Offset
-  pub at : Option Moment
+  pub at : Option AtModifier
   pub at_first : Bool
 
 -- an aggregation's `by` or `without`: none, before the arguments, or behind them
@@ -141,95 +141,95 @@ abbrev pub listed : List (List Terminal) → List Terminal
 listed [] = []
 listed (x ∷ xs) = x ++ commas_before xs
 
-abbrev pub labels_text : Labels → List Terminal
-labels_text l = sign (codes "(") ∷ (listed (map (λ n. label n ∷ []) l.labels) ++ (comma_if l.comma ++ (sign (codes ")") ∷ [])))
+abbrev pub labels_terminals : Labels → List Terminal
+labels_terminals l = sign (codes "(") ∷ (listed (map (λ n. label n ∷ []) l.labels) ++ (comma_if l.comma ++ (sign (codes ")") ∷ [])))
 
-abbrev pub matcher_text : Matcher → List Terminal
-matcher_text m = label m.label ∷ sign (match_text m.sign) ∷ string m.text ∷ []
+abbrev pub matcher_terminals : Matcher → List Terminal
+matcher_terminals m = label m.label ∷ sign (match_text m.sign) ∷ string m.text ∷ []
 
-abbrev pub braces_text : Braces → List Terminal
-braces_text b = sign (codes "{") ∷ (listed (map matcher_text b.matchers) ++ (comma_if b.comma ++ (sign (codes "}") ∷ [])))
+abbrev pub braces_terminals : Braces → List Terminal
+braces_terminals b = sign (codes "{") ∷ (listed (map matcher_terminals b.matchers) ++ (comma_if b.comma ++ (sign (codes "}") ∷ [])))
 
-abbrev pub selected_text : Selected → List Terminal
-selected_text s = these (λ n. name n ∷ []) s.metric ++ these braces_text s.braces
+abbrev pub selected_terminals : Selected → List Terminal
+selected_terminals s = these (λ n. name n ∷ []) s.metric ++ these braces_terminals s.braces
 
 abbrev pub minus_if : Bool → List Terminal
 minus_if false = []
 minus_if true = sign (codes "-") ∷ []
 
-abbrev pub offset_text : Offset → List Terminal
-offset_text o = key (codes "offset") ∷ (minus_if o.minus ++ (duration o.millis ∷ []))
+abbrev pub offset_terminals : Offset → List Terminal
+offset_terminals o = key (codes "offset") ∷ (minus_if o.minus ++ (duration o.millis ∷ []))
 
-abbrev pub front_text : front.Sign → List Terminal
-front_text front.bare = []
-front_text front.plus = sign (codes "+") ∷ []
-front_text front.minus = sign (codes "-") ∷ []
+abbrev pub front_terminals : front.Sign → List Terminal
+front_terminals front.bare = []
+front_terminals front.plus = sign (codes "+") ∷ []
+front_terminals front.minus = sign (codes "-") ∷ []
 
-abbrev pub moment_text : Moment → List Terminal
-moment_text (time s micros) = sign (codes "@") ∷ (front_text s ++ (number micros ∷ []))
-moment_text start = sign (codes "@") ∷ exactly (codes "start") ∷ sign (codes "(") ∷ sign (codes ")") ∷ []
-moment_text end = sign (codes "@") ∷ exactly (codes "end") ∷ sign (codes "(") ∷ sign (codes ")") ∷ []
+abbrev pub at_modifier_terminals : AtModifier → List Terminal
+at_modifier_terminals (time s micros) = sign (codes "@") ∷ (front_terminals s ++ (number micros ∷ []))
+at_modifier_terminals start = sign (codes "@") ∷ exactly (codes "start") ∷ sign (codes "(") ∷ sign (codes ")") ∷ []
+at_modifier_terminals end = sign (codes "@") ∷ exactly (codes "end") ∷ sign (codes "(") ∷ sign (codes ")") ∷ []
 
-abbrev pub modifiers_text : Modifiers → List Terminal
-modifiers_text m =
-    cond m.at_first (these moment_text m.at ++ these offset_text m.offset) (these offset_text m.offset ++ these moment_text m.at)
+abbrev pub modifiers_terminals : Modifiers → List Terminal
+modifiers_terminals m =
+    cond m.at_first (these at_modifier_terminals m.at ++ these offset_terminals m.offset) (these offset_terminals m.offset ++ these at_modifier_terminals m.at)
 
-abbrev pub range_text : ℕ → List Terminal
-range_text range = sign (codes "[") ∷ duration range ∷ sign (codes "]") ∷ []
+abbrev pub range_terminals : ℕ → List Terminal
+range_terminals range = sign (codes "[") ∷ duration range ∷ sign (codes "]") ∷ []
 
-abbrev pub without_text : Bool → Labels → List Terminal
-without_text false l = key (codes "by") ∷ labels_text l
-without_text true l = key (codes "without") ∷ labels_text l
+abbrev pub without_terminals : Bool → Labels → List Terminal
+without_terminals false l = key (codes "by") ∷ labels_terminals l
+without_terminals true l = key (codes "without") ∷ labels_terminals l
 
-abbrev pub before_text : Clause → List Terminal
-before_text absent = []
-before_text (before without l) = without_text without l
-before_text (behind without l) = []
+abbrev pub before_terminals : Clause → List Terminal
+before_terminals absent = []
+before_terminals (before without l) = without_terminals without l
+before_terminals (behind without l) = []
 
-abbrev pub behind_text : Clause → List Terminal
-behind_text absent = []
-behind_text (before without l) = []
-behind_text (behind without l) = without_text without l
+abbrev pub behind_terminals : Clause → List Terminal
+behind_terminals absent = []
+behind_terminals (before without l) = []
+behind_terminals (behind without l) = without_terminals without l
 
 abbrev pub operator_terminal : BinaryOp → Terminal
 operator_terminal op = cond (is_set_operator op.sign) (key (operator_text op.sign)) (sign (operator_text op.sign))
 
-abbrev pub bool_text : Bool → List Terminal
-bool_text false = []
-bool_text true = key (codes "bool") ∷ []
+abbrev pub bool_terminals : Bool → List Terminal
+bool_terminals false = []
+bool_terminals true = key (codes "bool") ∷ []
 
-abbrev pub group_text : Group → List Terminal
-group_text g = key (cond g.left (codes "group_left") (codes "group_right")) ∷ these labels_text g.include
+abbrev pub group_terminals : Group → List Terminal
+group_terminals g = key (cond g.left (codes "group_left") (codes "group_right")) ∷ these labels_terminals g.include
 
-abbrev pub keys_text : Keys → List Terminal
-keys_text k = key (cond k.on (codes "on") (codes "ignoring")) ∷ (labels_text k.labels ++ these group_text k.group)
+abbrev pub keys_terminals : Keys → List Terminal
+keys_terminals k = key (cond k.on (codes "on") (codes "ignoring")) ∷ (labels_terminals k.labels ++ these group_terminals k.group)
 
 abbrev mutual
   -- the terminals of a query in order
-  pub text_of : Written → List Terminal
-  text_of (number micros) = number micros ∷ []
-  text_of (text bytes) = string bytes ∷ []
-  text_of (brackets e) = sign (codes "(") ∷ (text_of e ++ (sign (codes ")") ∷ []))
-  text_of (call f args) = name f ∷ sign (codes "(") ∷ (texts_of args ++ (sign (codes ")") ∷ []))
-  text_of (aggregate op clause args) =
+  pub terminals_of : Written → List Terminal
+  terminals_of (number micros) = number micros ∷ []
+  terminals_of (text bytes) = string bytes ∷ []
+  terminals_of (brackets e) = sign (codes "(") ∷ (terminals_of e ++ (sign (codes ")") ∷ []))
+  terminals_of (call f args) = name f ∷ sign (codes "(") ∷ (all_terminals args ++ (sign (codes ")") ∷ []))
+  terminals_of (aggregate op clause args) =
       key (aggregation_word op)
-      ∷ (before_text clause ++ (sign (codes "(") ∷ (texts_of args ++ (sign (codes ")") ∷ behind_text clause))))
-  text_of (unary minus e) = sign (cond minus (codes "-") (codes "+")) ∷ text_of e
-  text_of (binary op keys a b) =
-      text_of a ++ (operator_terminal op ∷ (bool_text op.with_bool ++ (these keys_text keys ++ text_of b)))
-  text_of (select s range mods) = selected_text s ++ (these range_text range ++ modifiers_text mods)
-  text_of (subquery e range resolution mods) =
-      text_of e
+      ∷ (before_terminals clause ++ (sign (codes "(") ∷ (all_terminals args ++ (sign (codes ")") ∷ behind_terminals clause))))
+  terminals_of (unary minus e) = sign (cond minus (codes "-") (codes "+")) ∷ terminals_of e
+  terminals_of (binary op keys a b) =
+      terminals_of a ++ (operator_terminal op ∷ (bool_terminals op.with_bool ++ (these keys_terminals keys ++ terminals_of b)))
+  terminals_of (select s range mods) = selected_terminals s ++ (these range_terminals range ++ modifiers_terminals mods)
+  terminals_of (subquery e range resolution mods) =
+      terminals_of e
       ++ (sign (codes "[") ∷ duration range ∷ sign (codes ":")
-      ∷ (these (λ r. duration r ∷ []) resolution ++ (sign (codes "]") ∷ modifiers_text mods)))
+      ∷ (these (λ r. duration r ∷ []) resolution ++ (sign (codes "]") ∷ modifiers_terminals mods)))
 
-  pub texts_of : Arguments → List Terminal
-  texts_of none = []
-  texts_of (more e es) = text_of e ++ more_texts es
+  pub all_terminals : Arguments → List Terminal
+  all_terminals none = []
+  all_terminals (more e es) = terminals_of e ++ more_terminals es
 
-  pub more_texts : Arguments → List Terminal
-  more_texts none = []
-  more_texts (more e es) = sign (codes ",") ∷ (text_of e ++ more_texts es)
+  pub more_terminals : Arguments → List Terminal
+  more_terminals none = []
+  more_terminals (more e es) = sign (codes ",") ∷ (terminals_of e ++ more_terminals es)
 
 -- ---- what may stand where
 
@@ -270,13 +270,13 @@ millis_of front.plus micros = int_div micros (pos 1000)
 millis_of front.minus micros = int_div (neg_ℤ micros) (pos 1000)
 
 -- no time below zero
-abbrev pub IsMoment : Moment → Type 0
-IsMoment (time s micros) = int_le (pos 0) (millis_of s micros) ≡ true
-IsMoment start = Unit {0}
-IsMoment end = Unit {0}
+abbrev pub IsAtModifier : AtModifier → Type 0
+IsAtModifier (time s micros) = int_le (pos 0) (millis_of s micros) ≡ true
+IsAtModifier start = Unit {0}
+IsAtModifier end = Unit {0}
 
 abbrev pub AreModifiers : Modifiers → Type 0
-AreModifiers m = IfSome m.at IsMoment
+AreModifiers m = IfSome m.at IsAtModifier
 
 -- no range and no resolution is zero
 abbrev pub IsPositive : ℕ → Type 0
@@ -315,7 +315,7 @@ abbrev mutual
   IsLawful (unary minus e) = (level e ≤ 1) × IsLawful e
   IsLawful (binary op keys a b) =
       (level a ≤ level_of op.sign) × (level b < level_of op.sign) × ((op.with_bool && not (is_comparison op.sign)) ≡ false)
-      × IfSome keys AreKeys × ((ends_with_group keys && begins_with_bracket (text_of b)) ≡ false) × IsLawful a × IsLawful b
+      × IfSome keys AreKeys × ((ends_with_group keys && begins_with_bracket (terminals_of b)) ≡ false) × IsLawful a × IsLawful b
   IsLawful (select s range mods) = AreSelected s.metric s.braces × IfSome range IsPositive × AreModifiers mods
   IsLawful (subquery e range resolution mods) =
       (level e ≤ 0) × IsLawful e × IsPositive range × IfSome resolution IsPositive × AreModifiers mods
@@ -339,17 +339,17 @@ abbrev pub braces_matchers : Option Braces → List Matcher
 braces_matchers None = []
 braces_matchers (Some b) = b.matchers
 
-abbrev pub moment_of : Moment → At
-moment_of (time s micros) = at.Time (nat_abs (millis_of s micros))
-moment_of start = at.Start
-moment_of end = at.End
+abbrev pub at_of : AtModifier → At
+at_of (time s micros) = at.Time (nat_abs (millis_of s micros))
+at_of start = at.Start
+at_of end = at.End
 
 abbrev pub offset_of : Option Offset → ℤ
 offset_of None = pos 0
 offset_of (Some o) = cond o.minus (neg_ℤ (pos o.millis)) (pos o.millis)
 
 abbrev pub mods_of : Modifiers → Mods
-mods_of m = record { at = option_map moment_of m.at; offset = offset_of m.offset }
+mods_of m = record { at = option_map at_of m.at; offset = offset_of m.offset }
 
 -- no clause is `by ()`
 abbrev pub grouped_of : Clause → Grouped
@@ -398,7 +398,7 @@ abbrev mutual
 
 -- these tokens write this query
 pub record IsDerived (tokens : List token.Sort) (w : Written) : Type 0 where
-  pub fits : FitAll (text_of w) tokens
+  pub fits : FitAll (terminals_of w) tokens
   pub lawful : IsLawful w
 
 -- these tokens derive this tree

@@ -88,9 +88,9 @@ abbrev pub is_unmodified : Mods → Bool
 is_unmodified mods = is_none mods.at && int_eq mods.offset (pos 0)
 
 -- an instant selector without modifiers
-abbrev pub is_plain : Tree → Bool
-is_plain (select ms None mods) = is_unmodified mods
-is_plain _ = false
+abbrev pub is_plain_selector : Tree → Bool
+is_plain_selector (select ms None mods) = is_unmodified mods
+is_plain_selector _ = false
 
 -- how queries are read, by their texts
 abbrev pub Readings : Type 0
@@ -116,7 +116,7 @@ IsSelector text ms = Selects text (selector ms)
 
 -- an instant selector without modifiers, whose pattern may be refused
 abbrev pub may_be_no_selector : Tree → Bool
-may_be_no_selector tree = is_plain tree && may_be_refused tree
+may_be_no_selector tree = is_plain_selector tree && may_be_refused tree
 
 -- a text that the grammar refuses is no selector either, and one whose pattern is refused
 abbrev pub IsNoSelector : List ℕ → Type 0

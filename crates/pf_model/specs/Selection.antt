@@ -11,7 +11,7 @@ use Rattle.pf_base.specs.LabelOrder.{labels_cmp}
 use Rattle.pf_model.specs.declared.expr.Matcher.{Matcher}
 use Rattle.pf_model.specs.declared.expr.MatchSign.{MatchSign}
 use Rattle.pf_model.specs.declared.expr.MatchSign.TheVariants.{Equal, NotEqual, Like, NotLike}
-use Rattle.pf_model.specs.Patterns.{is_plain, is_like, is_meant}
+use Rattle.pf_model.specs.Patterns.{is_plain_pattern, is_like, is_meant}
 
 abbrev pub same_labels : Pairs → Pairs → Bool
 same_labels l m = is_eq (labels_cmp l m)
@@ -25,8 +25,8 @@ holds NotLike value pattern = not (is_like pattern value)
 
 -- a matcher's text is compared as it is, or is a plain pattern, whose alternatives are
 abbrev pub is_compared : MatchSign → List ℕ → Bool
-is_compared Like pattern = is_plain pattern
-is_compared NotLike pattern = is_plain pattern
+is_compared Like pattern = is_plain_pattern pattern
+is_compared NotLike pattern = is_plain_pattern pattern
 is_compared sign text = true
 
 abbrev pub all_compared : List Matcher → Bool

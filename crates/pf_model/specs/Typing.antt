@@ -60,9 +60,9 @@ pub data Wanted : Type 0 where
   only : Kind → Wanted
   scalar_or_instant : Wanted
 
-abbrev pub accepts : Wanted → Kind → Bool
-accepts (only k) found = same_kind k found
-accepts scalar_or_instant found = same_kind Scalar found || same_kind Instant found
+abbrev pub admits : Wanted → Kind → Bool
+admits (only k) found = same_kind k found
+admits scalar_or_instant found = same_kind Scalar found || same_kind Instant found
 
 abbrev pub named_kind : Wanted → Kind
 named_kind (only k) = k
@@ -126,23 +126,23 @@ wants (subquery e range resolution mods) = only Instant ∷ []
 -- ---- the rules of one node in order
 
 -- which rule is broken at the node of this preorder number
-pub data Fault : Type 0 where
-  arg_count : (at : ℕ) → Fault
-  wrong : (at : ℕ) → (wanted : Kind) → (found : Kind) → Fault
-  bad_name : (at : ℕ) → Fault
-  bool_needed : (at : ℕ) → Fault
-  bad_matching : (at : ℕ) → Fault
-  subquery_too_fine : (at : ℕ) → Fault
+pub data TypeFault : Type 0 where
+  arg_count : (at : ℕ) → TypeFault
+  wrong : (at : ℕ) → (wanted : Kind) → (found : Kind) → TypeFault
+  bad_name : (at : ℕ) → TypeFault
+  bool_needed : (at : ℕ) → TypeFault
+  bad_matching : (at : ℕ) → TypeFault
+  subquery_too_fine : (at : ℕ) → TypeFault
 
 abbrev pub has_wrong_count : Tree → Bool
 has_wrong_count t = not (nat_eq (length (wants t)) (length (operands t)))
 
 -- the first operand from the left that is not of a wanted kind
-abbrev pub first_wrong : ℕ → List Wanted → List Tree → Option Fault
+abbrev pub first_wrong : ℕ → List Wanted → List Tree → Option TypeFault
 first_wrong n [] es = None
 first_wrong n (w ∷ ws) [] = None
 first_wrong n (w ∷ ws) (e ∷ es) =
-    option_or (only_if (not (accepts w (kind_of e))) (wrong n (named_kind w) (kind_of e))) (first_wrong n ws es)
+    option_or (only_if (not (admits w (kind_of e))) (wrong n (named_kind w) (kind_of e))) (first_wrong n ws es)
 
 -- the arguments that name labels: the target, and the source or the sources
 abbrev pub label_arguments : Function → List Tree → List Tree
@@ -185,7 +185,7 @@ abbrev pub is_too_fine : Tree → Bool
 is_too_fine (subquery e range resolution mods) = nat_lt (most_steps * unwrap_or resolution minute) range
 is_too_fine _ = false
 
-abbrev pub fault_at : ℕ → Tree → Option Fault
+abbrev pub fault_at : ℕ → Tree → Option TypeFault
 fault_at n t =
     option_or (only_if (has_wrong_count t) (arg_count n))
     (option_or (first_wrong n (wants t) (operands t))
@@ -196,19 +196,19 @@ fault_at n t =
 -- ---- the answers
 
 -- the fault of the first node that breaks a rule
-abbrev pub first_fault : List Node → Option Fault
+abbrev pub first_fault : List Node → Option TypeFault
 first_fault [] = None
 first_fault (n ∷ ns) = option_or (fault_at n.number n.tree) (first_fault ns)
 
-abbrev pub unless : Option Fault → Kind → Result Kind Fault
+abbrev pub unless : Option TypeFault → Kind → Result Kind TypeFault
 unless None k = Ok k
 unless (Some f) k = Err f
 
 -- the kind of a query, or the fault of the first node in post-order that breaks a rule
-abbrev pub typing : Tree → Result Kind Fault
+abbrev pub typing : Tree → Result Kind TypeFault
 typing t = unless (first_fault (postorder t)) (kind_of t)
 
 -- what is asked is a scalar or an instant vector
-abbrev pub asked_fault : Tree → Option Fault
+abbrev pub asked_fault : Tree → Option TypeFault
 asked_fault t =
-    option_or (first_fault (postorder t)) (only_if (not (accepts scalar_or_instant (kind_of t))) (wrong 0 Instant (kind_of t)))
+    option_or (first_fault (postorder t)) (only_if (not (admits scalar_or_instant (kind_of t))) (wrong 0 Instant (kind_of t)))

@@ -4,7 +4,7 @@ ghost use Rattle.std.specs.Prelude.{◌≡◌, ◌<◌, IfOk, length, slice_inde
 ghost use Rattle.pf_base.specs.LabelSets.{value_of};
 ghost use Rattle.pf_match.specs.declared.error.PatternError.TheVariants as pattern;
 ghost use Rattle.pf_model.specs.declared.expr.Matcher.{Matcher};
-ghost use Rattle.pf_model.specs.Patterns.{is_alternative, is_plain, is_plain_byte};
+ghost use Rattle.pf_model.specs.Patterns.{is_alternative, is_plain_pattern, is_plain_byte};
 ghost use Rattle.pf_model.specs.Selection.{accepts, accepts_empty, all_compared, all_meant, has_meaning, holds, is_compared};
 ghost use Rattle.pf_model.specs.Tests.{IsTest};
 
@@ -74,7 +74,7 @@ impl MatchSign {
 
 /// Whether a pattern is alternatives of ASCII letters, digits, `_`, `-`, `:` and `/` with `|` between them.
 pub fn is_plain(pattern: &str) -> bool
-    ensures { result ≡ is_plain pattern.now }
+    ensures { result ≡ is_plain_pattern pattern.now }
 {
     pattern
         .as_bytes()

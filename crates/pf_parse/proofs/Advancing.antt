@@ -9,7 +9,7 @@ use Rattle.pf_model.proofs.Levels.{level_positive}
 use Rattle.pf_model.specs.declared.expr.BinaryOp.{BinaryOp}
 use Rattle.pf_model.specs.declared.functions.AggOp.{AggOp}
 use Rattle.pf_model.specs.declared.functions.Sign.{Sign}
-use Rattle.pf_model.specs.Grammar.{Terminal, Fits, Written, text_of, texts_of, level, IsLawful, AreLawful, IsClause, AreLabels, AreKeys, AreModifiers, IsMoment, millis_of, AreSelected, AreBraces, Labels, labels_text, Braces, braces_text, Selected, selected_text, Offset, offset_text, Moment, moment_text, Modifiers, modifiers_text, these, IsPositive, is_named, is_nil, has_colon, operator_terminal, begins_with_bracket, without_text, matcher_text, comma_if, listed, Keys, keys_text}
+use Rattle.pf_model.specs.Grammar.{Terminal, Fits, Written, terminals_of, all_terminals, level, IsLawful, AreLawful, IsClause, AreLabels, AreKeys, AreModifiers, IsAtModifier, millis_of, AreSelected, AreBraces, Labels, labels_terminals, Braces, braces_terminals, Selected, selected_terminals, Offset, offset_terminals, AtModifier, at_modifier_terminals, Modifiers, modifiers_terminals, these, IsPositive, is_named, is_nil, has_colon, operator_terminal, begins_with_bracket, without_terminals, matcher_terminals, comma_if, listed, Keys, keys_terminals}
 use Rattle.pf_model.specs.Grammar as grammar
 use Rattle.pf_model.specs.Words.{function_of, level_of, is_comparison, aggregation_word}
 use Rattle.pf_parse.specs.declared.keyword.Keyword.TheVariants as keyword
@@ -112,7 +112,7 @@ whole_operates s e k t f q =
 
 whole_separates : (e : Written) (k : List Frame) (t : Tok) → Fits (grammar.sign (codes ",")) (sort t)
     → (d : Written) (j : List Frame) → IsLawful d → AreFrames j
-    → ((zs : List Terminal) → stack_text j (text_of d ++ zs) ≡ stack_text k (text_of e ++ zs))
+    → ((zs : List Terminal) → stack_text j (terminals_of d ++ zs) ≡ stack_text k (terminals_of e ++ zs))
     → Advance (at_mode (draft.whole e) k) t (mode.separated (read_of d) (images j))
 whole_separates e k t f d [] l a g = tt
 whole_separates e k t f d (signed minus ∷ j) l a g = tt
@@ -127,39 +127,39 @@ whole_separates e k t f d (calling c es ∷ j) l a g =
     refl (a.0, lawful_next es d a.1 l, a.2))
 
 call_text : (n : List ℕ) (es : List Written) (d : Written) (zs : List Terminal)
-    → text_of (grammar.call n (arguments (es ++ (d ∷ [])))) ++ zs
-    ≡ grammar.name n ∷ grammar.sign (codes "(") ∷ fronts (map text_of es) (text_of d ++ (grammar.sign (codes ")") ∷ zs))
+    → terminals_of (grammar.call n (arguments (es ++ (d ∷ [])))) ++ zs
+    ≡ grammar.name n ∷ grammar.sign (codes "(") ∷ fronts (map terminals_of es) (terminals_of d ++ (grammar.sign (codes ")") ∷ zs))
 call_text n es d zs =
     ap (λ us. grammar.name n ∷ grammar.sign (codes "(") ∷ us)
-    (append_assoc (texts_of (arguments (es ++ (d ∷ [])))) (grammar.sign (codes ")") ∷ []) zs
+    (append_assoc (all_terminals (arguments (es ++ (d ∷ [])))) (grammar.sign (codes ")") ∷ []) zs
     ∙ arguments_text es d (grammar.sign (codes ")") ∷ zs))
 
 before_text : (op : AggOp) (c : ClauseBefore) (es : List Written) (d : Written) (zs : List Terminal)
-    → text_of (grammar.aggregate op (grammar.before c.without c.labels) (arguments (es ++ (d ∷ [])))) ++ zs
-    ≡ grammar.key (aggregation_word op) ∷ (without_text c.without c.labels
-    ++ (grammar.sign (codes "(") ∷ fronts (map text_of es) (text_of d ++ (grammar.sign (codes ")") ∷ zs))))
+    → terminals_of (grammar.aggregate op (grammar.before c.without c.labels) (arguments (es ++ (d ∷ [])))) ++ zs
+    ≡ grammar.key (aggregation_word op) ∷ (without_terminals c.without c.labels
+    ++ (grammar.sign (codes "(") ∷ fronts (map terminals_of es) (terminals_of d ++ (grammar.sign (codes ")") ∷ zs))))
 before_text op c es d zs =
     ap (λ us. grammar.key (aggregation_word op) ∷ us)
-    (append_assoc (without_text c.without c.labels)
-    (grammar.sign (codes "(") ∷ (texts_of (arguments (es ++ (d ∷ []))) ++ (grammar.sign (codes ")") ∷ []))) zs
-    ∙ ap (λ us. without_text c.without c.labels ++ (grammar.sign (codes "(") ∷ us))
-    (append_assoc (texts_of (arguments (es ++ (d ∷ [])))) (grammar.sign (codes ")") ∷ []) zs
+    (append_assoc (without_terminals c.without c.labels)
+    (grammar.sign (codes "(") ∷ (all_terminals (arguments (es ++ (d ∷ []))) ++ (grammar.sign (codes ")") ∷ []))) zs
+    ∙ ap (λ us. without_terminals c.without c.labels ++ (grammar.sign (codes "(") ∷ us))
+    (append_assoc (all_terminals (arguments (es ++ (d ∷ [])))) (grammar.sign (codes ")") ∷ []) zs
     ∙ arguments_text es d (grammar.sign (codes ")") ∷ zs)))
 
 pub plain_text : (op : AggOp) (es : List Written) (d : Written) (zs : List Terminal)
-    → text_of (grammar.aggregate op grammar.absent (arguments (es ++ (d ∷ [])))) ++ zs ≡ aggregated_text op es d zs
+    → terminals_of (grammar.aggregate op grammar.absent (arguments (es ++ (d ∷ [])))) ++ zs ≡ aggregated_text op es d zs
 plain_text op es d zs =
     ap (λ us. grammar.key (aggregation_word op) ∷ grammar.sign (codes "(") ∷ us)
-    (append_assoc (texts_of (arguments (es ++ (d ∷ [])))) (grammar.sign (codes ")") ∷ []) zs
+    (append_assoc (all_terminals (arguments (es ++ (d ∷ [])))) (grammar.sign (codes ")") ∷ []) zs
     ∙ arguments_text es d (grammar.sign (codes ")") ∷ zs))
 
 behind_text : (op : AggOp) (es : List Written) (d : Written) (w : Bool) (l : Labels) (zs : List Terminal)
-    → text_of (grammar.aggregate op (grammar.behind w l) (arguments (es ++ (d ∷ [])))) ++ zs
-    ≡ aggregated_text op es d (without_text w l ++ zs)
+    → terminals_of (grammar.aggregate op (grammar.behind w l) (arguments (es ++ (d ∷ [])))) ++ zs
+    ≡ aggregated_text op es d (without_terminals w l ++ zs)
 behind_text op es d w l zs =
     ap (λ us. grammar.key (aggregation_word op) ∷ grammar.sign (codes "(") ∷ us)
-    (append_assoc (texts_of (arguments (es ++ (d ∷ [])))) (grammar.sign (codes ")") ∷ without_text w l) zs
-    ∙ arguments_text es d (grammar.sign (codes ")") ∷ (without_text w l ++ zs)))
+    (append_assoc (all_terminals (arguments (es ++ (d ∷ [])))) (grammar.sign (codes ")") ∷ without_terminals w l) zs
+    ∙ arguments_text es d (grammar.sign (codes ")") ∷ (without_terminals w l ++ zs)))
 
 pub aggregate_lawful : (op : AggOp) (c : grammar.Clause) (es : List Written) (d : Written) → IsClause c → AreLawful (arguments es) → IsLawful d
     → IsLawful (grammar.aggregate op c (arguments (es ++ (d ∷ []))))
@@ -171,12 +171,12 @@ call_lawful : (n : List ℕ) (es : List Written) (d : Written) → AreLawful (ar
 call_lawful n es d l m = lawful_next es d l m
 
 bracket_text : (d : Written) (zs : List Terminal)
-    → text_of (grammar.brackets d) ++ zs ≡ grammar.sign (codes "(") ∷ (text_of d ++ (grammar.sign (codes ")") ∷ zs))
-bracket_text d zs = ap (λ us. grammar.sign (codes "(") ∷ us) (append_assoc (text_of d) (grammar.sign (codes ")") ∷ []) zs)
+    → terminals_of (grammar.brackets d) ++ zs ≡ grammar.sign (codes "(") ∷ (terminals_of d ++ (grammar.sign (codes ")") ∷ zs))
+bracket_text d zs = ap (λ us. grammar.sign (codes "(") ∷ us) (append_assoc (terminals_of d) (grammar.sign (codes ")") ∷ []) zs)
 
 whole_closes : (e : Written) (k : List Frame) (t : Tok) → Fits (grammar.sign (codes ")")) (sort t)
     → (d : Written) (j : List Frame) → IsLawful d → AreFrames j
-    → ((zs : List Terminal) → stack_text j (text_of d ++ zs) ≡ stack_text k (text_of e ++ zs))
+    → ((zs : List Terminal) → stack_text j (terminals_of d ++ zs) ≡ stack_text k (terminals_of e ++ zs))
     → Advance (at_mode (draft.whole e) k) t (mode.closed (read_of d) (images j))
 whole_closes e k t f d [] l a g = tt
 whole_closes e k t f d (signed minus ∷ j) l a g = tt
@@ -264,7 +264,7 @@ bool_read : (op : BinaryOp) (b : Written) (k : List Frame) (w : List ℕ) (h : R
 bool_read op b k w h f l a e =
     let c = compared op e in
     moved (at_mode (draft.operated op b) k) (tok.key keyword.Bool w h f) (draft.operated (mode.with_bool op) b) k (grammar.key (codes "bool")) h
-    (λ zs. ap (λ x. stack_text k (text_of b ++ (operator_terminal op ∷ (grammar.bool_text x ++ (grammar.key (codes "bool") ∷ zs))))) (sym c.0))
+    (λ zs. ap (λ x. stack_text k (terminals_of b ++ (operator_terminal op ∷ (grammar.bool_terminals x ++ (grammar.key (codes "bool") ∷ zs))))) (sym c.0))
     (record { lower = l.lower; compares = c.1; lawful = l.lawful; room = l.room; fronted = l.fronted }) a
 
 pub advance_operated : (op : BinaryOp) (b : Written) (k : List Frame) (t : Tok) → Operation op b k → AreFrames k
@@ -286,12 +286,12 @@ keyed_as_due op is_on ls b k t l a =
     (advance_due (left op (Some (only_keys is_on ls)) b ∷ k) t (λ h. refl) (l.0, (l.1, tt), a))
 
 group_text : (is_on : Bool) (ls : Labels) (is_left : Bool) (zs : List Terminal)
-    → keys_text (group_keys is_on ls is_left) ++ zs
-    ≡ keys_text (only_keys is_on ls) ++ (grammar.key (cond is_left (codes "group_left") (codes "group_right")) ∷ zs)
+    → keys_terminals (group_keys is_on ls is_left) ++ zs
+    ≡ keys_terminals (only_keys is_on ls) ++ (grammar.key (cond is_left (codes "group_left") (codes "group_right")) ∷ zs)
 group_text is_on ls is_left zs =
     ap (λ us. draft.on_key is_on ∷ us)
-    (append_assoc (labels_text ls) (grammar.key (cond is_left (codes "group_left") (codes "group_right")) ∷ []) zs
-    ∙ sym (append_assoc (labels_text ls) [] (grammar.key (cond is_left (codes "group_left") (codes "group_right")) ∷ zs)))
+    (append_assoc (labels_terminals ls) (grammar.key (cond is_left (codes "group_left") (codes "group_right")) ∷ []) zs
+    ∙ sym (append_assoc (labels_terminals ls) [] (grammar.key (cond is_left (codes "group_left") (codes "group_right")) ∷ zs)))
 
 pub advance_keyed : (op : BinaryOp) (is_on : Bool) (ls : Labels) (b : Written) (k : List Frame) (t : Tok)
     → Operation op b k × AreLabels ls → AreFrames k
@@ -365,13 +365,13 @@ advance_labels_due p k (tok.sign mark.Open) l a =
     moved _ _ (draft.labels p []) k (grammar.sign (codes "(")) refl (λ zs. refl) l a
 advance_labels_due p k _ l a = tt
 
-without_onto : (w : Bool) (ls : Labels) (zs : List Terminal) → without_text w ls ++ zs ≡ without_key w ∷ (labels_text ls ++ zs)
+without_onto : (w : Bool) (ls : Labels) (zs : List Terminal) → without_terminals w ls ++ zs ≡ without_key w ∷ (labels_terminals ls ++ zs)
 without_onto true ls zs = refl
 without_onto false ls zs = refl
 
 -- what was read once the labels are whole
 labels_done : (d : Draft) (t : Tok) (p : Purpose) (ls : Labels) (k : List Frame) → Fits (grammar.sign (codes ")")) (sort t)
-    → ((zs : List Terminal) → stack_text k (purpose_text p (labels_text ls ++ zs)) ≡ text d (grammar.sign (codes ")") ∷ zs))
+    → ((zs : List Terminal) → stack_text k (purpose_text p (labels_terminals ls ++ zs)) ≡ text d (grammar.sign (codes ")") ∷ zs))
     → AreLabels ls → IsPurpose p k → AreFrames k → Advanced d t (mode.labels_read (purpose_image p) ls.labels (images k))
 labels_done d t (groups_next op w) ls k f g m l a =
     moved d t (draft.arguments_due op (record { without = w; labels = ls })) k (grammar.sign (codes ")")) f
@@ -382,7 +382,7 @@ labels_done d t (groups op es e w) ls k f g m l a =
     (omega arith, aggregate_lawful op (grammar.behind w ls) es e m l.0 l.1, and_no (tops_group k)) a
 labels_done d t (matches op b is_on) ls k f g m l a =
     moved d t (draft.keyed op is_on ls b) k (grammar.sign (codes ")")) f
-    (λ zs. ap (λ us. stack_text k (operated_text op b (draft.on_key is_on ∷ us))) (append_assoc (labels_text ls) [] zs) ∙ g zs)
+    (λ zs. ap (λ us. stack_text k (operated_text op b (draft.on_key is_on ∷ us))) (append_assoc (labels_terminals ls) [] zs) ∙ g zs)
     (l, m) a
 labels_done d t (includes op is_on ks is_left b) ls k f g m l a =
     moved d t draft.due
@@ -392,12 +392,12 @@ labels_done d t (includes op is_on ks is_left b) ls k f g m l a =
     refl (l.0, (l.1, m), a)
   where
     include_text : (is_on : Bool) (ks : Labels) (is_left : Bool) (ls : Labels) (zs : List Terminal)
-        → keys_text (record { on = is_on; labels = ks; group = Some (record { left = is_left; include = Some ls }) }) ++ zs
-        ≡ keys_text (group_keys is_on ks is_left) ++ (labels_text ls ++ zs)
+        → keys_terminals (record { on = is_on; labels = ks; group = Some (record { left = is_left; include = Some ls }) }) ++ zs
+        ≡ keys_terminals (group_keys is_on ks is_left) ++ (labels_terminals ls ++ zs)
     include_text is_on ks is_left ls zs =
         ap (λ us. draft.on_key is_on ∷ us)
-        (append_assoc (labels_text ks) (grammar.key (cond is_left (codes "group_left") (codes "group_right")) ∷ labels_text ls) zs
-        ∙ sym (append_assoc (labels_text ks) (grammar.key (cond is_left (codes "group_left") (codes "group_right")) ∷ []) (labels_text ls ++ zs)))
+        (append_assoc (labels_terminals ks) (grammar.key (cond is_left (codes "group_left") (codes "group_right")) ∷ labels_terminals ls) zs
+        ∙ sym (append_assoc (labels_terminals ks) (grammar.key (cond is_left (codes "group_left") (codes "group_right")) ∷ []) (labels_terminals ls ++ zs)))
 
 not_true : (b : Bool) → not b ≡ true → b ≡ false
 not_true true h = absurd (grind arith)

@@ -14,7 +14,7 @@ use Rattle.pf_model.specs.declared.expr.Matcher.{Matcher}
 use Rattle.pf_model.specs.declared.functions.AggOp.{AggOp}
 use Rattle.pf_model.specs.declared.functions.Sign.{Sign}
 use Rattle.pf_model.specs.declared.functions.Sign.TheVariants as operator
-use Rattle.pf_model.specs.Grammar.{Terminal, Fits, FitAll, operator_terminal, key, IsPositive, Moment, moment_text, Offset, offset_text, Modifiers, modifiers_text, these, range_text}
+use Rattle.pf_model.specs.Grammar.{Terminal, Fits, FitAll, operator_terminal, key, IsPositive, AtModifier, at_modifier_terminals, Offset, offset_terminals, Modifiers, modifiers_terminals, these, range_terminals}
 use Rattle.pf_model.specs.Grammar as grammar
 use Rattle.pf_model.specs.Tokens as token
 use Rattle.pf_model.specs.Trees.{Tree}
@@ -305,8 +305,8 @@ by_mark m s t zs us e h =
 abbrev bare_metric : List ℕ → Option Target
 bare_metric w = Some (selector (metric w ∷ []) None)
 
-by_moment : (w : List ℕ) (k : List Frame) (m : Moment) (zs : List Terminal) (us : List token.Sort)
-    → Fit (moment_text m ++ zs) us
+by_moment : (w : List ℕ) (k : List Frame) (m : AtModifier) (zs : List Terminal) (us : List token.Sort)
+    → Fit (at_modifier_terminals m ++ zs) us
     → value (on (named w) k) (lexemes us) ≡ value (on (modified (bare_metric w) nothing_read) k) (lexemes us)
 by_moment w k (grammar.time s n) zs us h =
     by_mark mark.At (on (named w) k) (on (modified (bare_metric w) nothing_read) k) _ us refl h
@@ -316,7 +316,7 @@ by_moment w k grammar.end zs us h =
     by_mark mark.At (on (named w) k) (on (modified (bare_metric w) nothing_read) k) _ us refl h
 
 by_offset : (w : List ℕ) (k : List Frame) (o : Offset) (zs : List Terminal) (us : List token.Sort)
-    → Fit (offset_text o ++ zs) us
+    → Fit (offset_terminals o ++ zs) us
     → value (on (named w) k) (lexemes us) ≡ value (on (modified (bare_metric w) nothing_read) k) (lexemes us)
 by_offset w k o zs us h =
     by_first (on (named w) k) (on (modified (bare_metric w) nothing_read) k) (key (codes "offset")) _ us
@@ -334,16 +334,16 @@ by_tail w k tail us p h =
       operating = λ o x g q. q.named w k;
     }) (λ z. named_square w k) p h
 
-by_modifiers : (w : List ℕ) (k : List Frame) (o : Option Offset) (m : Option Moment) (at_first : Bool) (tail : Tail) (us : List token.Sort)
+by_modifiers : (w : List ℕ) (k : List Frame) (o : Option Offset) (m : Option AtModifier) (at_first : Bool) (tail : Tail) (us : List token.Sort)
     → May 0 tail
-    → Fit (cond at_first (these moment_text m ++ these offset_text o) (these offset_text o ++ these moment_text m) ++ terminals tail) us
+    → Fit (cond at_first (these at_modifier_terminals m ++ these offset_terminals o) (these offset_terminals o ++ these at_modifier_terminals m) ++ terminals tail) us
     → value (on (named w) k) (lexemes us) ≡ value (on (modified (bare_metric w) nothing_read) k) (lexemes us)
 by_modifiers w k o (Some m) true tail us p h =
-    by_moment w k m (these offset_text o ++ terminals tail) us
-    (record { all = subst (λ xs. FitAll xs us) (append_assoc (moment_text m) (these offset_text o) (terminals tail)) h.all })
+    by_moment w k m (these offset_terminals o ++ terminals tail) us
+    (record { all = subst (λ xs. FitAll xs us) (append_assoc (at_modifier_terminals m) (these offset_terminals o) (terminals tail)) h.all })
 by_modifiers w k (Some o) m false tail us p h =
-    by_offset w k o (these moment_text m ++ terminals tail) us
-    (record { all = subst (λ xs. FitAll xs us) (append_assoc (offset_text o) (these moment_text m) (terminals tail)) h.all })
+    by_offset w k o (these at_modifier_terminals m ++ terminals tail) us
+    (record { all = subst (λ xs. FitAll xs us) (append_assoc (offset_terminals o) (these at_modifier_terminals m) (terminals tail)) h.all })
 by_modifiers w k (Some o) None true tail us p h = by_offset w k o (terminals tail) us h
 by_modifiers w k None None true tail us p h = by_tail w k tail us p h
 by_modifiers w k None (Some m) false tail us p h = by_moment w k m (terminals tail) us h
@@ -351,7 +351,7 @@ by_modifiers w k None None false tail us p h = by_tail w k tail us p h
 
 -- a name before no bracket and no brace is a metric's
 pub named_alike : (w : List ℕ) (k : List Frame) (r : Option ℕ) (mods : Modifiers) (tail : Tail) (us : List token.Sort) → May 0 tail
-    → Fit (these range_text r ++ (modifiers_text mods ++ terminals tail)) us
+    → Fit (these range_terminals r ++ (modifiers_terminals mods ++ terminals tail)) us
     → value (on (named w) k) (lexemes us) ≡ value (on (modified (bare_metric w) nothing_read) k) (lexemes us)
 named_alike w k None mods tail us p h = by_modifiers w k mods.offset mods.at mods.at_first tail us p h
 named_alike w k (Some d) mods tail us p h =

@@ -10,7 +10,7 @@ use Rattle.pf_model.specs.declared.expr.BinaryOp.{BinaryOp}
 use Rattle.pf_model.specs.declared.expr.Matcher.{Matcher}
 use Rattle.pf_model.specs.declared.functions.AggOp.{AggOp}
 use Rattle.pf_model.specs.declared.functions.Sign.{Sign}
-use Rattle.pf_model.specs.Grammar.{Terminal, Fits, FitAll, Written, Arguments, number, text, brackets, call, aggregate, unary, binary, select, subquery, none, more, absent, before, behind, text_of, texts_of, more_texts, these, Keys, keys_text, Group, group_text, bool_text, Labels, labels_text, without_text, before_text, behind_text, Clause, operator_terminal, level, IsLawful, AreLawful, IsClause, AreKeys, AreLabels, ends_with_group, begins_with_bracket, matched_of, grouped_of, side_of, include_of, labels_of, Modifiers, modifiers_text, AreModifiers, Selected, selected_text, AreSelected, Braces, braces_text, range_text, IsPositive, metric_matcher, braces_matchers, listed, comma_if, matcher_text, is_named}
+use Rattle.pf_model.specs.Grammar.{Terminal, Fits, FitAll, Written, Arguments, number, text, brackets, call, aggregate, unary, binary, select, subquery, none, more, absent, before, behind, terminals_of, all_terminals, more_terminals, these, Keys, keys_terminals, Group, group_terminals, bool_terminals, Labels, labels_terminals, without_terminals, before_terminals, behind_terminals, Clause, operator_terminal, level, IsLawful, AreLawful, IsClause, AreKeys, AreLabels, ends_with_group, begins_with_bracket, matched_of, grouped_of, side_of, include_of, labels_of, Modifiers, modifiers_terminals, AreModifiers, Selected, selected_terminals, AreSelected, Braces, braces_terminals, range_terminals, IsPositive, metric_matcher, braces_matchers, listed, comma_if, matcher_terminals, is_named}
 use Rattle.pf_model.specs.Grammar as grammar
 use Rattle.pf_model.specs.Tokens as token
 use Rattle.pf_model.specs.Trees.{Tree}
@@ -67,7 +67,7 @@ compares true false h e = absurd (grind arith)
 compares false c h e = absurd (grind arith)
 
 bool_goes : (s : Sign) (b : Bool) (e : Held) (k : List Frame) (zs : List Terminal) (us : List token.Sort)
-    → (b && not (is_comparison s)) ≡ false → Fit (bool_text b ++ zs) us
+    → (b && not (is_comparison s)) ≡ false → Fit (bool_terminals b ++ zs) us
     → Goes (on (operated (record { sign = s; with_bool = false }) e) k) (on (operated (record { sign = s; with_bool = b }) e) k) zs us
 bool_goes s false e k zs us c h = stays _ zs us h
 bool_goes s true e k zs us c h =
@@ -85,7 +85,7 @@ same_value : {s t r : State} {zs : List Terminal} {us : List token.Sort} → Goe
 same_value g f = record { behind = g.behind; fits = g.fits; is = g.is ∙ f g.behind g.fits }
 
 key_labels : (op : BinaryOp) (a : Held) (is_on : Bool) (l : Labels) (k : List Frame) (zs : List Terminal) (us : List token.Sort)
-    → AreLabels l → Fit (grammar.key (cond is_on (codes "on") (codes "ignoring")) ∷ (labels_text l ++ zs)) us
+    → AreLabels l → Fit (grammar.key (cond is_on (codes "on") (codes "ignoring")) ∷ (labels_terminals l ++ zs)) us
     → Goes (on (operated op a) k)
     (on (keyed op (record { on = is_on; labels = l.labels; side = side_of None; include = [] }) a) k) zs us
 key_labels op a true l k zs us p h =
@@ -111,52 +111,52 @@ abbrev with_include : Matched → List (List ℕ) → Matched
 with_include m ls = record { on = m.on; labels = m.labels; side = m.side; include = ls }
 
 include_goes : (op : BinaryOp) (m : Matched) (a : Held) (i : Option Labels) (k : List Frame) (b : Written) (zs : List Terminal) (us : List token.Sort)
-    → IfSome i AreLabels → IsLawful b → (is_none i && begins_with_bracket (text_of b)) ≡ false → m.include ≡ []
-    → Fit (these labels_text i ++ (text_of b ++ zs)) us
-    → Goes (on (grouped op m a) k) (right op (with_include m (labels_of i)) a k) (text_of b ++ zs) us
+    → IfSome i AreLabels → IsLawful b → (is_none i && begins_with_bracket (terminals_of b)) ≡ false → m.include ≡ []
+    → Fit (these labels_terminals i ++ (terminals_of b ++ zs)) us
+    → Goes (on (grouped op m a) k) (right op (with_include m (labels_of i)) a k) (terminals_of b ++ zs) us
 include_goes op m a None k b zs us p l c e h =
-    subst (λ ls. Goes (on (grouped op m a) k) (right op (with_include m ls) a k) (text_of b ++ zs) us) e
-    (same_value (stays (on (grouped op m a) k) (text_of b ++ zs) us h)
+    subst (λ ls. Goes (on (grouped op m a) k) (right op (with_include m ls) a k) (terminals_of b ++ zs) us) e
+    (same_value (stays (on (grouped op m a) k) (terminals_of b ++ zs) us h)
     (λ vs f. unopened_alike (on (grouped op m a) k) (right op m a k) b zs vs l c (λ x q. q.grouped op m a k) f))
 include_goes op m a (Some i) k b zs us p l c e h =
     then (by_mark mark.Open (on (grouped op m a) k) (on (labels (includes op m a) []) k) _ us refl
-    (refit us (labels_onto i (text_of b ++ zs)) h))
-    (λ vs f. all_labels (includes op m a) k i.labels i.comma (text_of b ++ zs) vs p f)
+    (refit us (labels_onto i (terminals_of b ++ zs)) h))
+    (λ vs f. all_labels (includes op m a) k i.labels i.comma (terminals_of b ++ zs) vs p f)
 
 group_goes : (op : BinaryOp) (m : Matched) (a : Held) (g : Option Group) (k : List Frame) (b : Written) (zs : List Terminal) (us : List token.Sort)
     → IfSome g (λ g. IfSome g.include AreLabels) → IsLawful b
-    → (option_map_or grammar.lacks_labels g false && begins_with_bracket (text_of b)) ≡ false
+    → (option_map_or grammar.lacks_labels g false && begins_with_bracket (terminals_of b)) ≡ false
     → m.include ≡ [] → m.side ≡ side_of None
-    → Fit (these group_text g ++ (text_of b ++ zs)) us
+    → Fit (these group_terminals g ++ (terminals_of b ++ zs)) us
     → Goes (on (keyed op m a) k)
-    (right op (record { on = m.on; labels = m.labels; side = side_of g; include = include_of g }) a k) (text_of b ++ zs) us
+    (right op (record { on = m.on; labels = m.labels; side = side_of g; include = include_of g }) a k) (terminals_of b ++ zs) us
 group_goes op m a None k b zs us p l c e s h =
-    subst (λ i. Goes (on (keyed op m a) k) (right op (record { on = m.on; labels = m.labels; side = side_of None; include = i }) a k) (text_of b ++ zs) us) e
-    (subst (λ i. Goes (on (keyed op m a) k) (right op (record { on = m.on; labels = m.labels; side = i; include = m.include }) a k) (text_of b ++ zs) us) s
-    (same_value (stays (on (keyed op m a) k) (text_of b ++ zs) us h)
+    subst (λ i. Goes (on (keyed op m a) k) (right op (record { on = m.on; labels = m.labels; side = side_of None; include = i }) a k) (terminals_of b ++ zs) us) e
+    (subst (λ i. Goes (on (keyed op m a) k) (right op (record { on = m.on; labels = m.labels; side = i; include = m.include }) a k) (terminals_of b ++ zs) us) s
+    (same_value (stays (on (keyed op m a) k) (terminals_of b ++ zs) us h)
     (λ vs f. fronts_alike (on (keyed op m a) k) (right op m a k) b zs vs l (λ x q. q.keyed op m a k) f)))
 group_goes op m a (Some g) k b zs us p l c e s h =
     then (group_key op m a g.left k _ us h)
     (λ vs f. include_goes op (with_side m g.left) a g.include k b zs vs p l c refl f)
 
 keys_goes : (op : BinaryOp) (a : Held) (keys : Option Keys) (k : List Frame) (b : Written) (zs : List Terminal) (us : List token.Sort)
-    → IfSome keys AreKeys → IsLawful b → (ends_with_group keys && begins_with_bracket (text_of b)) ≡ false
-    → Fit (these keys_text keys ++ (text_of b ++ zs)) us
-    → Goes (on (operated op a) k) (right op (matched_of keys) a k) (text_of b ++ zs) us
+    → IfSome keys AreKeys → IsLawful b → (ends_with_group keys && begins_with_bracket (terminals_of b)) ≡ false
+    → Fit (these keys_terminals keys ++ (terminals_of b ++ zs)) us
+    → Goes (on (operated op a) k) (right op (matched_of keys) a k) (terminals_of b ++ zs) us
 keys_goes op a None k b zs us p l c h =
-    same_value (stays (on (operated op a) k) (text_of b ++ zs) us h)
+    same_value (stays (on (operated op a) k) (terminals_of b ++ zs) us h)
     (λ vs f. fronts_alike (on (operated op a) k) (right op no_keys a k) b zs vs l (λ x q. q.operated op a k) f)
 keys_goes op a (Some y) k b zs us p l c h =
     then (key_labels op a y.on y.labels k _ us p.0
     (refit us (ap (λ xs. grammar.key (cond y.on (codes "on") (codes "ignoring")) ∷ xs)
-    (append_assoc (labels_text y.labels) (these group_text y.group) (text_of b ++ zs))) h))
+    (append_assoc (labels_terminals y.labels) (these group_terminals y.group) (terminals_of b ++ zs))) h))
     (λ vs f. group_goes op (record { on = y.on; labels = y.labels.labels; side = side_of None; include = [] }) a y.group k b zs vs
     p.1 l c refl refl f)
 
 -- ---- selectors
 
 range_goes : (ms : List Matcher) (r : Option ℕ) (k : List Frame) (zs : List Terminal) (us : List token.Sort)
-    → IfSome r IsPositive → Fit (these range_text r ++ zs) us
+    → IfSome r IsPositive → Fit (these range_terminals r ++ zs) us
     → Goes (on (modified (Some (selector ms None)) nothing_read) k) (on (modified (selected_target ms r) nothing_read) k) zs us
 range_goes ms None k zs us p h = stays _ zs us h
 range_goes ms (Some d) k zs us p h =
@@ -172,9 +172,9 @@ name_goes n k zs us h = one (on due k) (on (named n) k) (grammar.name n) zs us (
 
 selector_goes : (n : Option (List ℕ)) (b : Option Braces) (r : Option ℕ) (mods : Modifiers) (k : List Frame) (tail : Tail) (us : List token.Sort)
     → AreSelected n b → May 0 tail
-    → Fit (selected_text (record { metric = n; braces = b }) ++ (these range_text r ++ (modifiers_text mods ++ terminals tail))) us
+    → Fit (selected_terminals (record { metric = n; braces = b }) ++ (these range_terminals r ++ (modifiers_terminals mods ++ terminals tail))) us
     → Goes (on due k) (on (modified (Some (selector (selected_matchers (record { metric = n; braces = b })) None)) nothing_read) k)
-    (these range_text r ++ (modifiers_text mods ++ terminals tail)) us
+    (these range_terminals r ++ (modifiers_terminals mods ++ terminals tail)) us
 selector_goes None None r mods k tail us p q h = absurd p
 selector_goes None (Some b) r mods k tail us p q h =
     then (by_mark mark.OpenBrace (on due k) (on (label_due false []) k) _ us refl (refit us (braces_onto b _) h))
@@ -191,7 +191,7 @@ selector_goes (Some n) (Some b) r mods k tail us p q h =
 
 clause_labels : (p : Bool → Purpose) (w : Bool) (l : Labels) (s : State) (k : List Frame) (zs : List Terminal) (us : List token.Sort)
     → ((v : Bool) (x : List ℕ) → step s.mode s.stack (word (Some (keyword.Clause v)) x) ≡ Some (on (labels_due (p v)) k))
-    → AreLabels l → Fit (without_text w l ++ zs) us → Goes s (labels_read (p w) l.labels k) zs us
+    → AreLabels l → Fit (without_terminals w l ++ zs) us → Goes s (labels_read (p w) l.labels k) zs us
 clause_labels p false l s k zs us e a h =
     then (by_key (keyword.Clause false) s (on (labels_due (p false)) k) _ us refl (λ x. e false x) h)
     (λ vs f. then (by_mark mark.Open (on (labels_due (p false)) k) (on (labels (p false) []) k) _ vs refl (refit vs (labels_onto l zs) f))
@@ -205,9 +205,9 @@ clause_labels p true l s k zs us e a h =
 
 abbrev tail_of : Arguments → List Terminal → Tail
 tail_of none zs = closing zs
-tail_of (more e es) zs = separating ((text_of e ++ more_texts es) ++ (grammar.sign (codes ")") ∷ zs))
+tail_of (more e es) zs = separating ((terminals_of e ++ more_terminals es) ++ (grammar.sign (codes ")") ∷ zs))
 
-tail_is : (es : Arguments) (zs : List Terminal) → more_texts es ++ (grammar.sign (codes ")") ∷ zs) ≡ terminals (tail_of es zs)
+tail_is : (es : Arguments) (zs : List Terminal) → more_terminals es ++ (grammar.sign (codes ")") ∷ zs) ≡ terminals (tail_of es zs)
 tail_is none zs = refl
 tail_is (more e es) zs = refl
 
@@ -221,17 +221,17 @@ bracketed : (xs zs : List Terminal) → (xs ++ (grammar.sign (codes ")") ∷ [])
 bracketed xs zs = append_assoc xs (grammar.sign (codes ")") ∷ []) zs
 
 before_onto : (w : Bool) (l : Labels) (xs zs : List Terminal)
-    → (without_text w l ++ (grammar.sign (codes "(") ∷ (xs ++ (grammar.sign (codes ")") ∷ [])))) ++ zs
-    ≡ without_text w l ++ (grammar.sign (codes "(") ∷ (xs ++ (grammar.sign (codes ")") ∷ zs)))
+    → (without_terminals w l ++ (grammar.sign (codes "(") ∷ (xs ++ (grammar.sign (codes ")") ∷ [])))) ++ zs
+    ≡ without_terminals w l ++ (grammar.sign (codes "(") ∷ (xs ++ (grammar.sign (codes ")") ∷ zs)))
 before_onto w l xs zs =
-    append_assoc (without_text w l) (grammar.sign (codes "(") ∷ (xs ++ (grammar.sign (codes ")") ∷ []))) zs
-    ∙ ap (λ ys. without_text w l ++ (grammar.sign (codes "(") ∷ ys)) (bracketed xs zs)
+    append_assoc (without_terminals w l) (grammar.sign (codes "(") ∷ (xs ++ (grammar.sign (codes ")") ∷ []))) zs
+    ∙ ap (λ ys. without_terminals w l ++ (grammar.sign (codes "(") ∷ ys)) (bracketed xs zs)
 
 behind_onto : (w : Bool) (l : Labels) (xs zs : List Terminal)
-    → (grammar.sign (codes "(") ∷ (xs ++ (grammar.sign (codes ")") ∷ without_text w l))) ++ zs
-    ≡ grammar.sign (codes "(") ∷ (xs ++ (grammar.sign (codes ")") ∷ (without_text w l ++ zs)))
+    → (grammar.sign (codes "(") ∷ (xs ++ (grammar.sign (codes ")") ∷ without_terminals w l))) ++ zs
+    ≡ grammar.sign (codes "(") ∷ (xs ++ (grammar.sign (codes ")") ∷ (without_terminals w l ++ zs)))
 behind_onto w l xs zs =
-    ap (λ ys. grammar.sign (codes "(") ∷ ys) (append_assoc xs (grammar.sign (codes ")") ∷ without_text w l) zs)
+    ap (λ ys. grammar.sign (codes "(") ∷ ys) (append_assoc xs (grammar.sign (codes ")") ∷ without_terminals w l) zs)
 
 binary_onto : (xs ys ws vs zs : List Terminal) (o : Terminal)
     → (xs ++ (o ∷ (ys ++ (ws ++ vs)))) ++ zs ≡ xs ++ (o ∷ (ys ++ (ws ++ (vs ++ zs))))
@@ -280,7 +280,7 @@ square_goes e d r k zs us p q h =
     (λ xs i. resolution_goes e d r k zs xs q i)))
 
 modified_goes : (m : Modifiers) (t : Option Target) (k : List Frame) (tail : Tail) (us : List token.Sort)
-    → AreModifiers m → May 0 tail → Fit (modifiers_text m ++ terminals tail) us
+    → AreModifiers m → May 0 tail → Fit (modifiers_terminals m ++ terminals tail) us
     → Goes (on (modified t nothing_read) k) (on (whole (held_target t (read_modifiers m))) k) (terminals tail) us
 modified_goes m t k tail us p q h =
     same_value (all_modifiers m t k (terminals tail) us p h) (λ vs f. modified_alike t (read_modifiers m) k tail vs q f)
@@ -300,39 +300,39 @@ arguments_read args = arguments_of args (Some [])
 
 -- an aggregation behind its word, where its arguments are read
 clause_goes : (op : AggOp) (clause : Clause) (args : Arguments) (k : List Frame) (tail : Tail) (us : List token.Sort)
-    → ((c : Callee) (zs : List Terminal) (vs : List token.Sort) → Fit (texts_of args ++ (grammar.sign (codes ")") ∷ zs)) vs
+    → ((c : Callee) (zs : List Terminal) (vs : List token.Sort) → Fit (all_terminals args ++ (grammar.sign (codes ")") ∷ zs)) vs
     → Goes (on due (calling c (Some []) ∷ k)) (on (called c (arguments_read args)) k) zs vs)
     → IsClause clause → May 0 tail
-    → Fit ((before_text clause ++ (grammar.sign (codes "(") ∷ (texts_of args ++ (grammar.sign (codes ")") ∷ behind_text clause)))) ++ terminals tail) us
+    → Fit ((before_terminals clause ++ (grammar.sign (codes "(") ∷ (all_terminals args ++ (grammar.sign (codes ")") ∷ behind_terminals clause)))) ++ terminals tail) us
     → Goes (on (clause_due op) k) (on (whole (held_aggregate op (grouped_of clause) (arguments_read args))) k) (terminals tail) us
 clause_goes op absent args k tail us read p q h =
     same_value
     (then (by_mark mark.Open (on (clause_due op) k) (on due (calling (aggregation op None) (Some []) ∷ k)) _ us refl h)
-    (λ vs f. read (aggregation op None) (terminals tail) vs (refit vs (bracketed (texts_of args) (terminals tail)) f)))
+    (λ vs f. read (aggregation op None) (terminals tail) vs (refit vs (bracketed (all_terminals args) (terminals tail)) f)))
     (λ vs f. aggregated_alike op (arguments_read args) k tail vs q f)
 clause_goes op (before w l) args k tail us read p q h =
     let g : Grouped = record { without = w; labels = l.labels } in
     then (clause_labels (groups_next op) w l (on (clause_due op) k) k _ us (λ v x. refl) p
-    (refit us (before_onto w l (texts_of args) (terminals tail)) h))
+    (refit us (before_onto w l (all_terminals args) (terminals tail)) h))
     (λ vs f. then (by_mark mark.Open (on (arguments_due op g) k) (on due (calling (aggregation op (Some g)) (Some []) ∷ k)) _ vs refl f)
     (λ ws i. read (aggregation op (Some g)) (terminals tail) ws i))
 clause_goes op (behind w l) args k tail us read p q h =
     then (by_mark mark.Open (on (clause_due op) k) (on due (calling (aggregation op None) (Some []) ∷ k)) _ us refl
-    (refit us (behind_onto w l (texts_of args) (terminals tail)) h))
-    (λ vs f. then (read (aggregation op None) (without_text w l ++ terminals tail) vs f)
+    (refit us (behind_onto w l (all_terminals args) (terminals tail)) h))
+    (λ vs f. then (read (aggregation op None) (without_terminals w l ++ terminals tail) vs f)
     (λ ws i. clause_labels (groups op (arguments_read args)) w l (on (aggregated op (arguments_read args)) k) k (terminals tail) ws
     (λ v x. refl) p i))
 
 argument_onto : (e : Written) (es : Arguments) (zs : List Terminal)
-    → (text_of e ++ more_texts es) ++ (grammar.sign (codes ")") ∷ zs) ≡ text_of e ++ terminals (tail_of es zs)
+    → (terminals_of e ++ more_terminals es) ++ (grammar.sign (codes ")") ∷ zs) ≡ terminals_of e ++ terminals (tail_of es zs)
 argument_onto e es zs =
-    append_assoc (text_of e) (more_texts es) (grammar.sign (codes ")") ∷ zs) ∙ ap (λ xs. text_of e ++ xs) (tail_is es zs)
+    append_assoc (terminals_of e) (more_terminals es) (grammar.sign (codes ")") ∷ zs) ∙ ap (λ xs. terminals_of e ++ xs) (tail_is es zs)
 
 -- ---- all queries
 
 mutual
   derived : (e : Written) (k : List Frame) (tail : Tail) (us : List token.Sort) → IsLawful e → Room (level e) k → May (level e) tail
-      → Fit (text_of e ++ terminals tail) us → Goes (on due k) (on (whole (read_of e)) k) (terminals tail) us
+      → Fit (terminals_of e ++ terminals tail) us → Goes (on due k) (on (whole (read_of e)) k) (terminals tail) us
   derived (number n) k tail us l r m h =
       one (on due k) (on (whole (Some (tree.number n))) k) (grammar.number n) (terminals tail) us
       (λ u f. ap (step due k) (at_number n u f)) h
@@ -341,7 +341,7 @@ mutual
       (λ u f. ap (step due k) (at_string s u f)) h
   derived (brackets e) k tail us l r m h =
       then (by_mark mark.Open (on due k) (on due (bracket ∷ k)) _ us refl h)
-      (λ vs f. then (derived e (bracket ∷ k) (closing (terminals tail)) vs l tt tt (refit vs (bracketed (text_of e) (terminals tail)) f))
+      (λ vs f. then (derived e (bracket ∷ k) (closing (terminals tail)) vs l tt tt (refit vs (bracketed (terminals_of e) (terminals tail)) f))
       (λ ws g. by_mark mark.Close (on (whole (read_of e)) (bracket ∷ k)) (on (whole (read_of e)) k) (terminals tail) ws refl g))
   derived (call n none) k tail us l r m h =
       then (name_goes n k _ us h)
@@ -350,14 +350,14 @@ mutual
   derived (call n (more e es)) k tail us l r m h =
       then (name_goes n k _ us h)
       (λ vs f. then
-      (same_value (by_mark mark.Open (on (named n) k) (on (first_due (function_of n)) k) (text_of e ++ (more_texts es ++ (grammar.sign (codes ")") ∷ terminals tail))) vs refl
+      (same_value (by_mark mark.Open (on (named n) k) (on (first_due (function_of n)) k) (terminals_of e ++ (more_terminals es ++ (grammar.sign (codes ")") ∷ terminals tail))) vs refl
       (refit vs (ap (λ xs. grammar.sign (codes "(") ∷ xs)
-      (bracketed (text_of e ++ more_texts es) (terminals tail)
-      ∙ append_assoc (text_of e) (more_texts es) (grammar.sign (codes ")") ∷ terminals tail))) f))
+      (bracketed (terminals_of e ++ more_terminals es) (terminals tail)
+      ∙ append_assoc (terminals_of e) (more_terminals es) (grammar.sign (codes ")") ∷ terminals tail))) f))
       (λ ws g. fronts_alike (on (first_due (function_of n)) k) (on due (calling (function (function_of n)) (Some []) ∷ k))
       e _ ws l.0 (λ x q. q.first (function_of n) k) g))
       (λ ws g. then (derived e (calling (function (function_of n)) (Some []) ∷ k) (tail_of es (terminals tail)) ws l.0 tt
-      (tail_may (level e) es (terminals tail)) (refit ws (ap (λ xs. text_of e ++ xs) (tail_is es (terminals tail))) g))
+      (tail_may (level e) es (terminals tail)) (refit ws (ap (λ xs. terminals_of e ++ xs) (tail_is es (terminals tail))) g))
       (λ xs i. derived_more es (function (function_of n)) (Some []) (read_of e) k (terminals tail) xs l.1 i)))
   derived (aggregate op clause none) k tail us l r m h = absurd l
   derived (aggregate op clause (more e es)) k tail us l r m h =
@@ -373,11 +373,11 @@ mutual
       (λ vs f. derived e (signed minus ∷ k) tail vs l.1 l.0 (may_lower (level e) 1 tail l.0 m) f))
       (λ vs f. signed_alike minus (read_of e) k tail vs m f)
   derived (binary op keys a b) k tail us l r m h =
-      let rest = text_of b ++ terminals tail in
+      let rest = terminals_of b ++ terminals tail in
       same_value
-      (then (derived a k (operating op (bool_text op.with_bool ++ (these keys_text keys ++ rest))) us l.5
+      (then (derived a k (operating op (bool_terminals op.with_bool ++ (these keys_terminals keys ++ rest))) us l.5
       (room_lower (level a) (level_of op.sign) k l.0 r) l.0
-      (refit us (binary_onto (text_of a) (bool_text op.with_bool) (these keys_text keys) (text_of b) (terminals tail) (operator_terminal op)) h))
+      (refit us (binary_onto (terminals_of a) (bool_terminals op.with_bool) (these keys_terminals keys) (terminals_of b) (terminals tail) (operator_terminal op)) h))
       (λ vs f. then (operator_goes op.sign (read_of a) k _ vs r f)
       (λ ws g. then (bool_goes op.sign op.with_bool (read_of a) k _ ws l.2 g)
       (λ xs i. then (keys_goes op (read_of a) keys k b (terminals tail) xs l.3 l.6 l.4 i)
@@ -386,13 +386,13 @@ mutual
       (λ vs f. left_alike op (matched_of keys) (read_of a) (read_of b) k tail vs m f)
   derived (select s d mods) k tail us l r m h =
       then (selector_goes s.metric s.braces d mods k tail us l.0 m
-      (refit us (select_onto (selected_text s) (these range_text d) (modifiers_text mods) (terminals tail)) h))
+      (refit us (select_onto (selected_terminals s) (these range_terminals d) (modifiers_terminals mods) (terminals tail)) h))
       (λ vs f. then (range_goes (selected_matchers s) d k _ vs l.1 f)
       (λ ws g. modified_goes mods (selected_target (selected_matchers s) d) k tail ws l.2 m g))
   derived (subquery e d res mods) k tail us l r m h =
-      let zs = resolved res ++ (grammar.sign (codes "]") ∷ (modifiers_text mods ++ terminals tail)) in
+      let zs = resolved res ++ (grammar.sign (codes "]") ∷ (modifiers_terminals mods ++ terminals tail)) in
       then (derived e k (squared d zs) us l.1 (room_lower (level e) 0 k l.0 r) (l.0, l.2)
-      (refit us (subquery_onto (text_of e) (modifiers_text mods) (terminals tail) d res) h))
+      (refit us (subquery_onto (terminals_of e) (modifiers_terminals mods) (terminals tail) d res) h))
       (λ vs f. then (square_goes (read_of e) d res k _ vs l.2 l.3 f)
       (λ ws g. modified_goes mods (subquery_target (read_of e) d res) k tail ws l.4 m g))
 
@@ -408,10 +408,10 @@ mutual
       (λ ws g. derived_more es c (with_argument args e) (read_of d) k zs ws l.1 g))
 
 -- a derived query is read, and its own is held
-pub derived_read : (e : Written) (us : List token.Sort) → IsLawful e → FitAll (text_of e) us
+pub derived_read : (e : Written) (us : List token.Sort) → IsLawful e → FitAll (terminals_of e) us
     → value start (lexemes us) ≡ Some (read_of e)
 derived_read e us l h =
-    let g = derived e [] nothing us l tt tt (record { all = subst (λ zs. FitAll zs us) (sym (append-nil (text_of e))) h }) in
+    let g = derived e [] nothing us l tt tt (record { all = subst (λ zs. FitAll zs us) (sym (append-nil (terminals_of e))) h }) in
     g.is ∙ none_behind (read_of e) g.behind g.fits.all
   where
     none_behind : (a : Held) (vs : List token.Sort) → FitAll [] vs → value (on (whole a) []) (lexemes vs) ≡ Some a

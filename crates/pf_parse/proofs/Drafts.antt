@@ -9,7 +9,7 @@ use Rattle.pf_model.specs.declared.expr.BinaryOp.{BinaryOp}
 use Rattle.pf_model.specs.declared.expr.Matcher.{Matcher}
 use Rattle.pf_model.specs.declared.expr.MatchSign.{MatchSign}
 use Rattle.pf_model.specs.declared.functions.AggOp.{AggOp}
-use Rattle.pf_model.specs.Grammar.{Terminal, key, name, label, exactly, sign, duration, Written, Arguments, none, more, text_of, texts_of, more_texts, these, comma_if, commas_before, listed, Labels, labels_text, Selected, selected_text, Braces, braces_text, matcher_text, Offset, offset_text, Moment, moment_text, front_text, Modifiers, modifiers_text, range_text, without_text, operator_terminal, bool_text, Keys, keys_text, Clause, level, is_nil, IsLawful, AreLawful, AreLabels, AreKeys, IsClause, AreSelected, is_named, AreModifiers, IsMoment, IsPositive, ends_with_group, begins_with_bracket, metric_matcher, matched_of}
+use Rattle.pf_model.specs.Grammar.{Terminal, key, name, label, exactly, sign, duration, Written, Arguments, none, more, terminals_of, all_terminals, more_terminals, these, comma_if, commas_before, listed, Labels, labels_terminals, Selected, selected_terminals, Braces, braces_terminals, matcher_terminals, Offset, offset_terminals, AtModifier, at_modifier_terminals, front_terminals, Modifiers, modifiers_terminals, range_terminals, without_terminals, operator_terminal, bool_terminals, Keys, keys_terminals, Clause, level, is_nil, IsLawful, AreLawful, AreLabels, AreKeys, IsClause, AreSelected, is_named, AreModifiers, IsAtModifier, IsPositive, ends_with_group, begins_with_bracket, metric_matcher, matched_of}
 use Rattle.pf_model.specs.Grammar as grammar
 use Rattle.pf_model.specs.Trees.{Tree}
 use Rattle.pf_model.specs.declared.expr.At.{At}
@@ -73,14 +73,14 @@ images k = map frame_image k
 abbrev pub callee_text : Callee → List Terminal → List Terminal
 callee_text (function n) zs = name n ∷ zs
 callee_text (aggregation op None) zs = key (aggregation_word op) ∷ zs
-callee_text (aggregation op (Some c)) zs = key (aggregation_word op) ∷ (without_text c.without c.labels ++ zs)
+callee_text (aggregation op (Some c)) zs = key (aggregation_word op) ∷ (without_terminals c.without c.labels ++ zs)
 
 abbrev pub frame_text : Frame → List Terminal → List Terminal
 frame_text (signed minus) zs = sign (cond minus (codes "-") (codes "+")) ∷ zs
 frame_text (left op keys a) zs =
-    text_of a ++ (operator_terminal op ∷ (bool_text op.with_bool ++ (these keys_text keys ++ zs)))
+    terminals_of a ++ (operator_terminal op ∷ (bool_terminals op.with_bool ++ (these keys_terminals keys ++ zs)))
 frame_text bracket zs = sign (codes "(") ∷ zs
-frame_text (calling c es) zs = callee_text c (sign (codes "(") ∷ fronts (map text_of es) zs)
+frame_text (calling c es) zs = callee_text c (sign (codes "(") ∷ fronts (map terminals_of es) zs)
 
 abbrev pub stack_text : List Frame → List Terminal → List Terminal
 stack_text [] zs = zs
@@ -110,7 +110,7 @@ pub record Operation (op : BinaryOp) (a : Written) (k : List Frame) : Type 0 whe
   pub compares : (op.with_bool && not (is_comparison op.sign)) ≡ false
   pub lawful : IsLawful a
   pub room : Room (level_of op.sign) k
-  pub fronted : Fronted k (text_of a)
+  pub fronted : Fronted k (terminals_of a)
 
 abbrev pub IsCallee : Callee → Type 0
 IsCallee (function n) = Unit {0}
@@ -138,8 +138,8 @@ pub data Goal : Type 0 where
 pub data Given : Type 0 where
   bare : Given
   offset_given : Offset → Given
-  at_given : Moment → Given
-  both_given : (at_first : Bool) → Offset → Moment → Given
+  at_given : AtModifier → Given
+  both_given : (at_first : Bool) → Offset → AtModifier → Given
 
 pub data Stand : Type 0 where
   selection : Selected → Stand
@@ -160,8 +160,8 @@ pub data Mode : Type 0 where
   text_due : Chosen → List ℕ → MatchSign → Mode
   matched : Chosen → Matcher → Mode
   modified : Goal → Given → Mode
-  offset_due : Goal → Option Moment → Mode
-  minus_offset_due : Goal → Option Moment → Mode
+  offset_due : Goal → Option AtModifier → Mode
+  minus_offset_due : Goal → Option AtModifier → Mode
   time_due : Goal → Option Offset → Mode
   signed_time_due : Goal → Option Offset → Bool → Mode
   end_open_due : Goal → Option Offset → Bool → Mode
@@ -192,9 +192,9 @@ goal_image (selects s r) = selected_target (selected_matchers s) r
 goal_image (over e d r) = subquery_target (read_of e) d r
 
 abbrev pub goal_text : Goal → List Terminal → List Terminal
-goal_text (selects s r) zs = selected_text s ++ (these range_text r ++ zs)
+goal_text (selects s r) zs = selected_terminals s ++ (these range_terminals r ++ zs)
 goal_text (over e d r) zs =
-    text_of e ++ (sign (codes "[") ∷ duration d ∷ sign (codes ":") ∷ (resolved r ++ (sign (codes "]") ∷ zs)))
+    terminals_of e ++ (sign (codes "[") ∷ duration d ∷ sign (codes ":") ∷ (resolved r ++ (sign (codes "]") ∷ zs)))
 
 abbrev pub goal_written : Goal → Modifiers → Written
 goal_written (selects s r) m = grammar.select s r m
@@ -202,10 +202,10 @@ goal_written (over e d r) m = grammar.subquery e d r m
 
 abbrev pub IsGoal : Goal → List Frame → Type 0
 IsGoal (selects s r) k = AreSelected s.metric s.braces × IfSome r IsPositive
-IsGoal (over e d r) k = (level e ≤ 0) × IsLawful e × IsPositive d × IfSome r IsPositive × Fronted k (text_of e)
+IsGoal (over e d r) k = (level e ≤ 0) × IsLawful e × IsPositive d × IfSome r IsPositive × Fronted k (terminals_of e)
 
 abbrev pub chosen_text : Chosen → List Terminal → List Terminal
-chosen_text c zs = these (λ n. name n ∷ []) c.metric ++ (sign (codes "{") ∷ fronts (map matcher_text c.matchers) zs)
+chosen_text c zs = these (λ n. name n ∷ []) c.metric ++ (sign (codes "{") ∷ fronts (map matcher_terminals c.matchers) zs)
 
 abbrev pub chosen_matchers : Chosen → List Matcher
 chosen_matchers c = metric_matcher c.metric ++ c.matchers
@@ -222,18 +222,18 @@ stand_image (selection s) = mode.matchers (selected_matchers s)
 stand_image (operand e) = mode.operand (read_of e)
 
 abbrev pub stand_text : Stand → List Terminal → List Terminal
-stand_text (selection s) zs = selected_text s ++ zs
-stand_text (operand e) zs = text_of e ++ zs
+stand_text (selection s) zs = selected_terminals s ++ zs
+stand_text (operand e) zs = terminals_of e ++ zs
 
 abbrev pub IsStand : Stand → List Frame → Type 0
 IsStand (selection s) k = AreSelected s.metric s.braces
-IsStand (operand e) k = (level e ≤ 0) × IsLawful e × Fronted k (text_of e)
+IsStand (operand e) k = (level e ≤ 0) × IsLawful e × Fronted k (terminals_of e)
 
 abbrev pub end_word : Bool → List ℕ
 end_word true = codes "start"
 end_word false = codes "end"
 
-abbrev pub end_moment : Bool → Moment
+abbrev pub end_moment : Bool → AtModifier
 end_moment true = grammar.start
 end_moment false = grammar.end
 
@@ -249,7 +249,7 @@ abbrev pub on_key : Bool → Terminal
 on_key on = key (cond on (codes "on") (codes "ignoring"))
 
 abbrev pub operated_text : BinaryOp → Written → List Terminal → List Terminal
-operated_text op a zs = text_of a ++ (operator_terminal op ∷ (bool_text op.with_bool ++ zs))
+operated_text op a zs = terminals_of a ++ (operator_terminal op ∷ (bool_terminals op.with_bool ++ zs))
 
 abbrev pub only_keys : Bool → Labels → Keys
 only_keys on l = record { on = on; labels = l; group = None }
@@ -259,13 +259,13 @@ group_keys on l is_left = record { on = on; labels = l; group = Some (record { l
 
 abbrev pub aggregated_text : AggOp → List Written → Written → List Terminal → List Terminal
 aggregated_text op es e zs =
-    key (aggregation_word op) ∷ sign (codes "(") ∷ fronts (map text_of es) (text_of e ++ (sign (codes ")") ∷ zs))
+    key (aggregation_word op) ∷ sign (codes "(") ∷ fronts (map terminals_of es) (terminals_of e ++ (sign (codes ")") ∷ zs))
 
 abbrev pub purpose_text : Purpose → List Terminal → List Terminal
 purpose_text (groups_next op w) zs = key (aggregation_word op) ∷ without_key w ∷ zs
 purpose_text (groups op es e w) zs = aggregated_text op es e (without_key w ∷ zs)
 purpose_text (matches op a on) zs = operated_text op a (on_key on ∷ zs)
-purpose_text (includes op on l is_left a) zs = operated_text op a (keys_text (group_keys on l is_left) ++ zs)
+purpose_text (includes op on l is_left a) zs = operated_text op a (keys_terminals (group_keys on l is_left) ++ zs)
 
 abbrev pub purpose_image : Purpose → mode.Purpose
 purpose_image (groups_next op w) = mode.groups_next op w
@@ -282,7 +282,7 @@ IsPurpose (includes op on l is_left a) k = Operation op a k × AreLabels l
 abbrev pub read_of_given : Given → Read
 read_of_given w = read_modifiers (modifiers w)
 
-abbrev pub some_at : Option Moment → Read
+abbrev pub some_at : Option AtModifier → Read
 some_at m = record { offset = None; at = option_map read_moment m }
 
 abbrev pub some_offset : Option Offset → Read
@@ -325,25 +325,25 @@ mode_text (named n) zs = name n ∷ zs
 mode_text (label_due c) zs = chosen_text c zs
 mode_text (sign_due c l) zs = chosen_text c (label l ∷ zs)
 mode_text (text_due c l s) zs = chosen_text c (label l ∷ sign (match_text s) ∷ zs)
-mode_text (matched c m) zs = chosen_text c (matcher_text m ++ zs)
-mode_text (modified g w) zs = goal_text g (modifiers_text (modifiers w) ++ zs)
-mode_text (offset_due g m) zs = goal_text g (these moment_text m ++ (key (codes "offset") ∷ zs))
-mode_text (minus_offset_due g m) zs = goal_text g (these moment_text m ++ (key (codes "offset") ∷ sign (codes "-") ∷ zs))
-mode_text (time_due g o) zs = goal_text g (these offset_text o ++ (sign (codes "@") ∷ zs))
-mode_text (signed_time_due g o s) zs = goal_text g (these offset_text o ++ (sign (codes "@") ∷ (front_text (mode.sign_of s) ++ zs)))
-mode_text (end_open_due g o b) zs = goal_text g (these offset_text o ++ (sign (codes "@") ∷ exactly (end_word b) ∷ zs))
+mode_text (matched c m) zs = chosen_text c (matcher_terminals m ++ zs)
+mode_text (modified g w) zs = goal_text g (modifiers_terminals (modifiers w) ++ zs)
+mode_text (offset_due g m) zs = goal_text g (these at_modifier_terminals m ++ (key (codes "offset") ∷ zs))
+mode_text (minus_offset_due g m) zs = goal_text g (these at_modifier_terminals m ++ (key (codes "offset") ∷ sign (codes "-") ∷ zs))
+mode_text (time_due g o) zs = goal_text g (these offset_terminals o ++ (sign (codes "@") ∷ zs))
+mode_text (signed_time_due g o s) zs = goal_text g (these offset_terminals o ++ (sign (codes "@") ∷ (front_terminals (mode.sign_of s) ++ zs)))
+mode_text (end_open_due g o b) zs = goal_text g (these offset_terminals o ++ (sign (codes "@") ∷ exactly (end_word b) ∷ zs))
 mode_text (end_close_due g o b) zs =
-    goal_text g (these offset_text o ++ (sign (codes "@") ∷ exactly (end_word b) ∷ sign (codes "(") ∷ zs))
+    goal_text g (these offset_terminals o ++ (sign (codes "@") ∷ exactly (end_word b) ∷ sign (codes "(") ∷ zs))
 mode_text (range_due s) zs = stand_text s (sign (codes "[") ∷ zs)
 mode_text (range s d) zs = stand_text s (sign (codes "[") ∷ duration d ∷ zs)
-mode_text (resolution_due e d) zs = text_of e ++ (sign (codes "[") ∷ duration d ∷ sign (codes ":") ∷ zs)
-mode_text (resolution e d r) zs = text_of e ++ (sign (codes "[") ∷ duration d ∷ sign (codes ":") ∷ duration r ∷ zs)
-mode_text (whole e) zs = text_of e ++ zs
+mode_text (resolution_due e d) zs = terminals_of e ++ (sign (codes "[") ∷ duration d ∷ sign (codes ":") ∷ zs)
+mode_text (resolution e d r) zs = terminals_of e ++ (sign (codes "[") ∷ duration d ∷ sign (codes ":") ∷ duration r ∷ zs)
+mode_text (whole e) zs = terminals_of e ++ zs
 mode_text (operated op a) zs = operated_text op a zs
-mode_text (keyed op on l a) zs = operated_text op a (keys_text (only_keys on l) ++ zs)
-mode_text (grouped op on l is_left a) zs = operated_text op a (keys_text (group_keys on l is_left) ++ zs)
+mode_text (keyed op on l a) zs = operated_text op a (keys_terminals (only_keys on l) ++ zs)
+mode_text (grouped op on l is_left a) zs = operated_text op a (keys_terminals (group_keys on l is_left) ++ zs)
 mode_text (clause_due op) zs = key (aggregation_word op) ∷ zs
-mode_text (arguments_due op c) zs = key (aggregation_word op) ∷ (without_text c.without c.labels ++ zs)
+mode_text (arguments_due op c) zs = key (aggregation_word op) ∷ (without_terminals c.without c.labels ++ zs)
 mode_text (aggregated op es e) zs = aggregated_text op es e zs
 mode_text (labels_due p) zs = purpose_text p zs
 mode_text (labels p ls) zs = purpose_text p (sign (codes "(") ∷ fronts (label_texts ls) zs)
@@ -358,8 +358,8 @@ IsMode (sign_due c l) k = IsChosen c × IsChoice c l
 IsMode (text_due c l s) k = IsChosen c × IsChoice c l
 IsMode (matched c m) k = IsChosen c × IsChoice c m.label
 IsMode (modified g w) k = IsGoal g k × AreModifiers (modifiers w)
-IsMode (offset_due g m) k = IsGoal g k × IfSome m IsMoment
-IsMode (minus_offset_due g m) k = IsGoal g k × IfSome m IsMoment
+IsMode (offset_due g m) k = IsGoal g k × IfSome m IsAtModifier
+IsMode (minus_offset_due g m) k = IsGoal g k × IfSome m IsAtModifier
 IsMode (time_due g o) k = IsGoal g k
 IsMode (signed_time_due g o s) k = IsGoal g k
 IsMode (end_open_due g o b) k = IsGoal g k

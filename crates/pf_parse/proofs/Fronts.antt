@@ -7,7 +7,7 @@ use Rattle.pf_model.specs.declared.expr.BinaryOp.{BinaryOp}
 use Rattle.pf_model.specs.declared.expr.Function.{Function}
 use Rattle.pf_model.specs.declared.functions.AggOp.{AggOp}
 use Rattle.pf_model.specs.declared.functions.AggOp.TheVariants as aggregation
-use Rattle.pf_model.specs.Grammar.{Terminal, Fits, Written, Arguments, number, text, brackets, call, aggregate, unary, binary, select, subquery, none, more, text_of, IsLawful, begins_with_bracket, Selected, Braces, selected_text, AreSelected}
+use Rattle.pf_model.specs.Grammar.{Terminal, Fits, Written, Arguments, number, text, brackets, call, aggregate, unary, binary, select, subquery, none, more, terminals_of, IsLawful, begins_with_bracket, Selected, Braces, selected_terminals, AreSelected}
 use Rattle.pf_model.specs.Grammar as grammar
 use Rattle.pf_model.specs.Tokens as token
 use Rattle.pf_model.specs.Words.{aggregation_word}
@@ -152,22 +152,22 @@ sign_front false zs =
     }
 
 selected_front : (n : Option (List ℕ)) (b : Option Braces) → AreSelected n b
-    → Front (selected_text (record { metric = n; braces = b }))
+    → Front (selected_terminals (record { metric = n; braces = b }))
 selected_front None None h = absurd h
 selected_front None (Some b) h = brace_front _
 selected_front (Some n) None h = name_front n _
 selected_front (Some n) (Some b) h = name_front n _
 
-pub front_of : (e : Written) → IsLawful e → Front (text_of e)
+pub front_of : (e : Written) → IsLawful e → Front (terminals_of e)
 front_of (number n) l = number_front n []
 front_of (text s) l = text_front s []
 front_of (brackets e) l = open_front _
 front_of (call f args) l = name_front f _
 front_of (aggregate op clause args) l = aggregation_front op _ (aggregation_found op)
 front_of (unary minus e) l = sign_front minus _
-front_of (binary op keys a b) l = front_onto (text_of a) _ (front_of a l.5)
-front_of (select s range mods) l = front_onto (selected_text s) _ (selected_front s.metric s.braces l.0)
-front_of (subquery e range resolution mods) l = front_onto (text_of e) _ (front_of e l.1)
+front_of (binary op keys a b) l = front_onto (terminals_of a) _ (front_of a l.5)
+front_of (select s range mods) l = front_onto (selected_terminals s) _ (selected_front s.metric s.braces l.0)
+front_of (subquery e range resolution mods) l = front_onto (terminals_of e) _ (front_of e l.1)
 
 first_alike : (s t : State) (xs : List Terminal) (f : Front xs)
     → ((u : token.Sort) → Fits f.first u → step s.mode s.stack (lexeme_of u) ≡ step t.mode t.stack (lexeme_of u))
@@ -178,10 +178,10 @@ first_alike s t xs f g (u ∷ us) h = ap (option_and_then (λ r. value r (lexeme
 -- states that take the first token of a query alike have the same value before it
 pub fronts_alike : (s t : State) (e : Written) (zs : List Terminal) (us : List token.Sort) → IsLawful e
     → ((x : Lexeme) → Begun x → step s.mode s.stack x ≡ step t.mode t.stack x)
-    → Fit (text_of e ++ zs) us → value s (lexemes us) ≡ value t (lexemes us)
+    → Fit (terminals_of e ++ zs) us → value s (lexemes us) ≡ value t (lexemes us)
 fronts_alike s t e zs us l g h =
-    let f = front_onto (text_of e) zs (front_of e l) in
-    first_alike s t (text_of e ++ zs) f (λ u k. g (lexeme_of u) (f.begun u k)) us (subst (λ xs. Fit xs us) f.is h)
+    let f = front_onto (terminals_of e) zs (front_of e l) in
+    first_alike s t (terminals_of e ++ zs) f (λ u k. g (lexeme_of u) (f.begun u k)) us (subst (λ xs. Fit xs us) f.is h)
 
 pub bracket_first : (c : Terminal) (cs : List Terminal) → begins_with_bracket (c ∷ cs) ≡ begins_with_bracket (c ∷ [])
 bracket_first (grammar.sign s) cs = refl
@@ -195,12 +195,12 @@ bracket_first (grammar.string k) cs = refl
 
 -- the same of a query that begins with no bracket
 pub unopened_alike : (s t : State) (e : Written) (zs : List Terminal) (us : List token.Sort) → IsLawful e
-    → begins_with_bracket (text_of e) ≡ false
+    → begins_with_bracket (terminals_of e) ≡ false
     → ((x : Lexeme) → Unopened x → step s.mode s.stack x ≡ step t.mode t.stack x)
-    → Fit (text_of e ++ zs) us → value s (lexemes us) ≡ value t (lexemes us)
+    → Fit (terminals_of e ++ zs) us → value s (lexemes us) ≡ value t (lexemes us)
 unfolding front_onto
 unopened_alike s t e zs us l b g h =
     let d = front_of e l in
-    let f = front_onto (text_of e) zs d in
+    let f = front_onto (terminals_of e) zs d in
     let c : begins_with_bracket (d.first ∷ []) ≡ false = sym (bracket_first d.first d.behind) ∙ (sym (ap begins_with_bracket d.is) ∙ b) in
-    first_alike s t (text_of e ++ zs) f (λ u k. g (lexeme_of u) (d.unopened c u k)) us (subst (λ xs. Fit xs us) f.is h)
+    first_alike s t (terminals_of e ++ zs) f (λ u k. g (lexeme_of u) (d.unopened c u k)) us (subst (λ xs. Fit xs us) f.is h)

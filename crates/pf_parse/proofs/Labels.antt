@@ -2,7 +2,7 @@
 use Rattle.std.proofs.Common.{◌≡◌, ◌∙◌, sym, refl, ap, subst, ℕ, Bool, true, false, not, ◌&&◌, List, [], ◌∷◌, ◌++◌, map, Some, codes}
 use Rattle.std.proofs.lemmas.List.{append_assoc, append-nil}
 use Rattle.pf_lex.specs.declared.token.Mark.TheVariants as mark
-use Rattle.pf_model.specs.Grammar.{Terminal, Labels, labels_text, Braces, braces_text, matcher_text, listed, commas_before, comma_if, label, has_colon, is_nil, IsCommaLawful, is_named}
+use Rattle.pf_model.specs.Grammar.{Terminal, Labels, labels_terminals, Braces, braces_terminals, matcher_terminals, listed, commas_before, comma_if, label, has_colon, is_nil, IsCommaLawful, is_named}
 use Rattle.pf_model.specs.Grammar as grammar
 use Rattle.pf_model.specs.Tokens as token
 use Rattle.pf_parse.specs.Lexemes.{Lexeme}
@@ -17,7 +17,7 @@ abbrev close : List Terminal → List Terminal
 close zs = grammar.sign (codes ")") ∷ zs
 
 pub labels_onto : (l : Labels) (zs : List Terminal)
-    → labels_text l ++ zs ≡ grammar.sign (codes "(") ∷ (listed (label_texts l.labels) ++ (comma_if l.comma ++ close zs))
+    → labels_terminals l ++ zs ≡ grammar.sign (codes "(") ∷ (listed (label_texts l.labels) ++ (comma_if l.comma ++ close zs))
 labels_onto l zs =
     ap (λ xs. grammar.sign (codes "(") ∷ xs)
     (append_assoc (listed (label_texts l.labels)) (comma_if l.comma ++ (grammar.sign (codes ")") ∷ [])) zs

@@ -12,7 +12,7 @@ use Rattle.pf_model.specs.declared.expr.BinaryOp.{BinaryOp}
 use Rattle.pf_model.specs.declared.expr.Function.{Function}
 use Rattle.pf_model.specs.declared.expr.Matcher.{Matcher}
 use Rattle.pf_model.specs.declared.functions.AggOp.{AggOp}
-use Rattle.pf_model.specs.Grammar.{Terminal, Written, Arguments, text_of, texts_of, more_texts, none, more, call, aggregate, unary, binary, select, subquery, brackets, meaning, meanings, both, operator_terminal, Modifiers, modifiers_text, Offset, offset_text, Moment, moment_text, these, bool_text, keys_text, selected_text, range_text, before_text, behind_text, mods_of, moment_of, millis_of, grouped_of, matched_of, minus_if, front_text}
+use Rattle.pf_model.specs.Grammar.{Terminal, Written, Arguments, terminals_of, all_terminals, more_terminals, none, more, call, aggregate, unary, binary, select, subquery, brackets, meaning, meanings, both, operator_terminal, Modifiers, modifiers_terminals, Offset, offset_terminals, AtModifier, at_modifier_terminals, these, bool_terminals, keys_terminals, selected_terminals, range_terminals, before_terminals, behind_terminals, mods_of, at_of, millis_of, grouped_of, matched_of, minus_if, front_terminals}
 use Rattle.pf_model.specs.Grammar as grammar
 use Rattle.pf_model.specs.Trees.{Tree, Trees, height, heights, trees_of}
 use Rattle.pf_model.specs.Trees as tree
@@ -77,51 +77,51 @@ moment_in_time : (s : front.Sign) (n : ℤ) → nat_lt greatest_time (nat_abs n 
 moment_in_time s n h =
     ap (option_map at.Time) (in_time (nat_abs (millis_of s n)) (ap (nat_lt greatest_time) (abs_millis s n) ∙ h))
 
-record InTime (o : Option Offset) (m : Option Moment) : Type 0 where
+record InTime (o : Option Offset) (m : Option AtModifier) : Type 0 where
   offset : IfSome o (λ x. within_limit x.millis ≡ Some x.millis)
-  at : IfSome m (λ x. read_moment x ≡ Some (moment_of x))
+  at : IfSome m (λ x. read_moment x ≡ Some (at_of x))
 
-offset_in_time : (o : Offset) (zs : List Terminal) → Scanned (offset_text o ++ zs) → within_limit o.millis ≡ Some o.millis
+offset_in_time : (o : Offset) (zs : List Terminal) → Scanned (offset_terminals o ++ zs) → within_limit o.millis ≡ Some o.millis
 offset_in_time o zs s = by_sign o.minus o.millis s
   where
-    by_sign : (m : Bool) (d : ℕ) → Scanned (offset_text (record { minus = m; millis = d }) ++ zs) → within_limit d ≡ Some d
+    by_sign : (m : Bool) (d : ℕ) → Scanned (offset_terminals (record { minus = m; millis = d }) ++ zs) → within_limit d ≡ Some d
     by_sign true d s = in_time d s.timely.1.1.0
     by_sign false d s = in_time d s.timely.1.0
 
-moment_at_time : (m : Moment) (zs : List Terminal) → Scanned (moment_text m ++ zs) → read_moment m ≡ Some (moment_of m)
+moment_at_time : (m : AtModifier) (zs : List Terminal) → Scanned (at_modifier_terminals m ++ zs) → read_moment m ≡ Some (at_of m)
 moment_at_time (grammar.time front.bare n) zs s = moment_in_time front.bare n s.timely.1.0
 moment_at_time (grammar.time front.plus n) zs s = moment_in_time front.plus n s.timely.1.1.0
 moment_at_time (grammar.time front.minus n) zs s = moment_in_time front.minus n s.timely.1.1.0
 moment_at_time grammar.start zs s = refl
 moment_at_time grammar.end zs s = refl
 
-offsets_in_time : (o : Option Offset) (zs : List Terminal) → Scanned (these offset_text o ++ zs) → IfSome o (λ x. within_limit x.millis ≡ Some x.millis)
+offsets_in_time : (o : Option Offset) (zs : List Terminal) → Scanned (these offset_terminals o ++ zs) → IfSome o (λ x. within_limit x.millis ≡ Some x.millis)
 offsets_in_time None zs s = tt
 offsets_in_time (Some o) zs s = offset_in_time o zs s
 
-moments_at_time : (m : Option Moment) (zs : List Terminal) → Scanned (these moment_text m ++ zs) → IfSome m (λ x. read_moment x ≡ Some (moment_of x))
+moments_at_time : (m : Option AtModifier) (zs : List Terminal) → Scanned (these at_modifier_terminals m ++ zs) → IfSome m (λ x. read_moment x ≡ Some (at_of x))
 moments_at_time None zs s = tt
 moments_at_time (Some m) zs s = moment_at_time m zs s
 
 rescanned : {xs ys : List Terminal} → xs ≡ ys → Scanned xs → Scanned ys
 rescanned e s = subst Scanned e s
 
-modifiers_in_time : (f : Bool) (o : Option Offset) (m : Option Moment) (zs : List Terminal)
-    → Scanned (modifiers_text (record { offset = o; at = m; at_first = f }) ++ zs) → InTime o m
+modifiers_in_time : (f : Bool) (o : Option Offset) (m : Option AtModifier) (zs : List Terminal)
+    → Scanned (modifiers_terminals (record { offset = o; at = m; at_first = f }) ++ zs) → InTime o m
 modifiers_in_time true o m zs s =
-    let t = rescanned (append_assoc (these moment_text m) (these offset_text o) zs) s in
+    let t = rescanned (append_assoc (these at_modifier_terminals m) (these offset_terminals o) zs) s in
     record {
-      offset = offsets_in_time o zs (passed (these moment_text m) (these offset_text o ++ zs) (clean_moments m) t);
-      at = moments_at_time m (these offset_text o ++ zs) t;
+      offset = offsets_in_time o zs (passed (these at_modifier_terminals m) (these offset_terminals o ++ zs) (clean_moments m) t);
+      at = moments_at_time m (these offset_terminals o ++ zs) t;
     }
 modifiers_in_time false o m zs s =
-    let t = rescanned (append_assoc (these offset_text o) (these moment_text m) zs) s in
+    let t = rescanned (append_assoc (these offset_terminals o) (these at_modifier_terminals m) zs) s in
     record {
-      offset = offsets_in_time o (these moment_text m ++ zs) t;
-      at = moments_at_time m zs (passed (these offset_text o) (these moment_text m ++ zs) (clean_offsets o) t);
+      offset = offsets_in_time o (these at_modifier_terminals m ++ zs) t;
+      at = moments_at_time m zs (passed (these offset_terminals o) (these at_modifier_terminals m ++ zs) (clean_offsets o) t);
     }
 
-mods_same : (f : Bool) (o : Option Offset) (m : Option Moment) → InTime o m
+mods_same : (f : Bool) (o : Option Offset) (m : Option AtModifier) → InTime o m
     → mods_read (read_modifiers (record { offset = o; at = m; at_first = f })) ≡ Some (mods_of (record { offset = o; at = m; at_first = f }))
 mods_same f None None t = refl
 mods_same f (Some o) None t =
@@ -270,7 +270,7 @@ select_held : (m : Modifiers) (ms : List Matcher) (r : Option ℕ) → InTime m.
 select_held m ms None i v = target_same m (selected_target ms None) (selector ms None) i refl
 select_held m ms (Some d) i v = target_same m (selected_target ms (Some d)) (selector ms (Some d)) i (ap (ranged ms) v)
 
-range_in_time : (r : Option ℕ) (zs : List Terminal) → Scanned (these range_text r ++ zs) → IfSome r (λ x. within_limit x ≡ Some x)
+range_in_time : (r : Option ℕ) (zs : List Terminal) → Scanned (these range_terminals r ++ zs) → IfSome r (λ x. within_limit x ≡ Some x)
 range_in_time None zs s = tt
 range_in_time (Some d) zs s = in_time d s.timely.1.0
 
@@ -295,21 +295,21 @@ abbrev close : List Terminal → List Terminal
 close zs = grammar.sign (codes ")") ∷ zs
 
 mutual
-  pub meant : (e : Written) (zs : List Terminal) → Scanned (text_of e ++ zs) → Meant e
+  pub meant : (e : Written) (zs : List Terminal) → Scanned (terminals_of e ++ zs) → Meant e
   meant (grammar.number n) zs s = record { tree = tree.number n; means = refl; held = refl }
   meant (grammar.text t) zs s = record { tree = tree.text t; means = refl; held = refl }
   meant (brackets e) zs s =
-      let m = meant e (close zs) (rescanned (append_assoc (text_of e) (close []) zs) (behind_one _ _ refl s)) in
+      let m = meant e (close zs) (rescanned (append_assoc (terminals_of e) (close []) zs) (behind_one _ _ refl s)) in
       record { tree = m.tree; means = m.means; held = m.held }
   meant (call n es) zs s =
       let f = known_function n s.known.0 in
       call_meant n f.0 es f.1
-      (all_meant es (close zs) (rescanned (append_assoc (texts_of es) (close []) zs) (behind_one _ _ refl (behind_one _ _ refl s))))
+      (all_meant es (close zs) (rescanned (append_assoc (all_terminals es) (close []) zs) (behind_one _ _ refl (behind_one _ _ refl s))))
   meant (aggregate op c es) zs s =
       aggregate_meant op c es
-      (all_meant es (close (behind_text c ++ zs)) (rescanned (append_assoc (texts_of es) (close (behind_text c)) zs)
-      (behind_one _ _ refl (passed (before_text c) _ (clean_before c)
-      (rescanned (append_assoc (before_text c) (grammar.sign (codes "(") ∷ (texts_of es ++ close (behind_text c))) zs)
+      (all_meant es (close (behind_terminals c ++ zs)) (rescanned (append_assoc (all_terminals es) (close (behind_terminals c)) zs)
+      (behind_one _ _ refl (passed (before_terminals c) _ (clean_before c)
+      (rescanned (append_assoc (before_terminals c) (grammar.sign (codes "(") ∷ (all_terminals es ++ close (behind_terminals c))) zs)
       (behind_one _ _ refl s))))))
   meant (unary minus e) zs s =
       let m = meant e zs (behind_one _ _ (sign_not_at minus) s) in
@@ -319,11 +319,11 @@ mutual
         held = ap (held_unary minus) m.held ∙ unary_low minus m.tree;
       }
   meant (binary op k a b) zs s =
-      let w = rescanned (append_assoc (text_of a) (operator_terminal op ∷ (bool_text op.with_bool ++ (these keys_text k ++ text_of b))) zs) s in
+      let w = rescanned (append_assoc (terminals_of a) (operator_terminal op ∷ (bool_terminals op.with_bool ++ (these keys_terminals k ++ terminals_of b))) zs) s in
       let m = meant a _ w in
-      let v = behind_one _ _ (operator_not_at op) (passed (text_of a) _ (clean_text a) w) in
-      let u = passed (bool_text op.with_bool) _ (clean_bool op.with_bool) (rescanned (append_assoc (bool_text op.with_bool) (these keys_text k ++ text_of b) zs) v) in
-      let n = meant b zs (passed (these keys_text k) _ (clean_keys k) (rescanned (append_assoc (these keys_text k) (text_of b) zs) u)) in
+      let v = behind_one _ _ (operator_not_at op) (passed (terminals_of a) _ (clean_text a) w) in
+      let u = passed (bool_terminals op.with_bool) _ (clean_bool op.with_bool) (rescanned (append_assoc (bool_terminals op.with_bool) (these keys_terminals k ++ terminals_of b) zs) v) in
+      let n = meant b zs (passed (these keys_terminals k) _ (clean_keys k) (rescanned (append_assoc (these keys_terminals k) (terminals_of b) zs) u)) in
       record {
         tree = tree.binary op (matched_of k) m.tree n.tree;
         means = ap (λ x. both (tree.binary op (matched_of k)) x (meaning b)) m.means
@@ -332,20 +332,20 @@ mutual
             ∙ (ap (held_binary op (matched_of k) (low m.tree)) n.held ∙ binary_low op (matched_of k) m.tree n.tree);
       }
   meant (select c r m) zs s =
-      let u = passed (selected_text c) _ (clean_selected c.metric c.braces)
-      (rescanned (append_assoc (selected_text c) (these range_text r ++ modifiers_text m) zs) s) in
-      let v = rescanned (append_assoc (these range_text r) (modifiers_text m) zs) u in
-      let i = modifiers_in_time m.at_first m.offset m.at zs (passed (these range_text r) _ (clean_range r) v) in
+      let u = passed (selected_terminals c) _ (clean_selected c.metric c.braces)
+      (rescanned (append_assoc (selected_terminals c) (these range_terminals r ++ modifiers_terminals m) zs) s) in
+      let v = rescanned (append_assoc (these range_terminals r) (modifiers_terminals m) zs) u in
+      let i = modifiers_in_time m.at_first m.offset m.at zs (passed (these range_terminals r) _ (clean_range r) v) in
       record {
         tree = tree.select (selected_matchers c) r (mods_of m);
         means = refl;
         held = select_held m (selected_matchers c) r i (range_in_time r _ v);
       }
   meant (subquery e d r m) zs s =
-      let w = rescanned (append_assoc (text_of e) _ zs) s in
+      let w = rescanned (append_assoc (terminals_of e) _ zs) s in
       let n = meant e _ w in
-      let u = behind_one _ _ refl (passed (text_of e) _ (clean_text e) w) in
-      let v = rescanned (append_assoc (these (λ x. grammar.duration x ∷ []) r) (grammar.sign (codes "]") ∷ modifiers_text m) zs)
+      let u = behind_one _ _ refl (passed (terminals_of e) _ (clean_text e) w) in
+      let v = rescanned (append_assoc (these (λ x. grammar.duration x ∷ []) r) (grammar.sign (codes "]") ∷ modifiers_terminals m) zs)
       (behind_one _ _ refl (behind_one _ _ refl u)) in
       let i = modifiers_in_time m.at_first m.offset m.at zs
       (behind_one _ _ refl (passed (these (λ x. grammar.duration x ∷ []) r) _ (clean_resolution r) v)) in
@@ -355,14 +355,14 @@ mutual
         held = subquery_held m n.tree d r (read_of e) i (in_time d u.timely.0) (resolution_in_time r _ v) n.held;
       }
 
-  all_meant : (es : Arguments) (zs : List Terminal) → Scanned (texts_of es ++ zs) → AllMeant es
+  all_meant : (es : Arguments) (zs : List Terminal) → Scanned (all_terminals es ++ zs) → AllMeant es
   all_meant none zs s = none_meant
   all_meant (more e es) zs s =
-      let w = rescanned (append_assoc (text_of e) (more_texts es) zs) s in
-      more_meant e es (meant e _ w) (rest_meant es zs (passed (text_of e) _ (clean_text e) w))
+      let w = rescanned (append_assoc (terminals_of e) (more_terminals es) zs) s in
+      more_meant e es (meant e _ w) (rest_meant es zs (passed (terminals_of e) _ (clean_text e) w))
 
-  rest_meant : (es : Arguments) (zs : List Terminal) → Scanned (more_texts es ++ zs) → AllMeant es
+  rest_meant : (es : Arguments) (zs : List Terminal) → Scanned (more_terminals es ++ zs) → AllMeant es
   rest_meant none zs s = none_meant
   rest_meant (more e es) zs s =
-      let w = rescanned (append_assoc (text_of e) (more_texts es) zs) (behind_one _ _ refl s) in
-      more_meant e es (meant e _ w) (rest_meant es zs (passed (text_of e) _ (clean_text e) w))
+      let w = rescanned (append_assoc (terminals_of e) (more_terminals es) zs) (behind_one _ _ refl s) in
+      more_meant e es (meant e _ w) (rest_meant es zs (passed (terminals_of e) _ (clean_text e) w))

@@ -4,7 +4,7 @@ use Rattle.std.proofs.lemmas.Bool.{le-leb, lt-leb}
 use Rattle.std.proofs.lemmas.List.{append-nil}
 use Rattle.pf_model.proofs.OneAnswer.{tokens_are_one, none_bad}
 use Rattle.pf_model.proofs.OnePlace.{none_unexpected}
-use Rattle.pf_model.specs.Grammar.{Derives, text_of}
+use Rattle.pf_model.specs.Grammar.{Derives, terminals_of}
 use Rattle.pf_model.specs.Parsing.{sorts, Parses, Refuses, Refusal, IsTree, too_long, bad_token, too_deep, unexpected, unknown_name, time_too_large, too_tall, too_deep_at, unknown_at, too_large_at}
 use Rattle.pf_model.specs.Tokens.{Token, AreTokens}
 use Rattle.pf_model.specs.declared.expr.Expr.{Expr}
@@ -33,8 +33,8 @@ held_of : (ts : List Token) (t : Tree) → Derives (sorts ts) t → unknown_at f
     → value start (lexemes (sorts ts)) ≡ Some (low t)
 held_of ts t d k l =
     let w = d.written in
-    let s = scanned_of (text_of w) ts d.derived.fits k l in
-    let m = meant w [] (subst Scanned (sym (append-nil (text_of w))) s) in
+    let s = scanned_of (terminals_of w) ts d.derived.fits k l in
+    let m = meant w [] (subst Scanned (sym (append-nil (terminals_of w))) s) in
     derived_read w (sorts ts) d.derived.lawful d.derived.fits
     ∙ ap Some (m.held ∙ ap low (some_tree m.tree t (sym m.means ∙ d.means)))
 

@@ -318,8 +318,8 @@ outcome text ts held a l e h r k t =
     let w = read_back text ts held r in
     let u = lost_same text false ts ∙ k in
     let v = late_same text false ts e ∙ t in
-    let s = scanned_of (Rattle.pf_model.specs.Grammar.text_of w.written) (tokens_of text ts) w.derived.fits u v in
-    let m = meant w.written [] (subst Scanned (sym (append-nil (Rattle.pf_model.specs.Grammar.text_of w.written))) s) in
+    let s = scanned_of (Rattle.pf_model.specs.Grammar.terminals_of w.written) (tokens_of text ts) w.derived.fits u v in
+    let m = meant w.written [] (subst Scanned (sym (append-nil (Rattle.pf_model.specs.Grammar.terminals_of w.written))) s) in
     record {
       tree = m.tree;
       is_tree = record {

@@ -1,7 +1,7 @@
 -- Texts with commas behind them and texts with commas between them.
 use Rattle.std.proofs.Common.{◌≡◌, ◌∙◌, sym, refl, ap, not, List, [], ◌∷◌, ◌++◌, map, Option, Some, codes}
 use Rattle.std.proofs.lemmas.List.{append_assoc, append-nil, map-append}
-use Rattle.pf_model.specs.Grammar.{Terminal, sign, Written, text_of, texts_of, more_texts, comma_if, commas_before, listed, is_nil, IsLawful, AreLawful}
+use Rattle.pf_model.specs.Grammar.{Terminal, sign, Written, terminals_of, all_terminals, more_terminals, comma_if, commas_before, listed, is_nil, IsLawful, AreLawful}
 use Rattle.pf_model.specs.Trees.{Tree}
 use Rattle.pf_parse.specs.Held.{with_argument}
 use Rattle.pf_parse.proofs.Drafts.{fronts, arguments, held_all}
@@ -39,23 +39,23 @@ with_next (y ∷ ys) x zs = ap (λ us. y ++ comma us) (with_next ys x zs)
 
 -- ---- arguments
 
-more_row : (es : List Written) → more_texts (arguments es) ≡ commas_before (map text_of es)
+more_row : (es : List Written) → more_terminals (arguments es) ≡ commas_before (map terminals_of es)
 more_row [] = refl
-more_row (e ∷ es) = ap (λ us. comma (text_of e ++ us)) (more_row es)
+more_row (e ∷ es) = ap (λ us. comma (terminals_of e ++ us)) (more_row es)
 
-argument_row : (es : List Written) → texts_of (arguments es) ≡ listed (map text_of es)
+argument_row : (es : List Written) → all_terminals (arguments es) ≡ listed (map terminals_of es)
 argument_row [] = refl
-argument_row (e ∷ es) = ap (λ us. text_of e ++ us) (more_row es)
+argument_row (e ∷ es) = ap (λ us. terminals_of e ++ us) (more_row es)
 
 pub arguments_text : (es : List Written) (e : Written) (zs : List Terminal)
-    → texts_of (arguments (es ++ (e ∷ []))) ++ zs ≡ fronts (map text_of es) (text_of e ++ zs)
+    → all_terminals (arguments (es ++ (e ∷ []))) ++ zs ≡ fronts (map terminals_of es) (terminals_of e ++ zs)
 arguments_text es e zs =
-    ap (λ us. us ++ zs) (argument_row (es ++ (e ∷ [])) ∙ ap listed (map-append text_of es (e ∷ [])))
-    ∙ sym (with_last (map text_of es) (text_of e) zs)
+    ap (λ us. us ++ zs) (argument_row (es ++ (e ∷ [])) ∙ ap listed (map-append terminals_of es (e ∷ [])))
+    ∙ sym (with_last (map terminals_of es) (terminals_of e) zs)
 
 pub next_text : (es : List Written) (e : Written) (zs : List Terminal)
-    → fronts (map text_of (es ++ (e ∷ []))) zs ≡ fronts (map text_of es) (text_of e ++ comma zs)
-next_text es e zs = ap (λ us. fronts us zs) (map-append text_of es (e ∷ [])) ∙ with_next (map text_of es) (text_of e) zs
+    → fronts (map terminals_of (es ++ (e ∷ []))) zs ≡ fronts (map terminals_of es) (terminals_of e ++ comma zs)
+next_text es e zs = ap (λ us. fronts us zs) (map-append terminals_of es (e ∷ [])) ∙ with_next (map terminals_of es) (terminals_of e) zs
 
 held_onto : (es : List Written) (e : Written) (before : Option (List Tree))
     → arguments_of (arguments (es ++ (e ∷ []))) before ≡ with_argument (arguments_of (arguments es) before) (read_of e)

@@ -10,7 +10,7 @@ use Rattle.pf_model.specs.declared.expr.MatchSign.{MatchSign}
 use Rattle.pf_model.specs.declared.expr.MatchSign.TheVariants as match
 use Rattle.pf_model.specs.declared.functions.Sign.{Sign}
 use Rattle.pf_model.specs.declared.functions.Sign.TheVariants as operator
-use Rattle.pf_model.specs.Grammar.{Terminal, Fits, FitAll, key, name, label, exactly, Written, Arguments, text_of, texts_of, more_texts, none, more, call, aggregate, unary, binary, select, subquery, brackets, meaning, meanings, both, begins_with_bracket, operator_terminal, Labels, labels_text, Braces, braces_text, Keys, keys_text, Modifiers, modifiers_text, Offset, offset_text, Moment, moment_text, these, bool_text, selected_text, range_text, before_text, behind_text, without_text, Clause, listed, commas_before, comma_if, minus_if, front_text, Group, group_text, Selected, matcher_text}
+use Rattle.pf_model.specs.Grammar.{Terminal, Fits, FitAll, key, name, label, exactly, Written, Arguments, terminals_of, all_terminals, more_terminals, none, more, call, aggregate, unary, binary, select, subquery, brackets, meaning, meanings, both, begins_with_bracket, operator_terminal, Labels, labels_terminals, Braces, braces_terminals, Keys, keys_terminals, Modifiers, modifiers_terminals, Offset, offset_terminals, AtModifier, at_modifier_terminals, these, bool_terminals, selected_terminals, range_terminals, before_terminals, behind_terminals, without_terminals, Clause, listed, commas_before, comma_if, minus_if, front_terminals, Group, group_terminals, Selected, matcher_terminals}
 use Rattle.pf_model.specs.Grammar as grammar
 use Rattle.pf_model.specs.Parsing as parsing
 use Rattle.pf_model.specs.Parsing.{sorts, is_the_sign, unknown_at, too_large_at, is_unknown, is_too_large, is_behind_at}
@@ -314,7 +314,7 @@ clean_comma : (c : Bool) → Clean (comma_if c)
 clean_comma true = clean_onto _ _ refl clean_none
 clean_comma false = clean_none
 
-clean_labels : (l : Labels) → Clean (labels_text l)
+clean_labels : (l : Labels) → Clean (labels_terminals l)
 clean_labels l =
     clean_onto _ _ refl (clean_both (listed (map (λ n. label n ∷ []) l.labels)) _ (clean_listed l.labels)
     (clean_both (comma_if l.comma) _ (clean_comma l.comma) (clean_onto _ _ refl clean_none)))
@@ -325,68 +325,68 @@ match_not_at match.NotEqual = refl
 match_not_at match.Like = refl
 match_not_at match.NotLike = refl
 
-clean_matcher : (m : Matcher) → Clean (matcher_text m)
+clean_matcher : (m : Matcher) → Clean (matcher_terminals m)
 clean_matcher m = clean_onto _ _ refl (clean_onto _ _ (match_not_at m.sign) (clean_onto _ _ refl clean_none))
 
-clean_matcher_commas : (ms : List Matcher) → Clean (commas_before (map matcher_text ms))
+clean_matcher_commas : (ms : List Matcher) → Clean (commas_before (map matcher_terminals ms))
 clean_matcher_commas [] = clean_none
-clean_matcher_commas (m ∷ ms) = clean_onto _ _ refl (clean_both (matcher_text m) _ (clean_matcher m) (clean_matcher_commas ms))
+clean_matcher_commas (m ∷ ms) = clean_onto _ _ refl (clean_both (matcher_terminals m) _ (clean_matcher m) (clean_matcher_commas ms))
 
-clean_matchers : (ms : List Matcher) → Clean (listed (map matcher_text ms))
+clean_matchers : (ms : List Matcher) → Clean (listed (map matcher_terminals ms))
 clean_matchers [] = clean_none
-clean_matchers (m ∷ ms) = clean_both (matcher_text m) _ (clean_matcher m) (clean_matcher_commas ms)
+clean_matchers (m ∷ ms) = clean_both (matcher_terminals m) _ (clean_matcher m) (clean_matcher_commas ms)
 
-clean_braces : (b : Braces) → Clean (braces_text b)
+clean_braces : (b : Braces) → Clean (braces_terminals b)
 clean_braces b =
-    clean_onto _ _ refl (clean_both (listed (map matcher_text b.matchers)) _ (clean_matchers b.matchers)
+    clean_onto _ _ refl (clean_both (listed (map matcher_terminals b.matchers)) _ (clean_matchers b.matchers)
     (clean_both (comma_if b.comma) _ (clean_comma b.comma) (clean_onto _ _ refl clean_none)))
 
-pub clean_selected : (n : Option (List ℕ)) (b : Option Braces) → Clean (selected_text (record { metric = n; braces = b }))
+pub clean_selected : (n : Option (List ℕ)) (b : Option Braces) → Clean (selected_terminals (record { metric = n; braces = b }))
 clean_selected None None = clean_none
 clean_selected (Some n) None = clean_onto _ _ refl clean_none
 clean_selected None (Some b) = clean_braces b
 clean_selected (Some n) (Some b) = clean_onto _ _ refl (clean_braces b)
 
-pub clean_range : (r : Option ℕ) → Clean (these range_text r)
+pub clean_range : (r : Option ℕ) → Clean (these range_terminals r)
 clean_range None = clean_none
 clean_range (Some d) = clean_onto _ _ refl (clean_onto _ _ refl (clean_onto _ _ refl clean_none))
 
-clean_offset : (o : Offset) → Clean (offset_text o)
+clean_offset : (o : Offset) → Clean (offset_terminals o)
 clean_offset o = clean_onto _ _ refl (signed o.minus)
   where
     signed : (m : Bool) → Clean (minus_if m ++ (grammar.duration o.millis ∷ []))
     signed true = clean_onto _ _ refl (clean_onto _ _ refl clean_none)
     signed false = clean_onto _ _ refl clean_none
 
-clean_moment : (m : Moment) → Clean (moment_text m)
+clean_moment : (m : AtModifier) → Clean (at_modifier_terminals m)
 clean_moment (grammar.time front.bare n) = record { no_at = refl; no_time = refl }
 clean_moment (grammar.time front.plus n) = record { no_at = refl; no_time = refl }
 clean_moment (grammar.time front.minus n) = record { no_at = refl; no_time = refl }
 clean_moment grammar.start = record { no_at = refl; no_time = refl }
 clean_moment grammar.end = record { no_at = refl; no_time = refl }
 
-pub clean_offsets : (o : Option Offset) → Clean (these offset_text o)
+pub clean_offsets : (o : Option Offset) → Clean (these offset_terminals o)
 clean_offsets None = clean_none
 clean_offsets (Some o) = clean_offset o
 
-pub clean_moments : (m : Option Moment) → Clean (these moment_text m)
+pub clean_moments : (m : Option AtModifier) → Clean (these at_modifier_terminals m)
 clean_moments None = clean_none
 clean_moments (Some m) = clean_moment m
 
-clean_modifiers : (f : Bool) (o : Option Offset) (m : Option Moment) → Clean (modifiers_text (record { offset = o; at = m; at_first = f }))
-clean_modifiers true o m = clean_both (these moment_text m) (these offset_text o) (clean_moments m) (clean_offsets o)
-clean_modifiers false o m = clean_both (these offset_text o) (these moment_text m) (clean_offsets o) (clean_moments m)
+clean_modifiers : (f : Bool) (o : Option Offset) (m : Option AtModifier) → Clean (modifiers_terminals (record { offset = o; at = m; at_first = f }))
+clean_modifiers true o m = clean_both (these at_modifier_terminals m) (these offset_terminals o) (clean_moments m) (clean_offsets o)
+clean_modifiers false o m = clean_both (these offset_terminals o) (these at_modifier_terminals m) (clean_offsets o) (clean_moments m)
 
-clean_without : (w : Bool) (l : Labels) → Clean (without_text w l)
+clean_without : (w : Bool) (l : Labels) → Clean (without_terminals w l)
 clean_without true l = clean_onto _ _ refl (clean_labels l)
 clean_without false l = clean_onto _ _ refl (clean_labels l)
 
-pub clean_before : (c : Clause) → Clean (before_text c)
+pub clean_before : (c : Clause) → Clean (before_terminals c)
 clean_before grammar.absent = clean_none
 clean_before (grammar.before w l) = clean_without w l
 clean_before (grammar.behind w l) = clean_none
 
-clean_behind : (c : Clause) → Clean (behind_text c)
+clean_behind : (c : Clause) → Clean (behind_terminals c)
 clean_behind grammar.absent = clean_none
 clean_behind (grammar.before w l) = clean_none
 clean_behind (grammar.behind w l) = clean_without w l
@@ -410,21 +410,21 @@ operator_not_at op = by_sign op.sign
     by_sign operator.Or = refl
     by_sign operator.Unless = refl
 
-pub clean_bool : (b : Bool) → Clean (bool_text b)
+pub clean_bool : (b : Bool) → Clean (bool_terminals b)
 clean_bool true = clean_onto _ _ refl clean_none
 clean_bool false = clean_none
 
-clean_include : (l : Option Labels) → Clean (these labels_text l)
+clean_include : (l : Option Labels) → Clean (these labels_terminals l)
 clean_include None = clean_none
 clean_include (Some l) = clean_labels l
 
-clean_group : (g : Option Group) → Clean (these group_text g)
+clean_group : (g : Option Group) → Clean (these group_terminals g)
 clean_group None = clean_none
 clean_group (Some g) = clean_onto _ _ refl (clean_include g.include)
 
-pub clean_keys : (k : Option Keys) → Clean (these keys_text k)
+pub clean_keys : (k : Option Keys) → Clean (these keys_terminals k)
 clean_keys None = clean_none
-clean_keys (Some k) = clean_onto _ _ refl (clean_both (labels_text k.labels) _ (clean_labels k.labels) (clean_group k.group))
+clean_keys (Some k) = clean_onto _ _ refl (clean_both (labels_terminals k.labels) _ (clean_labels k.labels) (clean_group k.group))
 
 pub clean_resolution : (r : Option ℕ) → Clean (these (λ d. grammar.duration d ∷ []) r)
 clean_resolution None = clean_none
@@ -435,36 +435,36 @@ sign_not_at true = refl
 sign_not_at false = refl
 
 mutual
-  pub clean_text : (e : Written) → Clean (text_of e)
+  pub clean_text : (e : Written) → Clean (terminals_of e)
   clean_text (grammar.number n) = clean_onto _ _ refl clean_none
   clean_text (grammar.text s) = clean_onto _ _ refl clean_none
-  clean_text (brackets e) = clean_onto _ _ refl (clean_both (text_of e) _ (clean_text e) (clean_onto _ _ refl clean_none))
+  clean_text (brackets e) = clean_onto _ _ refl (clean_both (terminals_of e) _ (clean_text e) (clean_onto _ _ refl clean_none))
   clean_text (call f args) =
-      clean_onto _ _ refl (clean_onto _ _ refl (clean_both (texts_of args) _ (clean_texts args) (clean_onto _ _ refl clean_none)))
+      clean_onto _ _ refl (clean_onto _ _ refl (clean_both (all_terminals args) _ (clean_texts args) (clean_onto _ _ refl clean_none)))
   clean_text (aggregate op c args) =
-      clean_onto _ _ refl (clean_both (before_text c) _ (clean_before c)
-      (clean_onto _ _ refl (clean_both (texts_of args) _ (clean_texts args) (clean_onto _ _ refl (clean_behind c)))))
+      clean_onto _ _ refl (clean_both (before_terminals c) _ (clean_before c)
+      (clean_onto _ _ refl (clean_both (all_terminals args) _ (clean_texts args) (clean_onto _ _ refl (clean_behind c)))))
   clean_text (unary minus e) = clean_onto _ _ (sign_not_at minus) (clean_text e)
   clean_text (binary op k a b) =
-      clean_both (text_of a) _ (clean_text a)
-      (clean_onto _ _ (operator_not_at op) (clean_both (bool_text op.with_bool) _ (clean_bool op.with_bool)
-      (clean_both (these keys_text k) _ (clean_keys k) (clean_text b))))
+      clean_both (terminals_of a) _ (clean_text a)
+      (clean_onto _ _ (operator_not_at op) (clean_both (bool_terminals op.with_bool) _ (clean_bool op.with_bool)
+      (clean_both (these keys_terminals k) _ (clean_keys k) (clean_text b))))
   clean_text (select s r m) =
-      clean_both (selected_text s) _ (clean_selected s.metric s.braces)
-      (clean_both (these range_text r) _ (clean_range r) (clean_modifiers m.at_first m.offset m.at))
+      clean_both (selected_terminals s) _ (clean_selected s.metric s.braces)
+      (clean_both (these range_terminals r) _ (clean_range r) (clean_modifiers m.at_first m.offset m.at))
   clean_text (subquery e d r m) =
-      clean_both (text_of e) _ (clean_text e)
+      clean_both (terminals_of e) _ (clean_text e)
       (clean_onto _ _ refl (clean_onto _ _ refl (clean_onto _ _ refl
       (clean_both (these (λ d. grammar.duration d ∷ []) r) _ (clean_resolution r)
       (clean_onto _ _ refl (clean_modifiers m.at_first m.offset m.at))))))
 
-  clean_texts : (es : Arguments) → Clean (texts_of es)
+  clean_texts : (es : Arguments) → Clean (all_terminals es)
   clean_texts none = clean_none
-  clean_texts (more e es) = clean_both (text_of e) _ (clean_text e) (clean_more es)
+  clean_texts (more e es) = clean_both (terminals_of e) _ (clean_text e) (clean_more es)
 
-  clean_more : (es : Arguments) → Clean (more_texts es)
+  clean_more : (es : Arguments) → Clean (more_terminals es)
   clean_more none = clean_none
-  clean_more (more e es) = clean_onto _ _ refl (clean_both (text_of e) _ (clean_text e) (clean_more es))
+  clean_more (more e es) = clean_onto _ _ refl (clean_both (terminals_of e) _ (clean_text e) (clean_more es))
 
 pub scanned_of : (xs : List Terminal) (ts : List token.Token) → FitAll xs (sorts ts) → unknown_at false ts ≡ None
     → too_large_at false ts ≡ None → Scanned xs

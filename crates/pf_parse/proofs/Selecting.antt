@@ -10,7 +10,7 @@ use Rattle.pf_model.specs.declared.expr.At.TheVariants as at
 use Rattle.pf_model.specs.declared.expr.Matcher.{Matcher}
 use Rattle.pf_model.specs.declared.expr.MatchSign.{MatchSign}
 use Rattle.pf_model.specs.declared.expr.MatchSign.TheVariants as match
-use Rattle.pf_model.specs.Grammar.{Terminal, Fits, Braces, braces_text, AreBraces, matcher_text, listed, commas_before, comma_if, label, has_colon, is_nil, IsCommaLawful, is_named, Offset, offset_text, minus_if, Moment, moment_text, front_text, IsMoment, millis_of, Modifiers, modifiers_text, these, AreModifiers, range_text, IsPositive}
+use Rattle.pf_model.specs.Grammar.{Terminal, Fits, Braces, braces_terminals, AreBraces, matcher_terminals, listed, commas_before, comma_if, label, has_colon, is_nil, IsCommaLawful, is_named, Offset, offset_terminals, minus_if, AtModifier, at_modifier_terminals, front_terminals, IsAtModifier, millis_of, Modifiers, modifiers_terminals, these, AreModifiers, range_terminals, IsPositive}
 use Rattle.pf_model.specs.Grammar as grammar
 use Rattle.pf_model.specs.Tokens as token
 use Rattle.pf_model.specs.Words.{match_text}
@@ -30,11 +30,11 @@ abbrev plain : List Matcher → List Frame → State
 plain ms k = on (modified (Some (selector ms None)) nothing_read) k
 
 pub braces_onto : (b : Braces) (zs : List Terminal)
-    → braces_text b ++ zs ≡ grammar.sign (codes "{") ∷ (listed (map matcher_text b.matchers) ++ (comma_if b.comma ++ brace zs))
+    → braces_terminals b ++ zs ≡ grammar.sign (codes "{") ∷ (listed (map matcher_terminals b.matchers) ++ (comma_if b.comma ++ brace zs))
 braces_onto b zs =
     ap (λ xs. grammar.sign (codes "{") ∷ xs)
-    (append_assoc (listed (map matcher_text b.matchers)) (comma_if b.comma ++ (grammar.sign (codes "}") ∷ [])) zs
-    ∙ ap (λ xs. listed (map matcher_text b.matchers) ++ xs) (append_assoc (comma_if b.comma) (grammar.sign (codes "}") ∷ []) zs))
+    (append_assoc (listed (map matcher_terminals b.matchers)) (comma_if b.comma ++ (grammar.sign (codes "}") ∷ [])) zs
+    ∙ ap (λ xs. listed (map matcher_terminals b.matchers) ++ xs) (append_assoc (comma_if b.comma) (grammar.sign (codes "}") ∷ []) zs))
 
 label_goes : (w : Bool) (ms : List Matcher) (k : List Frame) (l : List ℕ) (x : Lexeme) → (w && is_name l) ≡ false
     → Word l x × (has_colon l ≡ false) → step (label_due w ms) k x ≡ Some (on (sign_due w ms l) k)
@@ -51,7 +51,7 @@ sign_goes w ms k l match.Like zs us h = by_mark mark.Like (on (sign_due w ms l) 
 sign_goes w ms k l match.NotLike zs us h = by_mark mark.NotLike (on (sign_due w ms l) k) (on (text_due w ms l match.NotLike) k) zs us refl h
 
 by_matcher : (w : Bool) (ms : List Matcher) (k : List Frame) (m : Matcher) (zs : List Terminal) (us : List token.Sort)
-    → (w && is_name m.label) ≡ false → Fit (matcher_text m ++ zs) us
+    → (w && is_name m.label) ≡ false → Fit (matcher_terminals m ++ zs) us
     → Goes (on (label_due w ms) k) (on (matched w (ms ++ (m ∷ []))) k) zs us
 by_matcher w ms k m zs us e h =
     then (one (on (label_due w ms) k) (on (sign_due w ms m.label) k) (label m.label) _ us
@@ -88,7 +88,7 @@ allowed_more false m ms h = refl
 allowed_more true m ms h = second_false (is_named m) _ h
 
 more_matchers : (w : Bool) (ms ns : List Matcher) (k : List Frame) (c : Bool) (zs : List Terminal) (us : List token.Sort)
-    → Allowed w ns → Fit (commas_before (map matcher_text ns) ++ (comma_if c ++ brace zs)) us
+    → Allowed w ns → Fit (commas_before (map matcher_terminals ns) ++ (comma_if c ++ brace zs)) us
     → Goes (on (matched w ms) k) (plain (ms ++ ns) k) zs us
 more_matchers w ms [] k c zs us a h =
     subst (λ xs. Goes (on (matched w ms) k) (plain xs k) zs us) (sym (append-nil ms)) (ends_braces w ms k c zs us h)
@@ -103,7 +103,7 @@ no_comma false h = refl
 no_comma true h = h
 
 first_matchers : (w : Bool) (ms ns : List Matcher) (k : List Frame) (c : Bool) (zs : List Terminal) (us : List token.Sort)
-    → Allowed w ns → IsCommaLawful ns c → Fit (listed (map matcher_text ns) ++ (comma_if c ++ brace zs)) us
+    → Allowed w ns → IsCommaLawful ns c → Fit (listed (map matcher_terminals ns) ++ (comma_if c ++ brace zs)) us
     → Goes (on (label_due w ms) k) (plain (ms ++ ns) k) zs us
 first_matchers w ms [] k c zs us a l h =
     subst (λ xs. Goes (on (label_due w ms) k) (plain xs k) zs us) (sym (append-nil ms))
@@ -116,7 +116,7 @@ first_matchers w ms (n ∷ ns) k c zs us a l h =
 
 -- matchers behind their brace
 pub all_matchers : (w : Bool) (ms : List Matcher) (b : Braces) (k : List Frame) (zs : List Terminal) (us : List token.Sort)
-    → AreBraces b → Allowed w b.matchers → Fit (listed (map matcher_text b.matchers) ++ (comma_if b.comma ++ brace zs)) us
+    → AreBraces b → Allowed w b.matchers → Fit (listed (map matcher_terminals b.matchers) ++ (comma_if b.comma ++ brace zs)) us
     → Goes (on (label_due w ms) k) (plain (ms ++ b.matchers) k) zs us
 all_matchers w ms b k zs us l a h = first_matchers w ms b.matchers k b.comma zs us a l h
 
@@ -125,7 +125,7 @@ all_matchers w ms b k zs us l a h = first_matchers w ms b.matchers k b.comma zs 
 abbrev pub read_offset : Offset → Option ℤ
 read_offset o = offset_of o.minus (within_limit o.millis)
 
-abbrev pub read_moment : Moment → Option At
+abbrev pub read_moment : AtModifier → Option At
 read_moment (grammar.time s n) = time_at s n
 read_moment grammar.start = Some at.Start
 read_moment grammar.end = Some at.End
@@ -149,7 +149,7 @@ behind_offset true d t r k zs us h =
     (on (modified t (with_offset r (offset_of true (within_limit d)))) k) zs vs refl f)
 
 by_offset : (o : Offset) (t : Option Target) (a : Option (Option At)) (k : List Frame) (zs : List Terminal) (us : List token.Sort)
-    → Fit (offset_text o ++ zs) us
+    → Fit (offset_terminals o ++ zs) us
     → Goes (on (modified t (record { offset = None; at = a })) k)
     (on (modified t (record { offset = Some (read_offset o); at = a })) k) zs us
 by_offset o t a k zs us h =
@@ -171,7 +171,7 @@ abbrev at_time : Option Target → Read → front.Sign → ℤ → List Frame �
 at_time t r s n k = on (modified t (with_at r (time_at s n))) k
 
 behind_at : (s : front.Sign) (n : ℤ) (t : Option Target) (r : Read) (k : List Frame) (zs : List Terminal) (us : List token.Sort)
-    → int_le (pos 0) (millis_of s n) ≡ true → Fit (front_text s ++ (grammar.number n ∷ zs)) us
+    → int_le (pos 0) (millis_of s n) ≡ true → Fit (front_terminals s ++ (grammar.number n ∷ zs)) us
     → Goes (on (time_due t r) k) (at_time t r s n k) zs us
 behind_at front.bare n t r k zs us p h =
     by_micros n (on (time_due t r) k) (at_time t r front.bare n k) zs us (timed_goes front.bare n t r k p) h
@@ -198,14 +198,14 @@ by_end a w t r k zs us e h =
     (λ vs f. then (by_mark mark.Open (on (end_open_due t r a) k) (on (end_close_due t r a) k) _ vs refl f)
     (λ ws g. by_mark mark.Close (on (end_close_due t r a) k) (on (modified t (with_at r (Some a))) k) zs ws refl g))
 
-moment_goes : (m : Moment) (t : Option Target) (o : Option (Option ℤ)) (k : List Frame) (zs : List Terminal) (us : List token.Sort)
-    → IsMoment m → Fit (moment_text m ++ zs) us
+moment_goes : (m : AtModifier) (t : Option Target) (o : Option (Option ℤ)) (k : List Frame) (zs : List Terminal) (us : List token.Sort)
+    → IsAtModifier m → Fit (at_modifier_terminals m ++ zs) us
     → Goes (on (modified t (record { offset = o; at = None })) k)
     (on (modified t (record { offset = o; at = Some (read_moment m) })) k) zs us
 moment_goes (grammar.time s n) t o k zs us p h =
     let r : Read = record { offset = o; at = None } in
     then (by_mark mark.At (on (modified t r) k) (on (time_due t r) k) _ us refl h)
-    (λ vs f. behind_at s n t r k zs vs p (refit vs (append_assoc (front_text s) (grammar.number n ∷ []) zs) f))
+    (λ vs f. behind_at s n t r k zs vs p (refit vs (append_assoc (front_terminals s) (grammar.number n ∷ []) zs) f))
 moment_goes grammar.start t o k zs us p h =
     let r : Read = record { offset = o; at = None } in
     then (by_mark mark.At (on (modified t r) k) (on (time_due t r) k) _ us refl h)
@@ -216,36 +216,36 @@ moment_goes grammar.end t o k zs us p h =
     (λ vs f. by_end at.End (codes "end") t r k zs vs refl f)
 
 offset_goes : (o : Option Offset) (t : Option Target) (a : Option (Option At)) (k : List Frame) (zs : List Terminal) (us : List token.Sort)
-    → Fit (these offset_text o ++ zs) us
+    → Fit (these offset_terminals o ++ zs) us
     → Goes (on (modified t (record { offset = None; at = a })) k)
     (on (modified t (record { offset = option_map read_offset o; at = a })) k) zs us
 offset_goes None t a k zs us h = stays _ zs us h
 offset_goes (Some o) t a k zs us h = by_offset o t a k zs us h
 
-time_goes : (m : Option Moment) (t : Option Target) (o : Option (Option ℤ)) (k : List Frame) (zs : List Terminal) (us : List token.Sort)
-    → IfSome m IsMoment → Fit (these moment_text m ++ zs) us
+time_goes : (m : Option AtModifier) (t : Option Target) (o : Option (Option ℤ)) (k : List Frame) (zs : List Terminal) (us : List token.Sort)
+    → IfSome m IsAtModifier → Fit (these at_modifier_terminals m ++ zs) us
     → Goes (on (modified t (record { offset = o; at = None })) k)
     (on (modified t (record { offset = o; at = option_map read_moment m })) k) zs us
 time_goes None t o k zs us p h = stays _ zs us h
 time_goes (Some m) t o k zs us p h = moment_goes m t o k zs us p h
 
-abbrev in_order : Bool → Option Offset → Option Moment → List Terminal
+abbrev in_order : Bool → Option Offset → Option AtModifier → List Terminal
 in_order at_first o m =
-    cond at_first (these moment_text m ++ these offset_text o) (these offset_text o ++ these moment_text m)
+    cond at_first (these at_modifier_terminals m ++ these offset_terminals o) (these offset_terminals o ++ these at_modifier_terminals m)
 
-ordered_goes : (at_first : Bool) (o : Option Offset) (m : Option Moment) (t : Option Target) (k : List Frame) (zs : List Terminal) (us : List token.Sort)
-    → IfSome m IsMoment → Fit (in_order at_first o m ++ zs) us
+ordered_goes : (at_first : Bool) (o : Option Offset) (m : Option AtModifier) (t : Option Target) (k : List Frame) (zs : List Terminal) (us : List token.Sort)
+    → IfSome m IsAtModifier → Fit (in_order at_first o m ++ zs) us
     → Goes (on (modified t nothing_read) k)
     (on (modified t (record { offset = option_map read_offset o; at = option_map read_moment m })) k) zs us
 ordered_goes true o m t k zs us p h =
-    then (time_goes m t None k _ us p (refit us (append_assoc (these moment_text m) (these offset_text o) zs) h))
+    then (time_goes m t None k _ us p (refit us (append_assoc (these at_modifier_terminals m) (these offset_terminals o) zs) h))
     (λ vs f. offset_goes o t (option_map read_moment m) k zs vs f)
 ordered_goes false o m t k zs us p h =
-    then (offset_goes o t None k _ us (refit us (append_assoc (these offset_text o) (these moment_text m) zs) h))
+    then (offset_goes o t None k _ us (refit us (append_assoc (these offset_terminals o) (these at_modifier_terminals m) zs) h))
     (λ vs f. time_goes m t (option_map read_offset o) k zs vs p f)
 
 -- modifiers
 pub all_modifiers : (m : Modifiers) (t : Option Target) (k : List Frame) (zs : List Terminal) (us : List token.Sort)
-    → AreModifiers m → Fit (modifiers_text m ++ zs) us
+    → AreModifiers m → Fit (modifiers_terminals m ++ zs) us
     → Goes (on (modified t nothing_read) k) (on (modified t (read_modifiers m)) k) zs us
 all_modifiers m t k zs us p h = ordered_goes m.at_first m.offset m.at t k zs us p h

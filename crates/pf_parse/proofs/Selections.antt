@@ -12,7 +12,7 @@ use Rattle.pf_model.specs.declared.expr.At.TheVariants as at
 use Rattle.pf_model.specs.declared.expr.Matcher.{Matcher}
 use Rattle.pf_model.specs.declared.expr.MatchSign.{MatchSign}
 use Rattle.pf_model.specs.declared.expr.MatchSign.TheVariants as match
-use Rattle.pf_model.specs.Grammar.{Terminal, Fits, Written, text_of, texts_of, level, IsLawful, AreLawful, IsClause, AreLabels, AreKeys, AreModifiers, IsMoment, millis_of, AreSelected, AreBraces, Labels, labels_text, Braces, braces_text, Selected, selected_text, Offset, offset_text, Moment, moment_text, Modifiers, modifiers_text, these, IsPositive, is_named, is_nil, has_colon, operator_terminal, begins_with_bracket, without_text, matcher_text, comma_if, listed, Keys, keys_text}
+use Rattle.pf_model.specs.Grammar.{Terminal, Fits, Written, terminals_of, all_terminals, level, IsLawful, AreLawful, IsClause, AreLabels, AreKeys, AreModifiers, IsAtModifier, millis_of, AreSelected, AreBraces, Labels, labels_terminals, Braces, braces_terminals, Selected, selected_terminals, Offset, offset_terminals, AtModifier, at_modifier_terminals, Modifiers, modifiers_terminals, these, IsPositive, is_named, is_nil, has_colon, operator_terminal, begins_with_bracket, without_terminals, matcher_terminals, comma_if, listed, Keys, keys_terminals}
 use Rattle.pf_model.specs.Grammar as grammar
 use Rattle.pf_parse.specs.declared.keyword.Keyword.TheVariants as keyword
 use Rattle.pf_parse.specs.Held.{Held, Read, Target, held_target, held_aggregate, held_call, with_argument, selector, ranged, nothing_read}
@@ -35,19 +35,19 @@ brace_law [] = refl
 brace_law (m ∷ ms) = refl
 
 matcher_rows : (ms : List Matcher) (zs : List Terminal)
-    → fronts (map matcher_text ms) zs ≡ listed (map matcher_text ms) ++ (comma_if (not (is_nil ms)) ++ zs)
+    → fronts (map matcher_terminals ms) zs ≡ listed (map matcher_terminals ms) ++ (comma_if (not (is_nil ms)) ++ zs)
 matcher_rows [] zs = refl
-matcher_rows (m ∷ ms) zs = ended (map matcher_text (m ∷ ms)) zs
+matcher_rows (m ∷ ms) zs = ended (map matcher_terminals (m ∷ ms)) zs
 
 are_selected : (n : Option (List ℕ)) (b : Braces) → AreBraces b → (is_some n && list_any is_named b.matchers) ≡ false → AreSelected n (Some b)
 are_selected None b l h = l
 are_selected (Some n) b l h = (l, h)
 
 selected_onto : (n : Option (List ℕ)) (b : Braces) (zs : List Terminal)
-    → selected_text (record { metric = n; braces = Some b }) ++ zs
-    ≡ these (λ n. grammar.name n ∷ []) n ++ (grammar.sign (codes "{") ∷ (listed (map matcher_text b.matchers) ++ (comma_if b.comma ++ (grammar.sign (codes "}") ∷ zs))))
+    → selected_terminals (record { metric = n; braces = Some b }) ++ zs
+    ≡ these (λ n. grammar.name n ∷ []) n ++ (grammar.sign (codes "{") ∷ (listed (map matcher_terminals b.matchers) ++ (comma_if b.comma ++ (grammar.sign (codes "}") ∷ zs))))
 selected_onto n b zs =
-    append_assoc (these (λ n. grammar.name n ∷ []) n) (braces_text b) zs
+    append_assoc (these (λ n. grammar.name n ∷ []) n) (braces_terminals b) zs
     ∙ ap (λ us. these (λ n. grammar.name n ∷ []) n ++ us) (braces_onto b zs)
 
 choice_test : (a b : Bool) → (not a && not b) ≡ true → (a ≡ false) × (b ≡ false)
@@ -123,7 +123,7 @@ advance_matched c m k (tok.sign mark.Comma) l a =
     (ap (λ xs. record { mode = mode.label_due (is_some c.metric) xs; stack = images k }) (chosen_next c.metric c.matchers m))
     (moved _ _ (draft.label_due d) k (grammar.sign (codes ",")) refl
     (λ zs. ap (λ us. stack_text k (these (λ n. grammar.name n ∷ []) c.metric ++ (grammar.sign (codes "{") ∷ us)))
-    (ap (λ us. fronts us zs) (map-append matcher_text c.matchers (m ∷ [])) ∙ with_next (map matcher_text c.matchers) (matcher_text m) zs))
+    (ap (λ us. fronts us zs) (map-append matcher_terminals c.matchers (m ∷ [])) ∙ with_next (map matcher_terminals c.matchers) (matcher_terminals m) zs))
     (any_next (is_some c.metric) c.matchers m l.0 l.1) a)
 advance_matched c m k (tok.sign mark.CloseBrace) l a =
     let b : Braces = record { matchers = c.matchers ++ (m ∷ []); comma = false } in
@@ -132,8 +132,8 @@ advance_matched c m k (tok.sign mark.CloseBrace) l a =
     (moved _ _ (draft.modified (selects (record { metric = c.metric; braces = Some b }) None) bare) k (grammar.sign (codes "}")) refl
     (λ zs. ap (stack_text k) (selected_onto c.metric b zs
     ∙ ap (λ us. these (λ n. grammar.name n ∷ []) c.metric ++ (grammar.sign (codes "{") ∷ us))
-    (ap (λ us. listed us ++ (grammar.sign (codes "}") ∷ zs)) (map-append matcher_text c.matchers (m ∷ []))
-    ∙ sym (with_last (map matcher_text c.matchers) (matcher_text m) (grammar.sign (codes "}") ∷ zs)))))
+    (ap (λ us. listed us ++ (grammar.sign (codes "}") ∷ zs)) (map-append matcher_terminals c.matchers (m ∷ []))
+    ∙ sym (with_last (map matcher_terminals c.matchers) (matcher_terminals m) (grammar.sign (codes "}") ∷ zs)))))
     ((are_selected c.metric b refl (any_next (is_some c.metric) c.matchers m l.0 l.1), tt), tt) a)
 advance_matched c m k _ l a = tt
 
@@ -166,7 +166,7 @@ advance_range_due s k (tok.duration d) l a =
 advance_range_due s k _ l a = tt
 
 selected_fronted : (k : List Frame) (n : Option (List ℕ)) (b : Option Braces) (zs : List Terminal) → AreSelected n b
-    → Fronted k (selected_text (record { metric = n; braces = b }) ++ zs)
+    → Fronted k (selected_terminals (record { metric = n; braces = b }) ++ zs)
 selected_fronted k None None zs l = absurd l
 selected_fronted k None (Some b) zs l = and_no (tops_group k)
 selected_fronted k (Some n) None zs l = and_no (tops_group k)
@@ -182,7 +182,7 @@ advance_range (selection s) d k (tok.sign mark.CloseSquare) l a =
 advance_range (selection s) d k (tok.sign mark.Colon) l a =
     moved _ _ (draft.resolution_due (grammar.select s None unmodified) d) k (grammar.sign (codes ":")) refl
     (λ zs. ap (λ us. stack_text k (us ++ (grammar.sign (codes "[") ∷ grammar.duration d ∷ grammar.sign (codes ":") ∷ zs)))
-    (append-nil (selected_text s)))
+    (append-nil (selected_terminals s)))
     ((omega arith, (l.0, tt, tt), selected_fronted k s.metric s.braces [] l.0), l.1) a
 advance_range (operand e) d k (tok.sign mark.Colon) l a =
     moved _ _ (draft.resolution_due e d) k (grammar.sign (codes ":")) refl (λ zs. refl) l a
@@ -214,15 +214,15 @@ pub goal_read : (g : Goal) (m : Modifiers) → read_of (goal_written g m) ≡ he
 goal_read (selects s r) m = refl
 goal_read (over e d r) m = refl
 
-pub goal_onto : (g : Goal) (m : Modifiers) (zs : List Terminal) → text_of (goal_written g m) ++ zs ≡ goal_text g (modifiers_text m ++ zs)
+pub goal_onto : (g : Goal) (m : Modifiers) (zs : List Terminal) → terminals_of (goal_written g m) ++ zs ≡ goal_text g (modifiers_terminals m ++ zs)
 goal_onto (selects s r) m zs =
-    append_assoc (selected_text s) (these grammar.range_text r ++ modifiers_text m) zs
-    ∙ ap (λ us. selected_text s ++ us) (append_assoc (these grammar.range_text r) (modifiers_text m) zs)
+    append_assoc (selected_terminals s) (these grammar.range_terminals r ++ modifiers_terminals m) zs
+    ∙ ap (λ us. selected_terminals s ++ us) (append_assoc (these grammar.range_terminals r) (modifiers_terminals m) zs)
 goal_onto (over e d r) m zs =
-    append_assoc (text_of e) (grammar.sign (codes "[") ∷ grammar.duration d ∷ grammar.sign (codes ":")
-    ∷ (draft.resolved r ++ (grammar.sign (codes "]") ∷ modifiers_text m))) zs
-    ∙ ap (λ us. text_of e ++ (grammar.sign (codes "[") ∷ grammar.duration d ∷ grammar.sign (codes ":") ∷ us))
-    (append_assoc (draft.resolved r) (grammar.sign (codes "]") ∷ modifiers_text m) zs)
+    append_assoc (terminals_of e) (grammar.sign (codes "[") ∷ grammar.duration d ∷ grammar.sign (codes ":")
+    ∷ (draft.resolved r ++ (grammar.sign (codes "]") ∷ modifiers_terminals m))) zs
+    ∙ ap (λ us. terminals_of e ++ (grammar.sign (codes "[") ∷ grammar.duration d ∷ grammar.sign (codes ":") ∷ us))
+    (append_assoc (draft.resolved r) (grammar.sign (codes "]") ∷ modifiers_terminals m) zs)
 
 pub goal_stands : (g : Goal) (m : Modifiers) (k : List Frame) → IsGoal g k → AreModifiers m → IsStand (operand (goal_written g m)) k
 goal_stands (selects s r) m k l p = (omega arith, (l.0, l.1, p), selected_fronted k s.metric s.braces _ l.0)
@@ -301,7 +301,7 @@ modified_at : (g : Goal) (w : Given) (k : List Frame) (t : Tok) → Fits (gramma
 modified_at g bare k t f l a = moved _ _ (draft.time_due g None) k (grammar.sign (codes "@")) f (λ zs. refl) l.0 a
 modified_at g (offset_given o) k t f l a =
     moved _ _ (draft.time_due g (Some o)) k (grammar.sign (codes "@")) f
-    (λ zs. ap (λ us. stack_text k (goal_text g (us ++ (grammar.sign (codes "@") ∷ zs)))) (sym (append-nil (offset_text o)))) l.0 a
+    (λ zs. ap (λ us. stack_text k (goal_text g (us ++ (grammar.sign (codes "@") ∷ zs)))) (sym (append-nil (offset_terminals o)))) l.0 a
 modified_at g (at_given m) k t f l a = tt
 modified_at g (both_given first o m) k t f l a = tt
 
@@ -328,18 +328,18 @@ advance_named n k (tok.sign mark.OpenBrace) a =
 advance_named n k t a = named_as_modified n k t a
 
 -- an offset behind an `@` or none
-offset_read : (d : Draft) (t : Tok) (g : Goal) (m : Option Moment) (o : Offset) (k : List Frame) (c : Terminal) → Fits c (sort t)
-    → ((zs : List Terminal) → stack_text k (goal_text g (these moment_text m ++ (offset_text o ++ zs))) ≡ text d (c ∷ zs))
-    → IsGoal g k × IfSome m IsMoment → AreFrames k
+offset_read : (d : Draft) (t : Tok) (g : Goal) (m : Option AtModifier) (o : Offset) (k : List Frame) (c : Terminal) → Fits c (sort t)
+    → ((zs : List Terminal) → stack_text k (goal_text g (these at_modifier_terminals m ++ (offset_terminals o ++ zs))) ≡ text d (c ∷ zs))
+    → IsGoal g k × IfSome m IsAtModifier → AreFrames k
     → Advanced d t (record { mode = mode.modified (goal_image g) (mode.with_offset (draft.some_at m) (read_offset o)); stack = images k })
 offset_read d t g None o k c f h l a =
     moved d t (draft.modified g (offset_given o)) k c f
-    (λ zs. ap (λ us. stack_text k (goal_text g (us ++ zs))) (append-nil (offset_text o)) ∙ h zs) (l.0, tt) a
+    (λ zs. ap (λ us. stack_text k (goal_text g (us ++ zs))) (append-nil (offset_terminals o)) ∙ h zs) (l.0, tt) a
 offset_read d t g (Some m) o k c f h l a =
     moved d t (draft.modified g (both_given true o m)) k c f
-    (λ zs. ap (λ us. stack_text k (goal_text g us)) (append_assoc (moment_text m) (offset_text o) zs) ∙ h zs) (l.0, l.1) a
+    (λ zs. ap (λ us. stack_text k (goal_text g us)) (append_assoc (at_modifier_terminals m) (offset_terminals o) zs) ∙ h zs) (l.0, l.1) a
 
-advance_offset_due : (g : Goal) (m : Option Moment) (k : List Frame) (t : Tok) → IsGoal g k × IfSome m IsMoment → AreFrames k
+advance_offset_due : (g : Goal) (m : Option AtModifier) (k : List Frame) (t : Tok) → IsGoal g k × IfSome m IsAtModifier → AreFrames k
     → Advance (at_mode (draft.offset_due g m) k) t (mode.offset_step (goal_image g) (draft.some_at m) (images k) (seen t))
 advance_offset_due g m k (tok.sign mark.Minus) l a =
     moved _ _ (draft.minus_offset_due g m) k (grammar.sign (codes "-")) refl (λ zs. refl) l a
@@ -347,25 +347,25 @@ advance_offset_due g m k (tok.duration d) l a =
     offset_read _ _ g m (record { minus = false; millis = d }) k (grammar.duration d) refl (λ zs. refl) l a
 advance_offset_due g m k _ l a = tt
 
-advance_minus_offset_due : (g : Goal) (m : Option Moment) (k : List Frame) (t : Tok) → IsGoal g k × IfSome m IsMoment → AreFrames k
+advance_minus_offset_due : (g : Goal) (m : Option AtModifier) (k : List Frame) (t : Tok) → IsGoal g k × IfSome m IsAtModifier → AreFrames k
     → Advance (at_mode (draft.minus_offset_due g m) k) t (mode.minus_offset_step (goal_image g) (draft.some_at m) (images k) (seen t))
 advance_minus_offset_due g m k (tok.duration d) l a =
     offset_read _ _ g m (record { minus = true; millis = d }) k (grammar.duration d) refl (λ zs. refl) l a
 advance_minus_offset_due g m k _ l a = tt
 
 -- an `@` behind an offset or none
-moment_read : (d : Draft) (t : Tok) (g : Goal) (o : Option Offset) (m : Moment) (k : List Frame) (c : Terminal) → Fits c (sort t)
-    → ((zs : List Terminal) → stack_text k (goal_text g (these offset_text o ++ (moment_text m ++ zs))) ≡ text d (c ∷ zs))
-    → IsMoment m → IsGoal g k → AreFrames k
+moment_read : (d : Draft) (t : Tok) (g : Goal) (o : Option Offset) (m : AtModifier) (k : List Frame) (c : Terminal) → Fits c (sort t)
+    → ((zs : List Terminal) → stack_text k (goal_text g (these offset_terminals o ++ (at_modifier_terminals m ++ zs))) ≡ text d (c ∷ zs))
+    → IsAtModifier m → IsGoal g k → AreFrames k
     → Advanced d t (record { mode = mode.modified (goal_image g) (mode.with_at (draft.some_offset o) (read_moment m)); stack = images k })
 moment_read d t g None m k c f h p l a =
     moved d t (draft.modified g (at_given m)) k c f h (l, p) a
 moment_read d t g (Some o) m k c f h p l a =
     moved d t (draft.modified g (both_given false o m)) k c f
-    (λ zs. ap (λ us. stack_text k (goal_text g us)) (append_assoc (offset_text o) (moment_text m) zs) ∙ h zs) (l, p) a
+    (λ zs. ap (λ us. stack_text k (goal_text g us)) (append_assoc (offset_terminals o) (at_modifier_terminals m) zs) ∙ h zs) (l, p) a
 
 timed_read : (d : Draft) (g : Goal) (o : Option Offset) (s : front.Sign) (n : ℤ) (k : List Frame)
-    → ((zs : List Terminal) → stack_text k (goal_text g (these offset_text o ++ (moment_text (grammar.time s n) ++ zs))) ≡ text d (grammar.number n ∷ zs))
+    → ((zs : List Terminal) → stack_text k (goal_text g (these offset_terminals o ++ (at_modifier_terminals (grammar.time s n) ++ zs))) ≡ text d (grammar.number n ∷ zs))
     → IsGoal g k → AreFrames k
     → Advance d (tok.number n) (mode.timed (goal_image g) (draft.some_offset o) s n (images k))
 timed_read d g o s n k h l a =
@@ -411,8 +411,8 @@ advance_signed_time_due : (g : Goal) (o : Option Offset) (s : Bool) (k : List Fr
     → Advance (at_mode (draft.signed_time_due g o s) k) t (mode.signed_time_step (goal_image g) (draft.some_offset o) s (images k) (seen t))
 advance_signed_time_due g o s k (tok.number n) l a =
     timed_read (at_mode (draft.signed_time_due g o s) k) g o (mode.sign_of s) n k
-    (λ zs. ap (λ us. stack_text k (goal_text g (these offset_text o ++ (grammar.sign (codes "@") ∷ us))))
-    (append_assoc (grammar.front_text (mode.sign_of s)) (grammar.number n ∷ []) zs)) l a
+    (λ zs. ap (λ us. stack_text k (goal_text g (these offset_terminals o ++ (grammar.sign (codes "@") ∷ us))))
+    (append_assoc (grammar.front_terminals (mode.sign_of s)) (grammar.number n ∷ []) zs)) l a
 advance_signed_time_due g o s k _ l a = tt
 
 advance_end_open_due : (g : Goal) (o : Option Offset) (b : Bool) (k : List Frame) (t : Tok) → IsGoal g k → AreFrames k

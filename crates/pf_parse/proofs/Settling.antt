@@ -4,7 +4,7 @@ use Rattle.std.proofs.lemmas.Bool.{leb-true, leb-false}
 use Rattle.std.proofs.lemmas.List.{append_assoc}
 use Rattle.pf_model.proofs.Levels.{level_positive}
 use Rattle.pf_model.specs.declared.expr.BinaryOp.{BinaryOp}
-use Rattle.pf_model.specs.Grammar.{Terminal, Written, text_of, level, IsLawful, Keys, AreKeys, begins_with_bracket, unary, binary, operator_terminal, bool_text, these, keys_text, ends_with_group}
+use Rattle.pf_model.specs.Grammar.{Terminal, Written, terminals_of, level, IsLawful, Keys, AreKeys, begins_with_bracket, unary, binary, operator_terminal, bool_terminals, these, keys_terminals, ends_with_group}
 use Rattle.pf_model.specs.Words.{level_of}
 use Rattle.pf_parse.specs.Reading as mode
 use Rattle.pf_parse.specs.Held.{held_binary}
@@ -16,10 +16,10 @@ pub record Settled (l : ℕ) (e : Written) (k : List Frame) : Type 0 where
   pub written : Written
   pub stack : List Frame
   pub is : mode.settle l (read_of e) (images k) ≡ record { held = read_of written; stack = images stack }
-  pub spells : (zs : List Terminal) → stack_text stack (text_of written ++ zs) ≡ stack_text k (text_of e ++ zs)
+  pub spells : (zs : List Terminal) → stack_text stack (terminals_of written ++ zs) ≡ stack_text k (terminals_of e ++ zs)
   pub lawful : IsLawful written
   pub low : level written ≤ l
-  pub fronted : Fronted stack (text_of written)
+  pub fronted : Fronted stack (terminals_of written)
   pub room : Room l stack
   pub frames : AreFrames stack
 
@@ -34,38 +34,38 @@ room_one (left op keys a ∷ k) = omega (arith, level_positive op.sign)
 room_one (bracket ∷ k) = tt
 room_one (calling c es ∷ k) = tt
 
-sign_fronted : (minus : Bool) (k : List Frame) (e : Written) → Fronted k (text_of (unary minus e))
+sign_fronted : (minus : Bool) (k : List Frame) (e : Written) → Fronted k (terminals_of (unary minus e))
 sign_fronted true k e = and_no (tops_group k)
 sign_fronted false k e = and_no (tops_group k)
 
 -- an operation begins as its left operand
-front_kept : (a : Written) (zs : List Terminal) → IsLawful a → begins_with_bracket (text_of a ++ zs) ≡ begins_with_bracket (text_of a)
+front_kept : (a : Written) (zs : List Terminal) → IsLawful a → begins_with_bracket (terminals_of a ++ zs) ≡ begins_with_bracket (terminals_of a)
 front_kept a zs l =
     let f = front_of a l in
     ap (λ xs. begins_with_bracket (xs ++ zs)) f.is
     ∙ (bracket_first f.first (f.behind ++ zs)
     ∙ (sym (bracket_first f.first f.behind) ∙ sym (ap begins_with_bracket f.is)))
 
-pub fronted_onto : (k : List Frame) (a : Written) (zs : List Terminal) → IsLawful a → Fronted k (text_of a) → Fronted k (text_of a ++ zs)
+pub fronted_onto : (k : List Frame) (a : Written) (zs : List Terminal) → IsLawful a → Fronted k (terminals_of a) → Fronted k (terminals_of a ++ zs)
 fronted_onto k a zs l f = ap (λ b. tops_group k && b) (front_kept a zs l) ∙ f
 
 binary_text : (op : BinaryOp) (keys : Option Keys) (a e : Written) (zs : List Terminal)
-    → text_of (binary op keys a e) ++ zs
-    ≡ text_of a ++ (operator_terminal op ∷ (bool_text op.with_bool ++ (these keys_text keys ++ (text_of e ++ zs))))
+    → terminals_of (binary op keys a e) ++ zs
+    ≡ terminals_of a ++ (operator_terminal op ∷ (bool_terminals op.with_bool ++ (these keys_terminals keys ++ (terminals_of e ++ zs))))
 binary_text op keys a e zs =
-    append_assoc (text_of a) (operator_terminal op ∷ (bool_text op.with_bool ++ (these keys_text keys ++ text_of e))) zs
-    ∙ ap (λ us. text_of a ++ (operator_terminal op ∷ us))
-    (append_assoc (bool_text op.with_bool) (these keys_text keys ++ text_of e) zs
-    ∙ ap (λ us. bool_text op.with_bool ++ us) (append_assoc (these keys_text keys) (text_of e) zs))
+    append_assoc (terminals_of a) (operator_terminal op ∷ (bool_terminals op.with_bool ++ (these keys_terminals keys ++ terminals_of e))) zs
+    ∙ ap (λ us. terminals_of a ++ (operator_terminal op ∷ us))
+    (append_assoc (bool_terminals op.with_bool) (these keys_terminals keys ++ terminals_of e) zs
+    ∙ ap (λ us. bool_terminals op.with_bool ++ us) (append_assoc (these keys_terminals keys) (terminals_of e) zs))
 
-same : (l : ℕ) (e : Written) (k : List Frame) → IsLawful e → level e ≤ l → Fronted k (text_of e) → Room l k → AreFrames k
+same : (l : ℕ) (e : Written) (k : List Frame) → IsLawful e → level e ≤ l → Fronted k (terminals_of e) → Room l k → AreFrames k
     → mode.settle l (read_of e) (images k) ≡ record { held = read_of e; stack = images k } → Settled l e k
 same l e k w b f r a h =
     record { written = e; stack = k; is = h; spells = λ zs. refl; lawful = w; low = b; fronted = f; room = r; frames = a }
 
 through : (l : ℕ) (d e : Written) (j k : List Frame) → Settled l d j
     → mode.settle l (read_of e) (images k) ≡ mode.settle l (read_of d) (images j)
-    → ((zs : List Terminal) → stack_text j (text_of d ++ zs) ≡ stack_text k (text_of e ++ zs)) → Settled l e k
+    → ((zs : List Terminal) → stack_text j (terminals_of d ++ zs) ≡ stack_text k (terminals_of e ++ zs)) → Settled l e k
 through l d e j k s h g =
     record {
       written = s.written;
@@ -79,7 +79,7 @@ through l d e j k s h g =
       frames = s.frames;
     }
 
-pub settled : (l : ℕ) (k : List Frame) (e : Written) → 2 ≤ l → IsLawful e → level e ≤ l → Room (level e) k → Fronted k (text_of e)
+pub settled : (l : ℕ) (k : List Frame) (e : Written) → 2 ≤ l → IsLawful e → level e ≤ l → Room (level e) k → Fronted k (terminals_of e)
     → AreFrames k → Settled l e k
 settled l [] e p w b r f a = same l e [] w b f tt a refl
 settled l (signed minus ∷ k) e p w b r f a =

@@ -7,7 +7,7 @@ use Rattle.pf_lex.specs.Seen.{IsTokenOf}
 use Rattle.pf_model.specs.Clauses.{Matched}
 use Rattle.pf_model.specs.declared.expr.BinaryOp.{BinaryOp}
 use Rattle.pf_model.specs.declared.expr.Function.{Function}
-use Rattle.pf_model.specs.Grammar.{Terminal, Written, Arguments, brackets, call, aggregate, unary, binary, select, subquery, none, more, text_of, texts_of, more_texts, FitAll, IsLawful, AreLawful, Derives, Braces, AreSelected, selected_text, these, range_text, modifiers_text, before_text, behind_text, bool_text, keys_text, operator_terminal, meaning, meanings, both, grouped_of, matched_of, mods_of}
+use Rattle.pf_model.specs.Grammar.{Terminal, Written, Arguments, brackets, call, aggregate, unary, binary, select, subquery, none, more, terminals_of, all_terminals, more_terminals, FitAll, IsLawful, AreLawful, Derives, Braces, AreSelected, selected_terminals, these, range_terminals, modifiers_terminals, before_terminals, behind_terminals, bool_terminals, keys_terminals, operator_terminal, meaning, meanings, both, grouped_of, matched_of, mods_of}
 use Rattle.pf_model.specs.Grammar as grammar
 use Rattle.pf_model.specs.Parsing.{sorts, Parses}
 use Rattle.pf_model.specs.Tokens.{Sort, Token, AreTokens, BeginsWith, end_of, inside_behind}
@@ -59,23 +59,23 @@ with_more (Some t) None = omega arith
 with_more (Some t) (Some ts) = omega arith
 
 selector_length : (n : Option (List ℕ)) (b : Option Braces) → AreSelected n b
-    → 1 ≤ length (selected_text (record { metric = n; braces = b }))
+    → 1 ≤ length (selected_terminals (record { metric = n; braces = b }))
 selector_length None None p = absurd p
 selector_length None (Some b) p = omega arith
 selector_length (Some n) b p = omega arith
 
 mutual
-  written_size : (w : Written) → IsLawful w → known_size (meaning w) ≤ length (text_of w)
+  written_size : (w : Written) → IsLawful w → known_size (meaning w) ≤ length (terminals_of w)
   written_size (grammar.number n) p = omega arith
   written_size (grammar.text t) p = omega arith
   written_size (brackets e) p =
-      omega (arith, written_size e p, length-append (text_of e) (grammar.sign (codes ")") ∷ []))
+      omega (arith, written_size e p, length-append (terminals_of e) (grammar.sign (codes ")") ∷ []))
   written_size (call n es) p =
       omega (
         arith,
         over_called (function_of n) (meanings es),
         arguments_size es p,
-        length-append (texts_of es) (grammar.sign (codes ")") ∷ []),
+        length-append (all_terminals es) (grammar.sign (codes ")") ∷ []),
       )
   written_size (aggregate op c none) p = absurd p
   written_size (aggregate op c (more e es)) p =
@@ -83,8 +83,8 @@ mutual
         arith,
         over_all (tree.aggregate op (grouped_of c)) (λ ts. refl) (meanings (more e es)),
         arguments_size (more e es) (p.1, p.2),
-        length-append (before_text c) (grammar.sign (codes "(") ∷ (texts_of (more e es) ++ (grammar.sign (codes ")") ∷ behind_text c))),
-        length-append (texts_of (more e es)) (grammar.sign (codes ")") ∷ behind_text c),
+        length-append (before_terminals c) (grammar.sign (codes "(") ∷ (all_terminals (more e es) ++ (grammar.sign (codes ")") ∷ behind_terminals c))),
+        length-append (all_terminals (more e es)) (grammar.sign (codes ")") ∷ behind_terminals c),
       )
   written_size (unary minus e) p =
       omega (arith, over_one (tree.unary minus) (λ t. refl) (meaning e), written_size e p.1)
@@ -94,22 +94,22 @@ mutual
         over_two op (matched_of k) (meaning a) (meaning b),
         written_size a p.5,
         written_size b p.6,
-        length-append (text_of a) (operator_terminal op ∷ (bool_text op.with_bool ++ (these keys_text k ++ text_of b))),
-        length-append (bool_text op.with_bool) (these keys_text k ++ text_of b),
-        length-append (these keys_text k) (text_of b),
+        length-append (terminals_of a) (operator_terminal op ∷ (bool_terminals op.with_bool ++ (these keys_terminals k ++ terminals_of b))),
+        length-append (bool_terminals op.with_bool) (these keys_terminals k ++ terminals_of b),
+        length-append (these keys_terminals k) (terminals_of b),
       )
   written_size (select s r m) p =
-      omega (arith, selector_length s.metric s.braces p.0, length-append (selected_text s) (these range_text r ++ modifiers_text m))
+      omega (arith, selector_length s.metric s.braces p.0, length-append (selected_terminals s) (these range_terminals r ++ modifiers_terminals m))
   written_size (subquery e d r m) p =
       omega (
         arith,
         over_one (λ t. tree.subquery t d r (mods_of m)) (λ t. refl) (meaning e),
         written_size e p.1,
-        length-append (text_of e) (grammar.sign (codes "[") ∷ grammar.duration d ∷ grammar.sign (codes ":")
-            ∷ (these (λ x. grammar.duration x ∷ []) r ++ (grammar.sign (codes "]") ∷ modifiers_text m))),
+        length-append (terminals_of e) (grammar.sign (codes "[") ∷ grammar.duration d ∷ grammar.sign (codes ":")
+            ∷ (these (λ x. grammar.duration x ∷ []) r ++ (grammar.sign (codes "]") ∷ modifiers_terminals m))),
       )
 
-  arguments_size : (es : Arguments) → AreLawful es → known_sizes (meanings es) ≤ length (texts_of es)
+  arguments_size : (es : Arguments) → AreLawful es → known_sizes (meanings es) ≤ length (all_terminals es)
   arguments_size none p = omega arith
   arguments_size (more e es) p =
       omega (
@@ -117,10 +117,10 @@ mutual
         with_more (meaning e) (meanings es),
         written_size e p.0,
         more_size es p.1,
-        length-append (text_of e) (more_texts es),
+        length-append (terminals_of e) (more_terminals es),
       )
 
-  more_size : (es : Arguments) → AreLawful es → known_sizes (meanings es) ≤ length (more_texts es)
+  more_size : (es : Arguments) → AreLawful es → known_sizes (meanings es) ≤ length (more_terminals es)
   more_size none p = omega arith
   more_size (more e es) p =
       omega (
@@ -128,7 +128,7 @@ mutual
         with_more (meaning e) (meanings es),
         written_size e p.0,
         more_size es p.1,
-        length-append (text_of e) (more_texts es),
+        length-append (terminals_of e) (more_terminals es),
       )
 
 -- ---- terminals and tokens
@@ -141,7 +141,7 @@ fit_length (z ∷ zs) (u ∷ us) h = ap suc (fit_length zs us h.1)
 
 pub derived_size : (us : List Sort) (t : Tree) → Derives us t → size t ≤ length us
 derived_size us t d =
-    omega (arith, written_size d.written d.derived.lawful, ap known_size d.means, fit_length (text_of d.written) us d.derived.fits)
+    omega (arith, written_size d.written d.derived.lawful, ap known_size d.means, fit_length (terminals_of d.written) us d.derived.fits)
 
 -- ---- tokens and bytes
 

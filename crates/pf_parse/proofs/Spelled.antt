@@ -2,7 +2,7 @@
 use Rattle.std.proofs.Common.{◌≡◌, ◌∙◌, sym, refl, ap, subst, List, [], ◌∷◌, ◌++◌, Option, Some, None, arith}
 use Rattle.std.proofs.lemmas.List.{append-nil}
 use Rattle.std.specs.Option.{option_and_then}
-use Rattle.pf_model.specs.Grammar.{Terminal, Written, text_of, FitAll, IsLawful, select}
+use Rattle.pf_model.specs.Grammar.{Terminal, Written, terminals_of, FitAll, IsLawful, select}
 use Rattle.pf_model.specs.Grammar as grammar
 use Rattle.pf_model.specs.Tokens as token
 use Rattle.pf_parse.specs.Held.{Held, held_target}
@@ -20,7 +20,7 @@ pub record Spelled (d : Draft) (us : List token.Sort) (a : Held) : Type 0 where
   pub written : Written
   pub behind : List Terminal
   pub fits : FitAll behind us
-  pub spells : text d behind ≡ text_of written
+  pub spells : text d behind ≡ terminals_of written
   pub lawful : IsLawful written
   pub is : read_of written ≡ a
 
@@ -36,14 +36,14 @@ none_some a h = absurd (never h)
     never h = cc
 
 bottom : (e d : Written) (j k : List Frame) (a : Held) → mode.ended (record { held = read_of d; stack = images j }) ≡ Some a
-    → ((zs : List Terminal) → stack_text j (text_of d ++ zs) ≡ stack_text k (text_of e ++ zs)) → IsLawful d
+    → ((zs : List Terminal) → stack_text j (terminals_of d ++ zs) ≡ stack_text k (terminals_of e ++ zs)) → IsLawful d
     → Spelled (at_mode (draft.whole e) k) [] a
 bottom e d [] k a h g l =
     record {
       written = d;
       behind = [];
       fits = tt;
-      spells = sym (g []) ∙ append-nil (text_of d);
+      spells = sym (g []) ∙ append-nil (terminals_of d);
       lawful = l;
       is = some_same (read_of d) a h;
     }
@@ -118,7 +118,7 @@ spelled_from (u ∷ us) d a l h =
 
 pub record Derivation (us : List token.Sort) (a : Held) : Type 0 where
   pub written : Written
-  pub fits : FitAll (text_of written) us
+  pub fits : FitAll (terminals_of written) us
   pub lawful : IsLawful written
   pub is : read_of written ≡ a
 

@@ -15,7 +15,7 @@ use Rattle.pf_model.specs.declared.expr.Side.{Side}
 use Rattle.pf_model.specs.declared.expr.Side.TheVariants as side
 use Rattle.pf_model.specs.declared.functions.InstantFn.TheVariants as instant
 use Rattle.pf_model.specs.declared.functions.RangeFn.TheVariants as ranged
-use Rattle.pf_model.specs.Grammar.{Written, Arguments, IsLawful, AreLawful, AreKeys, AreModifiers, IsPositive, Derives, IsDerived, Keys, Group, meaning, meanings, both, matched_of, grouped_of, mods_of, side_of, include_of, ends_with_group, text_of, begins_with_bracket, is_nil}
+use Rattle.pf_model.specs.Grammar.{Written, Arguments, IsLawful, AreLawful, AreKeys, AreModifiers, IsPositive, Derives, IsDerived, Keys, Group, meaning, meanings, both, matched_of, grouped_of, mods_of, side_of, include_of, ends_with_group, terminals_of, begins_with_bracket, is_nil}
 use Rattle.pf_model.specs.Grammar as grammar
 use Rattle.pf_lex.specs.CanonicalTokens.{HasTree, IsPrintable}
 use Rattle.pf_model.specs.Trees.{Tree, Trees}
@@ -49,7 +49,7 @@ abbrev mutual
 
 -- ---- what is written is lawful
 
-moment_lawful : (a : Option At) → IfSome (option_map moment_written a) grammar.IsMoment
+moment_lawful : (a : Option At) → IfSome (option_map moment_written a) grammar.IsAtModifier
 moment_lawful None = tt
 moment_lawful (Some (at.Time m)) = le-leb 0 (m * 1000 / 1000) (omega arith)
 moment_lawful (Some at.Start) = tt
@@ -142,7 +142,7 @@ mods_back a o = ap (λ x. record { at = x; offset = grammar.offset_of (offset_wr
     whole : (m : ℕ) → m * 1000 / 1000 ≡ m
     whole m = omega arith
 
-    at_back : (a : Option At) → option_map grammar.moment_of (option_map moment_written a) ≡ a
+    at_back : (a : Option At) → option_map grammar.at_of (option_map moment_written a) ≡ a
     at_back None = refl
     at_back (Some (at.Time m)) = ap (λ n. Some (at.Time n)) (whole m)
     at_back (Some at.Start) = refl

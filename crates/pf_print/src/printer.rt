@@ -2,7 +2,7 @@
 
 ghost use Rattle.std.specs.Prelude.{◌≡◌, ◌++◌, ◌∷◌, codes, cond, map, not, IfOk, OnOk, List, ℕ, ◌≤◌, length};
 ghost use Rattle.pf_model.specs.Lists.{all_behind};
-ghost use Rattle.pf_model.specs.Canonical.{at_text, canonical, group_text, grouping_text, in_brackets, keys_text, labels_text, matcher_text, mods_text, offset_text, range_text, resolution_text, selector_text};
+ghost use Rattle.pf_model.specs.Canonical.{at_text, canonical, group_text, grouping_text, in_brackets, keys_text, names_text, matcher_text, mods_text, offset_text, range_text, resolution_text, selector_text};
 ghost use Rattle.pf_lex.specs.CanonicalTokens.{HasTree};
 ghost use Rattle.pf_model.specs.Parsing.{Parses, most_bytes};
 ghost use Rattle.pf_model.specs.Trees.{Tree, height, tree_of};
@@ -29,7 +29,7 @@ fn push_labels_behind(out: &mut Output, labels: &[Text]) -> Result<(), OutOfMemo
 
 /// Labels in brackets.
 fn push_labels(out: &mut Output, labels: &[Text]) -> Result<(), OutOfMemory>
-    ensures { OnOk result (out.new ≡ out.old ++ labels_text labels.now) }
+    ensures { OnOk result (out.new ≡ out.old ++ names_text labels.now) }
 {
     out.push("(")?;
     if let Some((first, behind)) = labels.split_first() {

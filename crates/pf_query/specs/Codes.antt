@@ -35,12 +35,12 @@ grid_code =
     code_by (ℕ × (ℕ × ℕ)) (coded× coded_ℕ (coded× coded_ℕ coded_ℕ)) (λ g. (g.start, (g.step, g.len)))
     (λ p. record { start = p.0; step = p.1.0; len = p.1.1 }) (λ _. refl)
 
-abbrev pub query_code : Coded direct.Asked
+abbrev pub query_code : Coded direct.GridQuery
 query_code =
     code_by (Tree × GridData) (coded× coded_tree grid_code) (λ q. (q.tree, q.grid)) (λ p. record { tree = p.0; grid = p.1 }) (λ _. refl)
 
 abbrev pub asked_code : Coded Asked
 asked_code =
-    code_by (direct.Asked × (Kind × (Bool × List ℕ))) (coded× query_code (coded× kind_code (coded× coded_bool bytes_code)))
+    code_by (direct.GridQuery × (Kind × (Bool × List ℕ))) (coded× query_code (coded× kind_code (coded× coded_bool bytes_code)))
     (λ a. (a.query, (a.kind, (a.instant, a.text)))) (λ p. record { query = p.0; kind = p.1.0; instant = p.1.1.0; text = p.1.1.1 })
     (λ _. refl)

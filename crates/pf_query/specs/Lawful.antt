@@ -7,7 +7,7 @@ use Rattle.pf_model.specs.Binding.{patterns_of, selectors_of}
 use Rattle.pf_model.specs.Built.{is_evaluated}
 use Rattle.pf_model.specs.Canonical.{canonical}
 use Rattle.pf_model.specs.Trees.{height}
-use Rattle.pf_model.specs.Typing.{accepts, kind_of, scalar_or_instant}
+use Rattle.pf_model.specs.Typing.{admits, kind_of, scalar_or_instant}
 use Rattle.pf_resolve.specs.Bounds.{is_small}
 use Rattle.pf_resolve.specs.Settled.{is_settled}
 
@@ -19,7 +19,7 @@ pub record IsAsked (asked : Asked) (matchers : List (List Matcher)) (patterns : 
   pub low : height asked.query.tree ≤ 64
   pub small : is_small asked.query.tree ≡ true
   pub kind : kind_of asked.query.tree ≡ asked.kind
-  pub wanted : accepts scalar_or_instant asked.kind ≡ true
+  pub wanted : admits scalar_or_instant asked.kind ≡ true
   pub text : asked.text ≡ canonical asked.query.tree
   pub selectors : matchers ≡ selectors_of asked.query.tree
   pub replacements : patterns ≡ patterns_of asked.query.tree

@@ -16,21 +16,21 @@ use Rattle.pf_journal.specs.Machine.{What, answer, full, no_tenant, Open, answer
 use Rattle.pf_journal.specs.Replies.{answer_reply, answered, asking_refusal, body_of, refused_reply, reply_line, unasked, unentered_reply}
 use Rattle.pf_journal.specs.Rest.{Known, Told, nothing, no_memory, waiting, failed_five}
 use Rattle.pf_journal.specs.Turns.{Ran, Turn}
-use Rattle.pf_report.specs.Bodies.{answer_body, code_in, result_body, text_of}
+use Rattle.pf_report.specs.Bodies.{answer_body, code_in, result_body, text_of_body}
 use Rattle.pf_report.specs.declared.bodies.Body.{Body}
 use Rattle.pf_report.specs.declared.bodies.Body.TheVariants.{Refused, Full, JobFailed, Cancelled, TooManyTenants, OutOfMemory}
 
 -- ---- the body of a query's answer
 
 result_is : (instant : Bool) (kind : Kind) (rows : List MatrixRow)
-    → text_of (result_body instant kind rows) ≡ result_text instant kind rows
+    → text_of_body (result_body instant kind rows) ≡ result_text instant kind rows
 result_is false kind rows = refl
 result_is true kinds.Scalar rows = refl
 result_is true kinds.Instant rows = refl
 result_is true kinds.Range rows = refl
 result_is true kinds.Text rows = refl
 
-pub text_is : (asked : Asked) (a : Answer) → text_of (answer_body asked.instant asked.kind a) ≡ body_text asked a
+pub text_is : (asked : Asked) (a : Answer) → text_of_body (answer_body asked.instant asked.kind a) ≡ body_text asked a
 text_is asked (gathered rows) = result_is asked.instant asked.kind rows
 text_is asked (failed step error) = refl
 
@@ -53,16 +53,16 @@ body_by_code l told o (gathered rows) e = ap (body_text o.asked) e
 body_by_code l told o (failed step error) e = ap (body_text o.asked) e
 
 pub body_answered : (l : Limits) (told : Told) (o : Open)
-    → text_of (answer_body o.asked.instant o.asked.kind (answer_of l o)) ≡ body_of l told (code_of (answer_of l o)) (Some o)
+    → text_of_body (answer_body o.asked.instant o.asked.kind (answer_of l o)) ≡ body_of l told (code_of (answer_of l o)) (Some o)
 body_answered l told o = text_is o.asked (answer_of l o) ∙ sym (body_by_code l told o (answer_of l o) refl)
 
-pub body_cancelled : (l : Limits) (told : Told) (o : Option Open) → text_of Cancelled ≡ body_of l told 503 o
+pub body_cancelled : (l : Limits) (told : Told) (o : Option Open) → text_of_body Cancelled ≡ body_of l told 503 o
 body_cancelled l told o = refl
 
-pub body_failed : (l : Limits) (job : ℕ) (o : Option Open) → text_of (JobFailed job) ≡ body_of l (failed_five job) 500 o
+pub body_failed : (l : Limits) (job : ℕ) (o : Option Open) → text_of_body (JobFailed job) ≡ body_of l (failed_five job) 500 o
 body_failed l job o = refl
 
-pub body_lacks : (l : Limits) (told : Told) (o : Option Open) → text_of OutOfMemory ≡ body_of l told 507 o
+pub body_lacks : (l : Limits) (told : Told) (o : Option Open) → text_of_body OutOfMemory ≡ body_of l told 507 o
 body_lacks l told o = refl
 
 -- the body for want of memory, computed
@@ -89,7 +89,7 @@ pub answer_waits : (known : Known) (n : ℕ) (id : List ℕ) (t : Turn) (jobs : 
 answer_waits known n id t jobs e = ap (unentered_reply known n id t) (sym e)
 
 pub answer_lacks : (known : Known) (n : ℕ) (id : List ℕ) (t : Turn) → t.ran.told ≡ no_memory
-    → answered n id (decimal 507) 0 0 (text_of OutOfMemory) ≡ answer_reply known n id t None
+    → answered n id (decimal 507) 0 0 (text_of_body OutOfMemory) ≡ answer_reply known n id t None
 unfolding digits
 answer_lacks known n id t e = ap (unentered_reply known n id t) (sym e)
 
@@ -100,14 +100,14 @@ of_refused known n id t e = ap (unentered_reply known n id t) (sym e)
 
 pub answer_filled : (known : Known) (n : ℕ) (id : List ℕ) (t : Turn) (u outstanding : ℕ)
     → t.ran.told ≡ nothing → what_of t.asked ≡ Some (full u outstanding)
-    → answered n id (decimal 429) 0 0 (text_of Full) ≡ answer_reply known n id t None
+    → answered n id (decimal 429) 0 0 (text_of_body Full) ≡ answer_reply known n id t None
 unfolding digits
 answer_filled known n id t u outstanding e a =
     ap (refused_reply known n id t.asking) (sym a) ∙ of_refused known n id t e
 
 pub answer_unknown : (known : Known) (n : ℕ) (id : List ℕ) (t : Turn) (name : List ℕ)
     → t.ran.told ≡ nothing → what_of t.asked ≡ Some (no_tenant name)
-    → answered n id (decimal 503) 0 0 (text_of TooManyTenants) ≡ answer_reply known n id t None
+    → answered n id (decimal 503) 0 0 (text_of_body TooManyTenants) ≡ answer_reply known n id t None
 unfolding digits
 answer_unknown known n id t name e a =
     ap (refused_reply known n id t.asking) (sym a) ∙ of_refused known n id t e
@@ -121,14 +121,14 @@ of_unentered known n id t r e a k =
 
 pub answer_refused : (known : Known) (n : ℕ) (id : List ℕ) (t : Turn) (r : Ran)
     → t.ran.told ≡ nothing → what_of t.asked ≡ None → t.asking ≡ Some r → r.told ≡ nothing
-    → answered n id (decimal 400) 0 0 (text_of (Refused (asking_refusal known r.line.line))) ≡ answer_reply known n id t None
+    → answered n id (decimal 400) 0 0 (text_of_body (Refused (asking_refusal known r.line.line))) ≡ answer_reply known n id t None
 unfolding digits
 answer_refused known n id t r e a k m =
     ap (unasked known n id r.line.line) (sym m) ∙ of_unentered known n id t r e a k
 
 pub answer_unasked : (known : Known) (n : ℕ) (id : List ℕ) (t : Turn) (r : Ran)
     → t.ran.told ≡ nothing → what_of t.asked ≡ None → t.asking ≡ Some r → r.told ≡ no_memory
-    → answered n id (decimal 507) 0 0 (text_of OutOfMemory) ≡ answer_reply known n id t None
+    → answered n id (decimal 507) 0 0 (text_of_body OutOfMemory) ≡ answer_reply known n id t None
 unfolding digits
 answer_unasked known n id t r e a k m =
     ap (unasked known n id r.line.line) (sym m) ∙ of_unentered known n id t r e a k
@@ -136,15 +136,15 @@ answer_unasked known n id t r e a k m =
 -- ---- evaluations
 
 pub evaluation_refused : (samples : List Row) (text : List ℕ)
-    → evaluation_text (decimal (code_in (Refused text))) (text_of (Refused text)) ≡ evaluated_text samples (Some (Err text))
+    → evaluation_text (decimal (code_in (Refused text))) (text_of_body (Refused text)) ≡ evaluated_text samples (Some (Err text))
 unfolding digits
 evaluation_refused samples text = refl
 
 pub evaluation_asked : (samples : List Row) (asked : Asked) (body : Body)
     → body ≡ answer_body asked.instant asked.kind (direct samples asked.query)
-    → evaluation_text (decimal (code_in body)) (text_of body) ≡ evaluated_text samples (Some (Ok asked))
+    → evaluation_text (decimal (code_in body)) (text_of_body body) ≡ evaluated_text samples (Some (Ok asked))
 evaluation_asked samples asked body e =
-    ap (λ b. evaluation_text (decimal (code_in b)) (text_of b)) e
-    ∙ ap (λ c. evaluation_text (decimal c) (text_of (answer_body asked.instant asked.kind (direct samples asked.query))))
+    ap (λ b. evaluation_text (decimal (code_in b)) (text_of_body b)) e
+    ∙ ap (λ c. evaluation_text (decimal c) (text_of_body (answer_body asked.instant asked.kind (direct samples asked.query))))
     (code_is asked.instant asked.kind (direct samples asked.query))
     ∙ ap (λ t. evaluation_text (decimal (code_of (direct samples asked.query))) t) (text_is asked (direct samples asked.query))

@@ -33,18 +33,18 @@ abbrev pub answer_body : (instant : Bool) → Kind → Answer → Body
 answer_body instant kind (gathered rows) = result_body instant kind rows
 answer_body instant kind (failed step error) = Failed step error
 
-abbrev pub text_of : Body → List ℕ
-text_of (Matrix rows) = matrix_text rows
-text_of (Vector rows) = vector_text rows
-text_of (Scalar rows) = scalar_text rows
-text_of (Failed step kind) = answer_text (failed step kind)
-text_of (Refused message) = refused_body message
-text_of Full = full_body
-text_of (JobFailed job) = failed_body job
-text_of Cancelled = cancelled_body
-text_of TooManyTenants = tenants_body
-text_of JournalFull = journal_body
-text_of OutOfMemory = memory_body
+abbrev pub text_of_body : Body → List ℕ
+text_of_body (Matrix rows) = matrix_text rows
+text_of_body (Vector rows) = vector_text rows
+text_of_body (Scalar rows) = scalar_text rows
+text_of_body (Failed step kind) = answer_text (failed step kind)
+text_of_body (Refused message) = refused_body message
+text_of_body Full = full_body
+text_of_body (JobFailed job) = failed_body job
+text_of_body Cancelled = cancelled_body
+text_of_body TooManyTenants = tenants_body
+text_of_body JournalFull = journal_body
+text_of_body OutOfMemory = memory_body
 
 abbrev pub code_in : Body → ℕ
 code_in (Matrix rows) = 200

@@ -19,7 +19,7 @@ use Rattle.pf_report.specs.declared.ingest.IngestReply.TheVariants as ingesting
 -- ---- ingest
 
 -- why a file is refused, as the definitions say it
-abbrev pub fault_of : FileFault → files.Refusal
+abbrev pub fault_of : FileFault → files.FileRefusal
 fault_of (BadLine n) = files.at_line bad_line n
 fault_of (TimeTooLarge n) = files.at_line late_line n
 fault_of (TooMany n) = files.at_line too_many n

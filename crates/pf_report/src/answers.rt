@@ -2,7 +2,7 @@
 
 ghost use Rattle.std.specs.Prelude.{◌≡◌, ◌++◌, ◌∷◌, [], codes, decimal, OnOk, take, vec_len};
 ghost use Rattle.pf_journal.specs.Replies.{answered, reply_line};
-ghost use Rattle.pf_report.specs.Bodies.{text_of};
+ghost use Rattle.pf_report.specs.Bodies.{text_of_body};
 ghost use Rattle.pf_report.specs.Replies.{answer_line};
 
 use crate::bodies::{Body, push_body};
@@ -46,7 +46,7 @@ pub fn push_answered(
     evaluated: u32,
     body: &Body,
 ) -> Result<(), OutOfMemory>
-    ensures ok { OnOk result (out.new.items ≡ out.old.items ++ answered number id.now (decimal code) cached evaluated (text_of body.now)) }
+    ensures ok { OnOk result (out.new.items ≡ out.old.items ++ answered number id.now (decimal code) cached evaluated (text_of_body body.now)) }
     ensures kept { take (vec_len out.old) out.new.items ≡ out.old.items }
 {
     push_code(out, number, id, code, cached, evaluated)?;

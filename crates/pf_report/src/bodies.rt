@@ -5,7 +5,7 @@ ghost use Rattle.pf_model.specs.Direct.{failed};
 ghost use Rattle.pf_model.specs.ErrorTexts.{kind_text};
 ghost use Rattle.pf_model.specs.Json.{answer_text};
 ghost use Rattle.pf_journal.specs.Bodies.{failed_body, memory_body};
-ghost use Rattle.pf_report.specs.Bodies.{code_in, failure_text, job_text, result_body, text_of};
+ghost use Rattle.pf_report.specs.Bodies.{code_in, failure_text, job_text, result_body, text_of_body};
 
 use crate::error_json::push_error;
 use crate::json_text::push_matrix;
@@ -140,7 +140,7 @@ fn push_memory_body(out: &mut Vec<u8>) -> Result<(), OutOfMemory>
 
 /// Appends a body.
 pub fn push_body(alloc: Global, out: &mut Vec<u8>, body: &Body) -> Result<(), OutOfMemory>
-    ensures ok { OnOk result (out.new.items ≡ out.old.items ++ text_of body.now) }
+    ensures ok { OnOk result (out.new.items ≡ out.old.items ++ text_of_body body.now) }
     ensures kept { take (vec_len out.old) out.new.items ≡ out.old.items }
 {
     match body {

@@ -11,7 +11,7 @@ use Rattle.pf_base.specs.LabelSets.{is_empty}
 use Rattle.pf_model.proofs.Places.{place, position_is}
 use Rattle.pf_model.specs.Cuts.{Cut, only_if}
 use Rattle.pf_model.specs.Exposition.{are_blanks, is_blank}
-use Rattle.pf_journal.specs.Scripts.{next_word, past_blanks, text_of, without_blanks, word_cut}
+use Rattle.pf_journal.specs.Scripts.{next_word, past_blanks, trimmed_text, without_blanks, word_cut}
 
 -- ---- blanks in front
 
@@ -188,12 +188,12 @@ no_text_by : (front : List ℕ) → length front ≡ 0 → only_if (not (is_empt
 no_text_by [] h = refl
 no_text_by (b ∷ bs) h = absurd (omega arith)
 
-pub text_there : (bs front : List ℕ) → front ≡ without_blanks bs → (length front ≡ 0 → ⊥) → text_of bs ≡ Some front
-unfolding text_of
+pub text_there : (bs front : List ℕ) → front ≡ without_blanks bs → (length front ≡ 0 → ⊥) → trimmed_text bs ≡ Some front
+unfolding trimmed_text
 text_there bs front e h = ap (λ xs. only_if (not (is_empty xs)) xs) (sym e) ∙ text_by front h
 
-pub text_nowhere : (bs front : List ℕ) → front ≡ without_blanks bs → length front ≡ 0 → text_of bs ≡ None
-unfolding text_of
+pub text_nowhere : (bs front : List ℕ) → front ≡ without_blanks bs → length front ≡ 0 → trimmed_text bs ≡ None
+unfolding trimmed_text
 text_nowhere bs front e h = ap (λ xs. only_if (not (is_empty xs)) xs) (sym e) ∙ no_text_by front h
 
 pub ruleset text_rules = (text_there, text_nowhere)

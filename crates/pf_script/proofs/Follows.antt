@@ -12,7 +12,7 @@ use Rattle.pf_base.specs.Tenants.{is_tenant}
 use Rattle.pf_model.specs.Cuts.{only_if}
 use Rattle.pf_model.specs.Exposition.{file_lines}
 use Rattle.pf_model.specs.Lists.{Each}
-use Rattle.pf_journal.specs.Scripts.{Issued, Line, Numbered, ingest, delete, ask, instant, cancel, answer, plan, keep, take, done, answer_of, ask_of, behind_word, cancel_of, delete_of, done_of, file_at, ingest_at, ingest_of, ingest_with, instant_of, is_id, is_new, is_passed, issued_after, issued_as, issued_at, keep_of, line_of, line_with, lines_from, most_bytes, next_word, number_of, only_word, plan_of, read_line, script_of, step_with, take_of, text_of, unanswered_of, with_line, worker_of}
+use Rattle.pf_journal.specs.Scripts.{Issued, Line, Numbered, ingest, delete, ask, instant, cancel, answer, plan, keep, take, done, answer_of, ask_of, behind_word, cancel_of, delete_of, done_of, file_at, ingest_at, ingest_of, ingest_with, instant_of, is_id, is_new, is_passed, issued_after, issued_as, issued_at, keep_of, line_of, line_with, lines_from, most_bytes, next_word, number_of, only_word, plan_of, read_line, script_of, step_with, take_of, trimmed_text, unanswered_of, with_line, worker_of}
 use Rattle.pf_journal.specs.Turns.{asking_line}
 use Rattle.pf_script.specs.LineCuts.{AskWords, InstantWords, ask_with, ask_words, instant_with, instant_words}
 use Rattle.pf_script.specs.Lines.{AllFollow, Follows, IsAnswerOf, IsAsk, IsKeepOf, IsOpen, IsUnanswered, IsUnkept, NamesAsk, id_of, line_at}
@@ -86,7 +86,7 @@ unfolding delete_of
 delete_fair is words =
     then_all (Fair is) (next_word words) _ (λ tenant. then_all (Fair is) (next_word tenant.behind) _ (λ from. then_all (Fair is) (next_word from.behind) _ (λ to.
     then_all (Fair is) (number_of from.front) _ (λ first. then_all (Fair is) (number_of to.front) _ (λ last.
-    then_all (Fair is) (text_of to.behind) _ (λ selector.
+    then_all (Fair is) (trimmed_text to.behind) _ (λ selector.
     kept_all (Fair is) (is_tenant tenant.front) (delete tenant.front first last selector) (λ h. tt)))))))
 
 ask_with_fair : (is : List Issued) (w : AskWords) → IfSome (ask_with is w) (Fair is)

@@ -4,7 +4,7 @@ use Rattle.std.specs.Prelude.{option_and_then}
 use Rattle.std.proofs.lemmas.Bool.{false_from_ne_true}
 use Rattle.std.proofs.lemmas.Str.{is_utf8-from_IsUtf8, IsUtf8-from_is_utf8}
 use Rattle.std.specs.Str.{IsUtf8, is_utf8}
-use Rattle.pf_journal.specs.Scripts.{Issued, ask_of, delete_of, instant_of, next_word, number_of, text_of}
+use Rattle.pf_journal.specs.Scripts.{Issued, ask_of, delete_of, instant_of, next_word, number_of, trimmed_text}
 use Rattle.pf_script.specs.LineCuts.{AskWords, DeleteWords, InstantWords, ask_with, ask_words, delete_with, delete_words, instant_with, instant_words}
 
 pub is_text : (bs : List ℕ) → IsUtf8 bs → is_utf8 bs ≡ true
@@ -32,7 +32,7 @@ delete_is : (words : List ℕ) → option_and_then delete_with (delete_words wor
 unfolding delete_of delete_words
 delete_is words =
     then_same (next_word words) _ _ _ (λ tenant. then_same (next_word tenant.behind) _ _ _ (λ from. then_same (next_word from.behind) _ _ _ (λ to.
-    then_same (number_of from.front) _ _ _ (λ first. then_same (number_of to.front) _ _ _ (λ last. then_same (text_of to.behind) _ _ _ (λ selector. refl))))))
+    then_same (number_of from.front) _ _ _ (λ first. then_same (number_of to.front) _ _ _ (λ last. then_same (trimmed_text to.behind) _ _ _ (λ selector. refl))))))
 
 pub delete_some : (words : List ℕ) (w : DeleteWords) → delete_words words ≡ Some w → delete_of words ≡ delete_with w
 delete_some words w e = sym (delete_is words) ∙ ap (option_and_then delete_with) e
@@ -46,7 +46,7 @@ ask_is is words =
     then_same (next_word words) _ _ _ (λ id. then_same (next_word id.behind) _ _ _ (λ tenant. then_same (next_word tenant.behind) _ _ _ (λ first.
     then_same (next_word first.behind) _ _ _ (λ last. then_same (next_word last.behind) _ _ _ (λ by.
     then_same (number_of first.front) _ _ _ (λ start. then_same (number_of last.front) _ _ _ (λ end. then_same (number_of by.front) _ _ _ (λ step.
-    then_same (text_of by.behind) _ _ _ (λ query. refl)))))))))
+    then_same (trimmed_text by.behind) _ _ _ (λ query. refl)))))))))
 
 pub ask_some : (is : List Issued) (words : List ℕ) (w : AskWords) → ask_words words ≡ Some w → ask_of is words ≡ ask_with is w
 ask_some is words w e = sym (ask_is is words) ∙ ap (option_and_then (ask_with is)) e
@@ -58,7 +58,7 @@ pub instant_is : (is : List Issued) (words : List ℕ) → option_and_then (inst
 unfolding instant_of instant_words
 instant_is is words =
     then_same (next_word words) _ _ _ (λ id. then_same (next_word id.behind) _ _ _ (λ tenant. then_same (next_word tenant.behind) _ _ _ (λ at.
-    then_same (number_of at.front) _ _ _ (λ time. then_same (text_of at.behind) _ _ _ (λ query. refl)))))
+    then_same (number_of at.front) _ _ _ (λ time. then_same (trimmed_text at.behind) _ _ _ (λ query. refl)))))
 
 pub instant_some : (is : List Issued) (words : List ℕ) (w : InstantWords) → instant_words words ≡ Some w → instant_of is words ≡ instant_with is w
 instant_some is words w e = sym (instant_is is words) ∙ ap (option_and_then (instant_with is)) e

@@ -3,7 +3,7 @@ use Rattle.std.specs.Prelude.{◌≡◌, ℕ, Bool, ◌&&◌, cond, Option, Some
 use Rattle.pf_base.specs.Tenants.{is_tenant}
 use Rattle.pf_model.specs.Cuts.{only_if, ◌>>=◌}
 use Rattle.pf_model.specs.Lists.{Each}
-use Rattle.pf_journal.specs.Scripts.{Issued, Line, Numbered, ask, delete, instant, is_id, is_new, is_passed, issued_after, line_of, next_word, number_of, text_of}
+use Rattle.pf_journal.specs.Scripts.{Issued, Line, Numbered, ask, delete, instant, is_id, is_new, is_passed, issued_after, line_of, next_word, number_of, trimmed_text}
 use Rattle.pf_script.specs.IdLists.{Alike}
 use Rattle.pf_script.specs.Lines.{IsRead, numbered_of}
 use Rattle.pf_script.specs.declared.lines.AskCut.{AskCut}
@@ -26,7 +26,7 @@ delete_words words = do
   to ← next_word from.behind
   first ← number_of from.front
   last ← number_of to.front
-  selector ← text_of to.behind
+  selector ← trimmed_text to.behind
   Some (record { tenant = tenant.front; from = first; to = last; selector = selector })
 
 abbrev pub delete_with : DeleteWords → Option Line
@@ -55,7 +55,7 @@ ask_words words = do
   start ← number_of first.front
   end ← number_of last.front
   step ← number_of by.front
-  query ← text_of by.behind
+  query ← trimmed_text by.behind
   Some (record { id = id.front; tenant = tenant.front; start = start; end = end; step = step; query = query })
 
 abbrev pub ask_with : List Issued → AskWords → Option Line
@@ -78,7 +78,7 @@ instant_words words = do
   tenant ← next_word id.behind
   at ← next_word tenant.behind
   time ← number_of at.front
-  query ← text_of at.behind
+  query ← trimmed_text at.behind
   Some (record { id = id.front; tenant = tenant.front; time = time; query = query })
 
 abbrev pub instant_with : List Issued → InstantWords → Option Line

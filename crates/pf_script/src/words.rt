@@ -3,7 +3,7 @@
 ghost use Rattle.std.specs.Prelude.{◌≡◌, ◌<◌, IfSome, length, not, position};
 ghost use Rattle.std.specs.List.{list_all};
 ghost use Rattle.pf_model.specs.Exposition.{is_blank, is_no_blank, is_word};
-ghost use Rattle.pf_journal.specs.Scripts.{behind_word, next_word, number_of, past_blanks, text_of, without_blanks};
+ghost use Rattle.pf_journal.specs.Scripts.{behind_word, next_word, number_of, past_blanks, trimmed_text, without_blanks};
 ghost use Rattle.pf_script.specs.Cuts.{Finds};
 
 /// The first number that is too large.
@@ -100,7 +100,7 @@ pub fn without_blanks(text: &str) -> &str
 /// A text without the blanks at its end, where anything else stands in it.
 #[tactic(auto, using(crate::proofs::Blanks::text_rules))]
 pub fn text_of(text: &str) -> Option<&str>
-    ensures { Finds (λ t. t.now) result (text_of text.now) }
+    ensures { Finds (λ t. t.now) result (trimmed_text text.now) }
 {
     let text = without_blanks(text);
     if text.is_empty() { None } else { Some(text) }

@@ -19,7 +19,7 @@ use Rattle.pf_model.specs.declared.cell.StepCell.TheVariants.{Good, Bad}
 use Rattle.pf_model.specs.declared.functions.RangeFn.{RangeFn}
 use Rattle.pf_model.specs.declared.functions.RangeFn.TheVariants.{AbsentOverTime}
 use Rattle.pf_model.specs.Cells.{cell_of, element, occurring, samples_of}
-use Rattle.pf_model.specs.Evaluation.{Moment, moment_elements, moments, subquery_over, subquery_series, vector_of}
+use Rattle.pf_model.specs.Evaluation.{Moment, moment_elements, moments, subquery_over, subquery_series, inner_elements}
 use Rattle.pf_model.specs.Lists.{Each, joined}
 use Rattle.pf_model.specs.Merging.{below}
 use Rattle.pf_model.specs.Micros.{one}
@@ -113,7 +113,7 @@ abbrev timed_value : ℤ → Element → Sample
 timed_value t e = record { time = t; value = e.value }
 
 abbrev samples_at : Pairs → List Moment → List Sample
-samples_at l ms = samples_of (λ (m : Moment). m.time) vector_of l ms
+samples_at l ms = samples_of (λ (m : Moment). m.time) inner_elements l ms
 
 not_full : {X : Type 0} (xs : List X) → is_full xs ≡ false → xs ≡ []
 not_full [] h = refl
@@ -290,12 +290,12 @@ module _ (from to : ℤ) where
             (λ j. ap (λ xs. cond (lies_in from to (t j)) xs []) (ap (map (timed_value (t j))) (own j) ∙ value_sample (t j) c.labels (value_in c.values j))) n
             ∙ sym (within_all from to t (value_in c.values) n)
 
-        sets_are : occurring vector_of window ≡ filter (λ l. is_full (samples_at l window)) (columns_labels m.columns)
+        sets_are : occurring inner_elements window ≡ filter (λ l. is_full (samples_at l window)) (columns_labels m.columns)
         sets_are =
             let full : Pairs → Bool = λ l. is_full (samples_at l window) in
             let ls = columns_labels m.columns in
-            alike (occurring vector_of window) (filter full ls) (occurring_ascend vector_of window) (ascends (filter full ls) (rises_filter full ls rising))
-            (λ l. occurring_in (λ (m : Moment). m.time) vector_of l window ∙ and_of (stands_in l ls) (full l) (λ h. ap is_full (no_samples l h)) ∙ sym (has_filter full l ls))
+            alike (occurring inner_elements window) (filter full ls) (occurring_ascend inner_elements window) (ascends (filter full ls) (rises_filter full ls rising))
+            (λ l. occurring_in (λ (m : Moment). m.time) inner_elements l window ∙ and_of (stands_in l ls) (full l) (λ h. ap is_full (no_samples l h)) ∙ sym (has_filter full l ls))
 
         module _ {Y : Type 0} (g : Series → List Y) (none : (l : Pairs) → g (record { labels = l; samples = [] }) ≡ []) where
           abbrev of_set : Pairs → List Y
@@ -318,7 +318,7 @@ module _ (from to : ℤ) where
 
           series_are : joined g (subquery_series window) ≡ joined g (map (λ (c : ColumnData). record { labels = c.labels; samples = own_samples c }) m.columns)
           series_are =
-              over_sets g (λ l. samples_at l window) (occurring vector_of window)
+              over_sets g (λ l. samples_at l window) (occurring inner_elements window)
               ∙ ap (joined of_set) sets_are
               ∙ kept (columns_labels m.columns)
               ∙ joined_columns of_set m.columns

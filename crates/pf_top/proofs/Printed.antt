@@ -22,7 +22,7 @@ use Rattle.pf_journal.specs.Machine.{code_of}
 use Rattle.pf_journal.specs.Scripts.{Numbered, script_of}
 use Rattle.pf_journal.specs.Summaries.{asks, summary_text}
 use Rattle.pf_model.specs.Queries.{Reading, lawful, refused}
-use Rattle.pf_report.specs.Bodies.{code_in, text_of}
+use Rattle.pf_report.specs.Bodies.{code_in, text_of_body}
 use Rattle.pf_report.specs.declared.bodies.Body.{Body}
 use Rattle.pf_types.specs.Errors.{words_of_error}
 use Rattle.pf_types.specs.declared.query.QueryError.{QueryError}
@@ -49,10 +49,10 @@ code_400 = refl
 
 -- a body over samples
 pub body_printed : (samples : List Row) (wanted asked : Asked) (b : Body) (text : List ℕ)
-    → asked ≡ wanted → text_of b ≡ body_text asked (direct samples asked.query) → code_in b ≡ code_of (direct samples asked.query)
-    → text ≡ evaluation_text (decimal (code_in b)) (text_of b) → text ≡ evaluated_text samples (Some (Ok wanted))
+    → asked ≡ wanted → text_of_body b ≡ body_text asked (direct samples asked.query) → code_in b ≡ code_of (direct samples asked.query)
+    → text ≡ evaluation_text (decimal (code_in b)) (text_of_body b) → text ≡ evaluated_text samples (Some (Ok wanted))
 body_printed samples wanted asked b text same is coded told =
-    told ∙ ap (λ (n : ℕ). evaluation_text (decimal n) (text_of b)) coded
+    told ∙ ap (λ (n : ℕ). evaluation_text (decimal n) (text_of_body b)) coded
     ∙ ap (evaluation_text (decimal (code_of (direct samples asked.query)))) is
     ∙ ap (λ (x : Asked). evaluated_text samples (Some (Ok x))) same
 

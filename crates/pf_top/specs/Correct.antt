@@ -10,7 +10,7 @@ use Rattle.pf_model.specs.Log.{batch_samples}
 use Rattle.pf_model.specs.Queries.{IsReading, Reading, Readings}
 use Rattle.pf_journal.specs.Asking.{asked_with}
 use Rattle.pf_journal.specs.Evaluations.{evaluated_text}
-use Rattle.pf_journal.specs.Files.{Gives, IsRefusedAs, Refusal}
+use Rattle.pf_journal.specs.Files.{Gives, IsRefusedAs, FileRefusal}
 use Rattle.pf_journal.specs.Legal.{Legal, AreNames, moments}
 use Rattle.pf_journal.specs.Machine.{Entry}
 use Rattle.pf_journal.specs.Report.{report}
@@ -130,7 +130,7 @@ pub record FileRefused (files : FilesSeen) (held : Held) (words : List (List ℕ
   pub all : AllRead files (needed held words)
   pub named : Evaluation
   pub by_words : evaluation_words words ≡ Some named
-  pub refusal : Refusal
+  pub refusal : FileRefusal
   pub refused : IsRefusedAs (held named.file) 0 refusal
   pub whole : text ≡ refused_file refusal
 

@@ -6,7 +6,7 @@ use Rattle.pf_model.specs.Log.{batch_samples}
 use Rattle.pf_model.specs.Queries.{IsReading, Reading}
 use Rattle.pf_journal.specs.Asking.{asked_with}
 use Rattle.pf_journal.specs.Evaluations.{evaluated_text}
-use Rattle.pf_journal.specs.Files.{Gives, IsRefusedAs, Refusal}
+use Rattle.pf_journal.specs.Files.{Gives, IsRefusedAs, FileRefusal}
 use Rattle.pf_io.specs.Outside.{Holds}
 use Rattle.pf_client.specs.Replays.{HasFailed}
 use Rattle.pf_top.specs.Correct.{AllRead, FilesSeen}
@@ -35,7 +35,7 @@ IsBatchOutput batch named status text = (status ≡ 0) × IsEvaluationText batch
 abbrev pub IsFileOutput : List ℕ → words.Evaluation → ℕ → List ℕ → Type 0
 IsFileOutput bytes named status text =
     ((batch : BatchData) × (Gives bytes 0 batch × IsBatchOutput batch named status text))
-    ⊎ ((status ≡ 3) × ((refusal : Refusal) × (IsRefusedAs bytes 0 refusal × (text ≡ refused_file refusal))))
+    ⊎ ((status ≡ 3) × ((refusal : FileRefusal) × (IsRefusedAs bytes 0 refusal × (text ≡ refused_file refusal))))
 
 -- and one that may not be read: over one reading of it, which gave what is told
 abbrev pub IsNamedOutput : FilesSeen → words.Evaluation → ℕ → List ℕ → Type 0

@@ -2,7 +2,7 @@
 use Rattle.std.specs.Prelude.{ℕ, List, [], ◌∷◌, codes}
 use Rattle.std.specs.Fmt.{decimal}
 use Rattle.pf_model.specs.Exposition.{bad_line, late_line, too_many}
-use Rattle.pf_journal.specs.Files.{Refusal, at_line, too_long}
+use Rattle.pf_journal.specs.Files.{FileRefusal, at_line, too_long}
 use Rattle.pf_journal.specs.Replies.{line_text}
 
 -- a file with this name was not read
@@ -19,12 +19,12 @@ refused_script script line =
     line_text (codes "refused:" ∷ codes "script" ∷ decimal script ∷ codes "line" ∷ decimal line ∷ [])
 
 -- the line of a refused file: that of the first bad one, and 0 where the file has too many rows or bytes
-abbrev pub refused_line : Refusal → ℕ
+abbrev pub refused_line : FileRefusal → ℕ
 refused_line (at_line bad_line n) = n
 refused_line (at_line late_line n) = n
 refused_line (at_line too_many n) = 0
 refused_line too_long = 0
 
 -- an evaluation's file is refused
-abbrev pub refused_file : Refusal → List ℕ
+abbrev pub refused_file : FileRefusal → List ℕ
 refused_file refusal = line_text (codes "refused:" ∷ codes "file" ∷ codes "line" ∷ decimal (refused_line refusal) ∷ [])

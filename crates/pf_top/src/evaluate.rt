@@ -7,7 +7,7 @@ ghost use Rattle.pf_journal.specs.Machine.{code_of};
 ghost use Rattle.pf_model.specs.Binding.{bound_series};
 ghost use Rattle.pf_model.specs.Direct.{direct};
 ghost use Rattle.pf_model.specs.Log.{AreApart};
-ghost use Rattle.pf_report.specs.Bodies.{answer_body, code_in, text_of};
+ghost use Rattle.pf_report.specs.Bodies.{answer_body, code_in, text_of_body};
 ghost use Rattle.pf_store.specs.Standing.{StandsFor};
 
 use pf_base::OutOfMemory;
@@ -47,7 +47,7 @@ fn body_of(
 /// or the first step that has an error. Prometheus, HTTP API: Instant queries, Range queries.
 #[tactic(auto, using(pf_client::proofs::DirectAnswers::body_texts, pf_client::proofs::DirectAnswers::body_codes))]
 pub fn evaluate(alloc: Global, asked: &Asked, snap: &Snap) -> Result<Body, OutOfMemory>
-    ensures text { IfOk result (λ b. (samples : List Row) → StandsFor snap.now samples → AreApart samples → text_of b ≡ body_text asked.now (direct samples asked.now.query)) }
+    ensures text { IfOk result (λ b. (samples : List Row) → StandsFor snap.now samples → AreApart samples → text_of_body b ≡ body_text asked.now (direct samples asked.now.query)) }
     ensures code { IfOk result (λ b. (samples : List Row) → StandsFor snap.now samples → AreApart samples → code_in b ≡ code_of (direct samples asked.now.query)) }
 {
     let series = select_all(alloc, snap, &asked.matchers)?;

@@ -9,7 +9,7 @@ ghost use Rattle.pf_journal.specs.Bodies.{refused_body};
 ghost use Rattle.pf_journal.specs.Evaluations.{evaluated_text, evaluation_text};
 ghost use Rattle.pf_model.specs.ErrorTexts.{grid_text};
 ghost use Rattle.pf_model.specs.Log.{AreApart, batch_samples};
-ghost use Rattle.pf_report.specs.Bodies.{code_in, text_of};
+ghost use Rattle.pf_report.specs.Bodies.{code_in, text_of_body};
 ghost use Rattle.pf_store.specs.Standing.{StandsFor};
 ghost use Rattle.pf_top.specs.Evaluations.{IsEvaluationText, IsText, evaluation_in};
 ghost use Rattle.pf_client.specs.Queries.{IsQueryRead};
@@ -38,7 +38,7 @@ fn pinned(alloc: Global, batch: &Batch) -> Result<Pin, OutOfMemory>
 
 /// What is printed of a body.
 fn printed(alloc: Global, body: &Body) -> Result<Vec<u8>, OutOfMemory>
-    ensures { IfOk result (λ v. v.items ≡ evaluation_text (decimal (code_in body.now)) (text_of body.now)) }
+    ensures { IfOk result (λ v. v.items ≡ evaluation_text (decimal (code_in body.now)) (text_of_body body.now)) }
 {
     let mut text = Vec::new(alloc);
     push_evaluation(alloc, &mut text, body)?;

@@ -3,7 +3,7 @@ use Rattle.std.proofs.Common.{◌≡◌, ◌∙◌, sym, ap, refl, ℕ, ◌+◌,
 use Rattle.std.specs.Option.{option_map}
 use Rattle.pf_model.specs.declared.expr.Kind.{Kind}
 use Rattle.pf_model.specs.Trees.{Tree, Trees, number, text, unary, binary, call, aggregate, select, subquery, none, more, Node, nodes, all_nodes, size, sizes}
-use Rattle.pf_model.specs.Typing.{Fault, fault_at, first_fault, unless}
+use Rattle.pf_model.specs.Typing.{TypeFault, fault_at, first_fault, unless}
 use Rattle.pf_types.specs.Faults.{capped_fault, capped_result, fault_from}
 use Rattle.pf_types.proofs.Faults.{or_none, both, first_append, fault_among, below, all_below, among_append, among_one, node}
 use Rattle.pf_types.proofs.NodeFaults.{kept}
@@ -41,7 +41,7 @@ mutual
   all_exact n (more t ts) h =
       exact_append (nodes n t) (all_nodes (n + size t) ts) (exact_below n t (omega (arith, h))) (all_exact (n + size t) ts (omega (arith, h)))
 
-pub capped_unless : (x : Option Fault) (k : Kind) → unless (option_map capped_fault x) k ≡ capped_result (unless x k)
+pub capped_unless : (x : Option TypeFault) (k : Kind) → unless (option_map capped_fault x) k ≡ capped_result (unless x k)
 capped_unless None k = refl
 capped_unless (Some f) k = refl
 

@@ -3,7 +3,7 @@ use Rattle.std.proofs.Common.{◌≡◌, ◌∙◌, sym, ap, refl, ℕ, ◌+◌,
 use Rattle.std.specs.Option.{option_map, option_or}
 use Rattle.pf_model.specs.Cuts.{only_if}
 use Rattle.pf_model.specs.Trees.{Tree, Trees, number, text, unary, binary, call, aggregate, select, subquery, none, more, Node, nodes, all_nodes, size}
-use Rattle.pf_model.specs.Typing.{Fault, arg_count, wrong, bad_name, bool_needed, bad_matching, subquery_too_fine, Wanted, fault_at, first_fault, first_wrong, accepts, kind_of, named_kind, wants, operands, has_wrong_count, has_bad_name, lacks_bool, has_bad_matching, is_too_fine}
+use Rattle.pf_model.specs.Typing.{TypeFault, arg_count, wrong, bad_name, bool_needed, bad_matching, subquery_too_fine, Wanted, fault_at, first_fault, first_wrong, admits, kind_of, named_kind, wants, operands, has_wrong_count, has_bad_name, lacks_bool, has_bad_matching, is_too_fine}
 use Rattle.pf_types.specs.Faults.{capped, capped_fault}
 
 -- ---- one fault or else another
@@ -25,7 +25,7 @@ both {y = y} {u = u} p q = ap (λ a. option_or a y) p ∙ ap (option_or u) q
 
 -- ---- faults with their numbers capped
 
-pub if_capped : (b : Bool) (f : Fault) → option_map capped_fault (only_if b f) ≡ only_if b (capped_fault f)
+pub if_capped : (b : Bool) (f : TypeFault) → option_map capped_fault (only_if b f) ≡ only_if b (capped_fault f)
 if_capped false f = refl
 if_capped true f = refl
 
@@ -34,8 +34,8 @@ pub wrong_capped : (n : ℕ) (ws : List Wanted) (es : List Tree)
 wrong_capped n [] es = refl
 wrong_capped n (w ∷ ws) [] = refl
 wrong_capped n (w ∷ ws) (e ∷ es) =
-    map_or capped_fault (only_if (not (accepts w (kind_of e))) (wrong n (named_kind w) (kind_of e))) (first_wrong n ws es)
-    ∙ both (if_capped (not (accepts w (kind_of e))) (wrong n (named_kind w) (kind_of e))) (wrong_capped n ws es)
+    map_or capped_fault (only_if (not (admits w (kind_of e))) (wrong n (named_kind w) (kind_of e))) (first_wrong n ws es)
+    ∙ both (if_capped (not (admits w (kind_of e))) (wrong n (named_kind w) (kind_of e))) (wrong_capped n ws es)
 
 pub at_capped : (n : ℕ) (t : Tree) → option_map capped_fault (fault_at n t) ≡ fault_at (capped n) t
 at_capped n t =
@@ -58,16 +58,16 @@ first_append (x ∷ xs) ys =
     ap (option_or (fault_at x.number x.tree)) (first_append xs ys)
     ∙ sym (or_or (fault_at x.number x.tree) (first_fault xs) (first_fault ys))
 
-abbrev pub fault_among : List Node → Option Fault
+abbrev pub fault_among : List Node → Option TypeFault
 fault_among ns = option_map capped_fault (first_fault ns)
 
 pub among_append : (xs ys : List Node) → fault_among (xs ++ ys) ≡ option_or (fault_among xs) (fault_among ys)
 among_append xs ys = ap (option_map capped_fault) (first_append xs ys) ∙ map_or capped_fault (first_fault xs) (first_fault ys)
 
-abbrev pub below : ℕ → Tree → Option Fault
+abbrev pub below : ℕ → Tree → Option TypeFault
 below n t = fault_among (nodes n t)
 
-abbrev pub all_below : ℕ → Trees → Option Fault
+abbrev pub all_below : ℕ → Trees → Option TypeFault
 all_below n ts = fault_among (all_nodes n ts)
 
 abbrev pub node : ℕ → Tree → Node

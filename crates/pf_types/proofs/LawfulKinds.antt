@@ -18,7 +18,7 @@ use Rattle.pf_model.specs.Built.{are_arguments, are_evaluated, are_near, is_abse
 use Rattle.pf_model.specs.Evaluation.{resolution_or_minute}
 use Rattle.pf_model.specs.Trees as tree
 use Rattle.pf_model.specs.Trees.{Tree, Trees, Node, all_nodes, nodes, postorder, size}
-use Rattle.pf_model.specs.Typing.{Wanted, accepts, aggregation_wants, arguments, asked_fault, fault_at, first_fault, first_wrong, function_kind, has_bad_name, has_wrong_count, joint_kind, kind_of, list_of, names_label, only, operands, operator_wants, scalar_or_instant, wants}
+use Rattle.pf_model.specs.Typing.{Wanted, admits, aggregation_wants, arguments, asked_fault, fault_at, first_fault, first_wrong, function_kind, has_bad_name, has_wrong_count, joint_kind, kind_of, list_of, names_label, only, operands, operator_wants, scalar_or_instant, wants}
 use Rattle.pf_model.specs.Words.{is_set_operator}
 
 -- ---- names and times
@@ -121,15 +121,15 @@ AllSuit tree.none = Unit {0}
 AllSuit (tree.more e es) = (suits (kind_of e) e ≡ true) × AllSuit es
 
 accepted : (n : ℕ) (w : Wanted) (ws : List Wanted) (e : Tree) (es : List Tree) → first_wrong n (w ∷ ws) (e ∷ es) ≡ None
-    → accepts w (kind_of e) ≡ true
-accepted n w ws e es h = not_false (accepts w (kind_of e)) (not_given (not (accepts w (kind_of e))) _ (first_none _ _ h))
+    → admits w (kind_of e) ≡ true
+accepted n w ws e es h = not_false (admits w (kind_of e)) (not_given (not (admits w (kind_of e))) _ (first_none _ _ h))
 
 others_accepted : (n : ℕ) (w : Wanted) (ws : List Wanted) (e : Tree) (es : List Tree) → first_wrong n (w ∷ ws) (e ∷ es) ≡ None
     → first_wrong n ws es ≡ None
-others_accepted n w ws e es h = second_none (only_if (not (accepts w (kind_of e))) _) (first_wrong n ws es) h
+others_accepted n w ws e es h = second_none (only_if (not (admits w (kind_of e))) _) (first_wrong n ws es) h
 
 abbrev either : (w : Wanted) → Type 0
-either w = (k : Kind) → accepts w k ≡ true → accepts scalar_or_instant k ≡ true
+either w = (k : Kind) → admits w k ≡ true → admits scalar_or_instant k ≡ true
 
 instant_either : either (only Instant)
 instant_either Scalar h = refl
@@ -149,19 +149,19 @@ operator_either op = by (is_set_operator op.sign) where
   by true = instant_either
   by false = λ k h. h
 
-evaluated_of : (k : Kind) (t : Tree) → accepts scalar_or_instant k ≡ true → suits k t ≡ true → is_evaluated t ≡ true
+evaluated_of : (k : Kind) (t : Tree) → admits scalar_or_instant k ≡ true → suits k t ≡ true → is_evaluated t ≡ true
 evaluated_of Scalar t h s = s
 evaluated_of Instant t h s = s
 evaluated_of Range t h s = given h
 evaluated_of Text t h s = given h
 
-range_of : (k : Kind) (t : Tree) → accepts (only Range) k ≡ true → suits k t ≡ true → is_range t ≡ true
+range_of : (k : Kind) (t : Tree) → admits (only Range) k ≡ true → suits k t ≡ true → is_range t ≡ true
 range_of Scalar t h s = given h
 range_of Instant t h s = given h
 range_of Range t h s = s
 range_of Text t h s = given h
 
-string_of : (k : Kind) (t : Tree) → accepts (only Text) k ≡ true → suits k t ≡ true → is_string t ≡ true
+string_of : (k : Kind) (t : Tree) → admits (only Text) k ≡ true → suits k t ≡ true → is_string t ≡ true
 string_of Scalar t h s = given h
 string_of Instant t h s = given h
 string_of Range t h s = given h
@@ -173,7 +173,7 @@ not_string _ h = refl
 
 -- ---- signs and operators
 
-of_sign : (k : Kind) (minus : Bool) (e : Tree) → accepts scalar_or_instant k ≡ true → suits k e ≡ true → suits k (tree.unary minus e) ≡ true
+of_sign : (k : Kind) (minus : Bool) (e : Tree) → admits scalar_or_instant k ≡ true → suits k e ≡ true → suits k (tree.unary minus e) ≡ true
 of_sign Scalar minus e h s = s
 of_sign Instant minus e h s = s
 of_sign Range minus e h s = given h
@@ -206,7 +206,7 @@ abbrev is_no_range : Kind → Bool
 is_no_range Range = false
 is_no_range _ = true
 
-argument_of : (k l : Kind) (e : Tree) → is_no_range k ≡ true → accepts (only k) l ≡ true → suits l e ≡ true
+argument_of : (k l : Kind) (e : Tree) → is_no_range k ≡ true → admits (only k) l ≡ true → suits l e ≡ true
     → (is_string e || is_evaluated e) ≡ true
 argument_of Scalar l e n h s = or_right (is_string e) (is_evaluated e) (evaluated_of l e (scalar_either l h) s)
 argument_of Instant l e n h s = or_right (is_string e) (is_evaluated e) (evaluated_of l e (instant_either l h) s)
@@ -309,7 +309,7 @@ replace_lawful n (tree.more v (tree.more a (tree.more b (tree.more c (tree.more 
       all : first_wrong n (only Instant ∷ only Text ∷ only Text ∷ only Text ∷ only Text ∷ []) (v ∷ a ∷ b ∷ c ∷ d ∷ []) ≡ None
       all = kinds_of n (tree.call (called.Instant function.LabelReplace) (tree.more v (tree.more a (tree.more b (tree.more c (tree.more d tree.none)))))) h
 
-      first : accepts (only Instant) (kind_of v) ≡ true
+      first : admits (only Instant) (kind_of v) ≡ true
       first = accepted n (only Instant) (only Text ∷ only Text ∷ only Text ∷ only Text ∷ []) v (a ∷ b ∷ c ∷ d ∷ []) all
 
       behind_first : first_wrong n (only Text ∷ only Text ∷ only Text ∷ only Text ∷ []) (a ∷ b ∷ c ∷ d ∷ []) ≡ None
@@ -497,5 +497,5 @@ mutual
 pub lawful_is_evaluated : (t : Tree) → is_bounded t ≡ true → asked_fault t ≡ None → is_evaluated t ≡ true
 lawful_is_evaluated t b h =
     evaluated_of (kind_of t) t
-    (not_false (accepts scalar_or_instant (kind_of t)) (not_given (not (accepts scalar_or_instant (kind_of t))) _ (second_none (first_fault (postorder t)) _ h)))
+    (not_false (admits scalar_or_instant (kind_of t)) (not_given (not (admits scalar_or_instant (kind_of t))) _ (second_none (first_fault (postorder t)) _ h)))
     (suiting 0 t b (first_none (first_fault (postorder t)) _ h))

@@ -13,7 +13,7 @@ use Rattle.pf_model.specs.declared.functions.AggOp.{AggOp}
 use Rattle.pf_model.specs.Clauses.{Grouped, Matched}
 use Rattle.pf_model.specs.Lists.{at}
 use Rattle.pf_model.specs.Trees.{Tree, Trees, number, text, select, unary, binary, call, aggregate, subquery, none, more, nodes, all_nodes, size, trees_of}
-use Rattle.pf_model.specs.Typing.{Fault, arg_count, only, scalar_or_instant, fault_at, first_wrong, kind_of, list_of, operator_wants, function_wants, aggregation_wants}
+use Rattle.pf_model.specs.Typing.{TypeFault, arg_count, only, scalar_or_instant, fault_at, first_wrong, kind_of, list_of, operator_wants, function_wants, aggregation_wants}
 use Rattle.pf_types.specs.Faults.{all_from, capped, fault_from}
 use Rattle.pf_types.specs.Rules.{argument_fault, operand_fault, bool_fault, operation_fault, fineness_fault, name_fault, arguments_fault}
 use Rattle.pf_types.proofs.Faults.{or_none, or_or, both, among_append, among_last, same_below, below_capped, all_capped}
@@ -69,7 +69,7 @@ subquery_from n e range resolution mods h =
     ∙ ap (λ x. option_or x (fineness_fault n range resolution)) (or_none (operand_fault n (only Instant) (kind_of e))))
 
 -- the number of arguments, and then their kinds
-abbrev pub kinds_fault : ℕ → List Kind → List Tree → Option Fault
+abbrev pub kinds_fault : ℕ → List Kind → List Tree → Option TypeFault
 kinds_fault n ks es = option_or (only_if (not (nat_eq (length ks) (length es))) (arg_count n)) (first_wrong n (map only ks) es)
 
 pub call_at : (n : ℕ) (f : Function) (args : Trees)

@@ -7,7 +7,7 @@ use Rattle.pf_model.specs.declared.expr.Expr.{Expr}
 use Rattle.pf_model.specs.declared.expr.Kind.{Kind}
 use Rattle.pf_model.specs.Lists.{at}
 use Rattle.pf_model.specs.Trees.{Tree, size, sizes, tree_of, trees_of}
-use Rattle.pf_model.specs.Typing.{Fault, Wanted, only, first_wrong, kind_of}
+use Rattle.pf_model.specs.Typing.{TypeFault, Wanted, only, first_wrong, kind_of}
 use Rattle.pf_types.specs.declared.error.TypeError.{TypeError}
 use Rattle.pf_types.specs.Faults.{all_from, capped, fault_from, fault_of}
 use Rattle.pf_types.specs.Rules.{argument_fault}
@@ -70,7 +70,7 @@ pub wrong_nil : (n : ℕ) (ws : List Wanted) → first_wrong n ws [] ≡ None
 wrong_nil n [] = refl
 wrong_nil n (w ∷ ws) = refl
 
-pub wrong_end : (n : ℕ) (ws : List Wanted) (xs : List Expr) (i : ℕ) (o : Option Fault) → length xs ≤ i
+pub wrong_end : (n : ℕ) (ws : List Wanted) (xs : List Expr) (i : ℕ) (o : Option TypeFault) → length xs ≤ i
     → option_or o (first_wrong n ws (rest xs i)) ≡ o
 wrong_end n ws xs i o h = ap (λ es. option_or o (first_wrong n ws es)) (rest_none xs i h) ∙ ap (option_or o) (wrong_nil n ws) ∙ or_none o
 

@@ -25,7 +25,7 @@ use Rattle.pf_model.specs.Queries.{IsQuery, first_empty}
 use Rattle.pf_model.specs.Resolving.{resolved}
 use Rattle.pf_model.specs.Trees as tree
 use Rattle.pf_model.specs.Trees.{Tree, Trees, height}
-use Rattle.pf_model.specs.Typing.{accepts, function_kind, joint_kind, kind_of, scalar_or_instant}
+use Rattle.pf_model.specs.Typing.{admits, function_kind, joint_kind, kind_of, scalar_or_instant}
 use Rattle.pf_resolve.specs.Bounds.{are_small, are_small_mods, is_small, is_small_at}
 use Rattle.pf_resolve.specs.Settled.{is_settled}
 use Rattle.pf_resolve.proofs.Kept.{same_evaluated, same_height, same_patterns, same_selectors}
@@ -121,17 +121,17 @@ mutual
 
 -- ---- its kind
 
-joint_wanted : (a b : Kind) → accepts scalar_or_instant (joint_kind a b) ≡ true
+joint_wanted : (a b : Kind) → admits scalar_or_instant (joint_kind a b) ≡ true
 joint_wanted Scalar Scalar = refl
 joint_wanted _ _ = refl
 
-call_wanted : (f : Function) → accepts scalar_or_instant (function_kind f) ≡ true
+call_wanted : (f : Function) → admits scalar_or_instant (function_kind f) ≡ true
 call_wanted (called.Range f) = refl
 call_wanted (called.Instant function.Scalar) = refl
 call_wanted (called.Instant function.Time) = refl
 call_wanted (called.Instant _) = refl
 
-evaluated_wanted : (t : Tree) → is_evaluated t ≡ true → accepts scalar_or_instant (kind_of t) ≡ true
+evaluated_wanted : (t : Tree) → is_evaluated t ≡ true → admits scalar_or_instant (kind_of t) ≡ true
 evaluated_wanted (tree.number v) h = refl
 evaluated_wanted (tree.text bytes) h = cc
 evaluated_wanted (tree.unary minus arg) h = evaluated_wanted arg h
@@ -164,7 +164,7 @@ is_bound t matchers patterns kind written evaluated low typed selectors replacem
   low = low;
   small = evaluated_small t evaluated;
   typed = sym typed;
-  wanted = ap (accepts scalar_or_instant) typed ∙ evaluated_wanted t evaluated;
+  wanted = ap (admits scalar_or_instant) typed ∙ evaluated_wanted t evaluated;
   selectors = selectors;
   replacements = replacements;
   selects = selects;
@@ -203,7 +203,7 @@ is_asked t matchers patterns kind w grid instant text p h g i c = record {
   low = p.low;
   small = evaluated_small t p.evaluated;
   kind = p.typed;
-  wanted = ap (accepts scalar_or_instant) (sym p.typed) ∙ evaluated_wanted t p.evaluated;
+  wanted = ap (admits scalar_or_instant) (sym p.typed) ∙ evaluated_wanted t p.evaluated;
   text = c;
   selectors = p.selectors;
   replacements = p.replacements;

@@ -8,7 +8,7 @@ use Rattle.pf_model.specs.Binding.{patterns_of, selectors_of}
 use Rattle.pf_model.specs.Built.{is_evaluated}
 use Rattle.pf_model.specs.Queries.{IsReading, first_empty, lawful}
 use Rattle.pf_model.specs.Trees.{Tree, height}
-use Rattle.pf_model.specs.Typing.{accepts, kind_of, scalar_or_instant}
+use Rattle.pf_model.specs.Typing.{admits, kind_of, scalar_or_instant}
 use Rattle.pf_print.specs.OwnTexts.{HasText}
 use Rattle.pf_resolve.specs.Bounds.{is_small}
 use Rattle.pf_resolve.specs.Settled.{is_settled}
@@ -35,7 +35,7 @@ pub record IsBound (tree : Tree) (matchers : List (List Matcher)) (patterns : Li
   pub low : height tree ≤ 64
   pub small : is_small tree ≡ true
   pub typed : kind_of tree ≡ kind
-  pub wanted : accepts scalar_or_instant kind ≡ true
+  pub wanted : admits scalar_or_instant kind ≡ true
   pub selectors : matchers ≡ selectors_of tree
   pub replacements : patterns ≡ patterns_of tree
   pub selects : first_empty tree ≡ None
