@@ -23,7 +23,7 @@ not_above Less r g = refl
 not_above Equal r g = refl
 not_above Greater r g = g
 
-strictly : (o : Ordering) → is_gt o ≡ false → is_eq o ≡ false → o ≡ Less
+pub strictly : (o : Ordering) → is_gt o ≡ false → is_eq o ≡ false → o ≡ Less
 strictly Less g e = refl
 strictly Equal g e = cc
 strictly Greater g e = cc

@@ -12,7 +12,7 @@ use Rattle.std.proofs.lemmas.List.Recursion.{is_sum_by}
 use Rattle.pf_base.specs.Sorting.{ins, isort}
 
 -- the two tests of one pair of elements, the other way round
-gt_reverse : (a b : Ordering) → a ≡ ordering_reverse b → is_lt b ≡ false → is_gt a ≡ false
+pub gt_reverse : (a b : Ordering) → a ≡ ordering_reverse b → is_lt b ≡ false → is_gt a ≡ false
 gt_reverse a Less e h = cc
 gt_reverse a Equal e h = ap is_gt e
 gt_reverse a Greater e h = ap is_gt e

@@ -13,7 +13,7 @@ use Rattle.pf_base.specs.LabelOrder.{labels_cmp}
 use Rattle.pf_block.specs.Samples.{rises, rises_after, value_at, put_sample, is_timed, is_series, is_outside}
 use Rattle.pf_block.specs.SeriesIds.{id_of}
 use Rattle.pf_block.specs.Snaps.{SnapData, IsSnap, samples_of, cut_from}
-use Rattle.pf_block.proofs.Searches.{both, rises_filter, series_rises, series_timed}
+use Rattle.pf_block.proofs.Searches.{both, rises_filter, series_rises, series_timed, held_cons as absent}
 
 -- ---- ids
 
@@ -55,11 +55,7 @@ module _ {X : Type 0} (p : X → Bool) where
 later : (a b : ℤ) → int_lt a b ≡ false → int_eq a b ≡ false → int_lt b a ≡ true
 later a b h k = grind (arith, ints)
 
-absent : (v : Bool) (z : ℤ) (o : Option ℤ) → is_some (cond v (Some z) o) ≡ false → (v ≡ false) × (is_some o ≡ false)
-absent true z o h = cc
-absent false z o h = (refl, h)
-
-put_after_by : (a : ℤ) (s x : Sample) (xs : List Sample) (v : Bool) → int_lt x.time s.time ≡ v → int_lt a s.time ≡ true → rises_after a (x ∷ xs) ≡ true → int_eq x.time s.time ≡ false → rises_after x.time xs ≡ true →
+pub put_after_by : (a : ℤ) (s x : Sample) (xs : List Sample) (v : Bool) → int_lt x.time s.time ≡ v → int_lt a s.time ≡ true → rises_after a (x ∷ xs) ≡ true → int_eq x.time s.time ≡ false → rises_after x.time xs ≡ true →
     (int_lt x.time s.time ≡ true → rises_after x.time (put_sample s xs) ≡ true) → rises_after a (cond v (x ∷ put_sample s xs) (s ∷ x ∷ xs)) ≡ true
 put_after_by a s x xs true e l r k t h = both (int_lt a x.time) (rises_after x.time (put_sample s xs)) (first_so (int_lt a x.time) (rises_after x.time xs) r) (h e)
 put_after_by a s x xs false e l r k t h = both (int_lt a s.time) (rises_after s.time (x ∷ xs)) l (both (int_lt s.time x.time) (rises_after x.time xs) (later x.time s.time e k) t)
@@ -71,7 +67,7 @@ rises_after_put a s (x ∷ xs) l r n =
     let t = second_so (int_lt a x.time) (rises_after x.time xs) r in
     put_after_by a s x xs (int_lt x.time s.time) refl l r c.0 t (λ e. rises_after_put x.time s xs e t c.1)
 
-rises_put_by : (s x : Sample) (xs : List Sample) (v : Bool) → int_lt x.time s.time ≡ v → int_eq x.time s.time ≡ false → rises_after x.time xs ≡ true → (int_lt x.time s.time ≡ true → rises_after x.time (put_sample s xs) ≡ true) →
+pub rises_put_by : (s x : Sample) (xs : List Sample) (v : Bool) → int_lt x.time s.time ≡ v → int_eq x.time s.time ≡ false → rises_after x.time xs ≡ true → (int_lt x.time s.time ≡ true → rises_after x.time (put_sample s xs) ≡ true) →
     rises (cond v (x ∷ put_sample s xs) (s ∷ x ∷ xs)) ≡ true
 rises_put_by s x xs true e k t h = h e
 rises_put_by s x xs false e k t h = both (int_lt s.time x.time) (rises_after x.time xs) (later x.time s.time e k) t

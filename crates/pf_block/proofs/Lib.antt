@@ -13,6 +13,6 @@ mod Canonical
 mod Taking
 mod Stacking
 mod Layering
-mod Walks
+pub mod Walks
 mod Totals
 mod Worked

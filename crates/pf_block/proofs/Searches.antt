@@ -202,7 +202,7 @@ put_by : (s x : Sample) (xs : List Sample) (v w : Bool) → int_le x.time s.time
 put_by s x xs true w e d h = ap (λ l. x ∷ l) h
 put_by s x xs false w e d h = refl
 
-held_cons : (v : Bool) (z : ℤ) (o : Option ℤ) → is_some (cond v (Some z) o) ≡ false → (v ≡ false) × (is_some o ≡ false)
+pub held_cons : (v : Bool) (z : ℤ) (o : Option ℤ) → is_some (cond v (Some z) o) ≡ false → (v ≡ false) × (is_some o ≡ false)
 held_cons true z o h = cc
 held_cons false z o h = (refl, h)
 

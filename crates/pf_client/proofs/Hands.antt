@@ -12,6 +12,7 @@ use Rattle.pf_query.specs.declared.job.Hand.{Hand}
 use Rattle.pf_query.specs.declared.job.Held.{Held}
 use Rattle.pf_client.proofs.Cases.{bool_cases}
 use Rattle.pf_client.specs.Hands.{AreApart, AreInOrder, held_by, is_by, is_by_other, is_job_of, told_hand, told_onto}
+pub use Rattle.pf_core.proofs.Outstanding.{each_filter}
 
 -- ---- tests
 
@@ -233,13 +234,6 @@ without_is w (x ∷ hs) h apart f = elim (bool_cases (nat_eq x.actor (16 + w))) 
         subst (λ (z : Hand). nat_eq z.actor (16 + w) ≡ true) e t
     | inr t ↦ let g : first_with (is_by w) ys ≡ Some h = rw t at f in found_by w ys h g
   ]
-
-pub each_filter : {X : Type 0} (P : X → Type 0) (p : X → Bool) (xs : List X) → Each P xs → Each P (filter p xs)
-each_filter P p [] h = tt
-each_filter P p (x ∷ xs) h = elim (bool_cases (p x)) [
-  | inl t ↦ rw t (h.0, each_filter P p xs h.1)
-  | inr t ↦ rw t (each_filter P p xs h.1)
-]
 
 apart_filter : (p : Hand → Bool) (hs : List Hand) → AreApart hs → AreApart (filter p hs)
 apart_filter p [] h = tt

@@ -7,6 +7,7 @@ use Rattle.pf_model.specs.Lists.{Each}
 use Rattle.pf_script.specs.Lines.{AllFollow, Follows, numbered_of}
 use Rattle.pf_script.specs.declared.script.NumberedLine.{NumberedLine}
 use Rattle.pf_client.specs.Files.{LineNames, NamesFile}
+use Rattle.pf_client.proofs.SlotLaws.{each_front}
 
 -- ---- places
 
@@ -20,10 +21,6 @@ each_drop P [] zero h = tt
 each_drop P [] (suc i) h = tt
 each_drop P (x ∷ xs) zero h = h
 each_drop P (x ∷ xs) (suc i) h = each_drop P xs i h.1
-
-each_front : {X : Type 0} (P : X → Type 0) (xs ys : List X) → Each P (xs ++ ys) → Each P xs
-each_front P [] ys h = tt
-each_front P (x ∷ xs) ys h = (h.0, each_front P xs ys h.1)
 
 each_last : {X : Type 0} (P : X → Type 0) (xs : List X) (y : X) → Each P (xs ++ y ∷ []) → P y
 each_last P [] y h = h.0

@@ -1,6 +1,7 @@
 -- Laws of options and of lists.
 use Rattle.std.proofs.Common.{◌≡◌, Some, List, [], ◌∷◌, ◌++◌, map, refl, ap}
 use Rattle.pf_model.specs.Lists.{Each}
+pub use Rattle.pf_script.proofs.Follows.{each_more as each_push}
 
 pub some_is : {X : Type 0} (x y : X) → Some x ≡ Some y → x ≡ y
 some_is x y e = cc
@@ -8,8 +9,3 @@ some_is x y e = cc
 pub map_push : {X Y : Type 0} (f : X → Y) (xs : List X) (x : X) → map f (xs ++ x ∷ []) ≡ map f xs ++ f x ∷ []
 map_push f [] x = refl
 map_push f (y ∷ xs) x = ap (λ (ys : List _). f y ∷ ys) (map_push f xs x)
-
--- a fact of each element, of a list with one more
-pub each_push : {X : Type 0} (P : X → Type 0) (xs : List X) (y : X) → Each P xs → P y → Each P (xs ++ y ∷ [])
-each_push P [] y h p = (p, tt)
-each_push P (x ∷ xs) y h p = (h.0, each_push P xs y h.1 p)

@@ -17,6 +17,11 @@ use Rattle.pf_journal.specs.Weave.{FoundRoom, IsLineOf, IsMatched, IsWoven, Wove
 use Rattle.pf_model.specs.Lists.{Each, first_with}
 use Rattle.pf_client.proofs.Cases.{bool_cases}
 use Rattle.pf_client.specs.Clients.{entries_by, entry_by, moment_by, moment_with, naming, turn_by}
+pub use Rattle.pf_journal.proofs.Ending.{own_below}
+pub use Rattle.pf_journal.proofs.Ending.{ran_below}
+use Rattle.pf_journal.proofs.Ending.{line_below}
+pub use Rattle.pf_journal.proofs.Ending.{machine-snoc}
+pub use Rattle.pf_journal.proofs.Ending.{none_with}
 
 -- ---- lists
 
@@ -27,10 +32,6 @@ each_snoc P (y ∷ xs) x h p = (h.0, each_snoc P xs x h.1 p)
 pub each_so : {X : Type 0} (P Q : X → Type 0) → ((x : X) → P x → Q x) → (xs : List X) → Each P xs → Each Q xs
 each_so P Q f [] h = tt
 each_so P Q f (x ∷ xs) h = (f x h.0, each_so P Q f xs h.1)
-
-pub none_with : {X : Type 0} (p : X → Bool) (xs : List X) → Each (λ x. p x ≡ false) xs → first_with p xs ≡ None
-none_with p [] h = refl
-none_with p (x ∷ xs) h = rw h.0 (none_with p xs h.1)
 
 pub last_with : {X : Type 0} (p : X → Bool) (xs : List X) (x : X) → first_with p xs ≡ None → p x ≡ true → first_with p (xs ++ x ∷ []) ≡ Some x
 last_with p [] x h t = rw t refl
@@ -52,22 +53,6 @@ first_kept p (y ∷ xs) ys x h = elim (bool_cases (p y)) [
 
 -- ---- lines below
 
--- a line of some that are below one is below it
-line_below : (ls : List Numbered) (k n : ℕ) → Each (λ l. l.number < n) ls → IsLineOf ls k → k < n
-line_below [] k n h there = absurd there
-line_below (l ∷ ls) k n h (inl same) = let low = h.0 in omega (arith, low, same)
-line_below (l ∷ ls) k n h (inr there) = line_below ls k n h.1 there
-
-pub own_below : (own : List Moment) (ls : List Numbered) (n : ℕ) → Each (λ l. l.number < n) ls
-    → Each (λ x. IsLineOf ls x.entry.line) own → Each (λ x. x.entry.line < n) own
-own_below own ls n low lined = each_so _ _ (λ x h. line_below ls x.entry.line n low h) own lined
-
-pub ran_below : (ls : List Numbered) (told : List Told) (n : ℕ) → Each (λ l. l.number < n) (take (length told) ls)
-    → Each (λ r. r.line.number < n) (ran_lines ls told)
-ran_below [] told n h = tt
-ran_below (l ∷ ls) [] n h = tt
-ran_below (l ∷ ls) (t ∷ told) n h = (h.0, ran_below ls told n h.1)
-
 -- ---- moments
 
 -- a further entry of a client is the last of its own moments
@@ -79,10 +64,6 @@ own-snoc journal client n what =
     ap (own_moments client) (moments-snoc started journal (entry_by client n what))
     ∙ filter-append _ (moments journal) (moment_by (machine_after started journal) client n what ∷ [])
     ∙ rw mine refl
-
-pub machine-snoc : (m : Machine) (journal : List Entry) (e : Entry) → machine_after m (journal ++ e ∷ []) ≡ next (machine_after m journal) e.what
-machine-snoc m [] e = refl
-machine-snoc m (x ∷ journal) e = machine-snoc (next m x.what) journal e
 
 -- ---- turns
 

@@ -46,12 +46,9 @@ use Rattle.pf_client.specs.declared.loaded.Loaded.{Loaded}
 use Rattle.pf_client.specs.declared.queries.QueryRead.{QueryRead}
 use Rattle.pf_client.specs.declared.queries.QueryRead.TheVariants as query
 use Rattle.pf_client.specs.declared.queries.TextRead.{TextRead}
+use Rattle.pf_block.proofs.Walks.{map_length as length_map}
 
 -- ---- the journal's text
-
-length_map : {X Y : Type 0} (f : X → Y) (xs : List X) → length (map f xs) ≡ length xs
-length_map f [] = refl
-length_map f (x ∷ xs) = ap suc (length_map f xs)
 
 pub journal_said : (names : List (List ℕ)) (entries : List code.Entry) (journal : List Entry) (out mid new : List ℕ)
     → mid ≡ out ++ line_text (codes "journal" ∷ decimal (length entries) ∷ []) → new ≡ mid ++ entries_from names 0 (map entry_of entries) → map entry_of entries ≡ journal

@@ -8,7 +8,7 @@ use Rattle.pf_front.specs.declared.keeping.Keeping.{Keeping}
 use Rattle.pf_front.specs.declared.keeping.Keeping.TheVariants as keeping
 use Rattle.pf_front.specs.declared.working.Worked.{Worked}
 use Rattle.pf_front.specs.declared.working.Worked.TheVariants as worked
-use Rattle.pf_journal.proofs.Opened.{IsAmong, all_own, found_among}
+use Rattle.pf_journal.proofs.Opened.{IsAmong, all_own, found_among, later_places as later}
 use Rattle.pf_journal.specs.Entered.{what_of}
 use Rattle.pf_base.specs.declared.plain.Limits.{Limits}
 use Rattle.pf_journal.specs.Legal.{IsLawful, Legal, Moment, machine_after, moments, moments_from}
@@ -116,12 +116,6 @@ module _ (known : Known) (above : List Ran) (hands : List Hand) (old new : Clien
       (no_query_kept known above (own_of old.client old.core) k s v kept right) (keeps_same old new (ap (λ v. v.items) held) same) said
 
 -- ---- take
-
--- the moment of an ask is at its place
-later : (m : Machine) (es : List Entry) (x : Moment) → IsAmong x (moments_from m es) → m.count ≤ place_of x
-later m [] x h = absurd h
-later m (e ∷ es) x (inl same) = let s = ap place_of same in omega (arith, s)
-later m (e ∷ es) x (inr h) = let s = later (next m e.what) es x h in omega (arith, s)
 
 at_place : (m : Machine) (es : List Entry) (x : Moment) → IsAmong x (moments_from m es) → moment_at (place_of x) (moments_from m es) ≡ Some x
 at_place m [] x h = absurd h

@@ -10,7 +10,7 @@ pub length_below : {X : Type 0} (f : ℕ → X) (n : ℕ) → length (below f n)
 length_below f zero = refl
 length_below f (suc n) = length-append (below f n) (f n ∷ []) ∙ ap (λ k. k + 1) (length_below f n) ∙ add-one n
 
-lt_or_is : (k n : ℕ) → k < suc n → (k < n) ⊎ (k ≡ n)
+pub lt_or_is : (k n : ℕ) → k < suc n → (k < n) ⊎ (k ≡ n)
 lt_or_is zero zero h = inr refl
 lt_or_is zero (suc n) h = inl (omega arith)
 lt_or_is (suc k) zero h = absurd (omega (arith, h))

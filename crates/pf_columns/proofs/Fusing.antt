@@ -20,6 +20,7 @@ use Rattle.pf_columns.specs.Steps.{AddsClashes, IsFusion, bad_in, clash, column_
 use Rattle.pf_columns.proofs.Below.{read_below}
 use Rattle.pf_columns.proofs.Rising.{cell_rising, less_of}
 use Rattle.pf_columns.proofs.SortedColumns.{NeverFall, NoneBelow, sorted_alike, sorted_never_fall}
+use Rattle.pf_columns.proofs.JoinedRuns.{joined_append}
 
 -- ---- two elements with equal labels
 
@@ -75,10 +76,6 @@ above_behind n l m (x ∷ xs) p h = (h.0, above_behind n l m xs p h.1)
 rises_behind : (l m : Pairs) (ls : List Pairs) → labels_cmp l m ≡ Less → AreRising (ls ++ (l ∷ [])) → AreRising ((ls ++ (l ∷ [])) ++ (m ∷ []))
 rises_behind l m [] p h = ((p, tt), (tt, tt))
 rises_behind l m (x ∷ xs) p h = (above_behind x l m xs p h.0, rises_behind l m xs p h.1)
-
-joined_append : {X Y : Type 0} (f : X → List Y) (xs ys : List X) → joined f (xs ++ ys) ≡ joined f xs ++ joined f ys
-joined_append f [] ys = refl
-joined_append f (x ∷ xs) ys = ap (λ zs. f x ++ zs) (joined_append f xs ys) ∙ sym (append_assoc (f x) (joined f xs) (joined f ys))
 
 cell_behind : (k : ℕ) (cs : List ColumnData) (c : ColumnData) → cell_at (cs ++ (c ∷ [])) k ≡ cell_at cs k ++ element c.labels (value_in c.values k)
 cell_behind k cs c =

@@ -111,7 +111,7 @@ aggregated_is each.Group p gs = refl
 
 -- ---- buckets
 
-those_snoc : (g : ℕ) (os : List ℕ) (cs : List ColumnData) (o : ℕ) (c : ColumnData) → length os ≡ length cs → those_of g (os ++ (o ∷ [])) (cs ++ (c ∷ [])) ≡ those_of g os cs ++ cond (nat_eq o g) (c ∷ []) []
+pub those_snoc : (g : ℕ) (os : List ℕ) (cs : List ColumnData) (o : ℕ) (c : ColumnData) → length os ≡ length cs → those_of g (os ++ (o ∷ [])) (cs ++ (c ∷ [])) ≡ those_of g os cs ++ cond (nat_eq o g) (c ∷ []) []
 those_snoc g [] [] o c e = refl
 those_snoc g [] (d ∷ ds) o c e = absurd (omega (arith, e))
 those_snoc g (p ∷ ps) [] o c e = absurd (omega (arith, e))

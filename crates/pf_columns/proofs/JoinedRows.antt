@@ -90,7 +90,7 @@ module _ (l : Pairs) where
   joined_above [] h ys g = g
   joined_above (a ∷ xs) h ys g = into_above a xs (joined_rows xs) (joined_above xs h.1) h.0 h.1 ys g
 
-turned : (k l : Pairs) → labels_cmp k l ≡ Greater → labels_cmp l k ≡ Less
+pub turned : (k l : Pairs) → labels_cmp k l ≡ Greater → labels_cmp l k ≡ Less
 turned k l h = labels_total.antisymm l k ∙ ap ordering_reverse h
 
 module _ (a : MatrixRow) (xs : Rows) (rest : Rows → Rows) (h : Above a.labels xs) (each : (l : Pairs) → Above l xs → (ys : Rows) → Above l ys → Above l (rest ys)) where

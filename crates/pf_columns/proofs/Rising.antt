@@ -12,6 +12,7 @@ use Rattle.pf_model.specs.Cells.{cell_of, element}
 use Rattle.pf_model.proofs.SelectorLabels.{AllAbove, Ascends, above_all, AreInOrder, ElementsAbove, cell_in_order}
 use Rattle.pf_columns.specs.Columns.{AreRising, ColumnData, cell_at, columns_labels, value_in}
 use Rattle.pf_columns.specs.Steps.{rise_above}
+pub use Rattle.pf_base.proofs.LeastRepeated.{strictly as less_of}
 
 pub ascends : (ls : List Pairs) → AreRising ls → Ascends ls
 ascends [] h = tt
@@ -43,11 +44,6 @@ pub cell_rising : (k : ℕ) (cs : List ColumnData) → AreRising (columns_labels
 cell_rising k cs h = sym (cell_in_order (cell_at cs k) (order_cell k cs h))
 
 -- ---- the test
-
-pub less_of : (o : Ordering) → is_gt o ≡ false → is_eq o ≡ false → o ≡ Less
-less_of Less g e = refl
-less_of Equal g e = cc
-less_of Greater g e = cc
 
 less : (o : Ordering) → is_lt o ≡ true → o ≡ Less
 less Less h = refl

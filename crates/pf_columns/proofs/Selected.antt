@@ -11,18 +11,13 @@ use Rattle.std.proofs.lemmas.List.Elements.{All-cons, All-head, All-tail}
 use Rattle.std.proofs.lemmas.List.Sorted.{IsPermutation-append, IsPermutation-trans}
 use Rattle.pf_base.specs.Sorting.{isort}
 use Rattle.pf_base.proofs.Sorted.{is_sorted, sort_moves}
-use Rattle.pf_base.proofs.Sorting.{All-ins, Ascends, ascends_isort, sorted_is}
+use Rattle.pf_base.proofs.Sorting.{All-ins, Ascends, ascends_isort, sorted_is, gt_reverse as not_above}
 use Rattle.pf_columns.specs.Ranks.{entry_cmp, marked}
 use Rattle.pf_columns.specs.declared.ranked.Entry.{Entry}
 use Rattle.pf_columns.proofs.Eaches.{length_isort}
 use Rattle.pf_columns.proofs.EntryOrder.{entry_exact, entry_total}
 use Rattle.pf_columns.proofs.GroupKeys.{any_isort}
 use Rattle.pf_columns.proofs.RankedEntries.{length_marked, marks_stand, stand}
-
-not_above : (a b : Ordering) → a ≡ ordering_reverse b → is_lt b ≡ false → is_gt a ≡ false
-not_above a Less e h = cc
-not_above a Equal e h = ap is_gt e
-not_above a Greater e h = ap is_gt e
 
 module _ {X : Type 0} (R : X → X → Ordering) where
   module _ (o : IsTotalOrder R) where

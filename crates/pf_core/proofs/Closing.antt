@@ -72,7 +72,7 @@ few_cached s query o h there =
     (few_by s.limits query o e.kept (tried_of s.table query) e.is)
 
 -- how far an open query is, by the table
-far_kept : (s : State) (query : ℕ) (o : Open) (far : QueryProgress) → open_at query (machine_in s).queries ≡ Some o
+pub far_kept : (s : State) (query : ℕ) (o : Open) (far : QueryProgress) → open_at query (machine_in s).queries ≡ Some o
     → progress_at query (core_of s).progress ≡ Some far → far ≡ far_of query (entry_in s.table query) (tried_of s.table query)
 far_kept s query o far there is =
     let both : Some far ≡ Some (far_of query (entry_in s.table query) (tried_of s.table query)) =

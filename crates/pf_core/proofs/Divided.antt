@@ -64,7 +64,7 @@ stepped_pieces interval step (t ∷ ts) = stepped_before interval step t (pieces
 -- ---- the runs of spans are runs of the grid
 
 -- the times of the first steps of a run and of the others are those of the run
-points_split : (run : GridData) (n : ℕ) → n ≤ run.len → points run ≡ times_from run.start run.step n ++ points (rest_of run n)
+pub points_split : (run : GridData) (n : ℕ) → n ≤ run.len → points run ≡ times_from run.start run.step n ++ points (rest_of run n)
 points_split run n h =
     let all : run.len ≡ n + (run.len - n) = omega (arith, h) in
     ap (times_from run.start run.step) all ∙ times_from-append run.start run.step n (run.len - n)

@@ -9,7 +9,7 @@ pub mod Crossing
 mod Entered
 mod Failures
 mod KeptQueries
-mod Divided
+pub mod Divided
 mod Keeping
 mod Lists
 mod Logs
@@ -18,7 +18,7 @@ mod Machines
 mod Numbers
 mod Offering
 mod OpenQueries
-mod Outstanding
+pub mod Outstanding
 mod Planning
 mod Progressing
 mod Runs

@@ -6,6 +6,7 @@ use Rattle.pf_model.specs.Lists.{Each}
 use Rattle.pf_model.specs.Log.{Change}
 use Rattle.pf_journal.specs.Machine.{Machine, Open, Entry, next, log_of, with_log, open_at, cancelled_at, closed, open_of, reserved, room_kept}
 use Rattle.pf_core.specs.States.{Above}
+pub use Rattle.pf_journal.proofs.Opened.{each_closed}
 
 pub bool_cases : (b : Bool) → (b ≡ true) ⊎ (b ≡ false)
 bool_cases true = inl refl
@@ -67,13 +68,6 @@ open_each P place [] o h g = cc
 open_each P place (q ∷ qs) o h g = elim (bool_cases (nat_eq q.place place)) [
   | inl t ↦ let f = rw t at g in let e : q ≡ o = cc in subst P e h.0
   | inr t ↦ let f = rw t at g in open_each P place qs o h.1 f
-]
-
-pub each_closed : (P : Open → Type 0) (place : ℕ) (qs : List Open) → Each P qs → Each P (closed place qs)
-each_closed P place [] h = tt
-each_closed P place (q ∷ qs) h = elim (bool_cases (nat_eq q.place place)) [
-  | inl t ↦ rw t (each_closed P place qs h.1)
-  | inr t ↦ rw t (h.0, each_closed P place qs h.1)
 ]
 
 above_weaker : (least more : ℕ) (qs : List Open) → least ≤ more → Above more qs → Above least qs

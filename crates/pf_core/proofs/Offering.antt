@@ -51,6 +51,7 @@ use Rattle.pf_core.proofs.Progressing.{far_at}
 use Rattle.pf_core.proofs.Seated.{stored}
 use Rattle.pf_core.proofs.Standing.{core_cached, counts_as, state_beside, state_cached}
 use Rattle.pf_core.proofs.Tenanted.{head_of}
+use Rattle.pf_core.proofs.Closing.{far_kept as far_is}
 
 -- ---- the generation of its tenant
 
@@ -235,13 +236,6 @@ pub offers_state : (old new : State) (query : ℕ) (cells : List DoneCells) → 
 offers_state old new query cells h k f t covered x =
     let e = has_covered (entry_in old.table query) cells covered in
     offered_state old new query e.kept cells h k f t e.there e.covered (offers_of old new query e.kept e.there x)
-
--- how far an open query is, by the table's entry
-far_is : (s : State) (query : ℕ) (o : Open) (far : QueryProgress) → open_at query (machine_in s).queries ≡ Some o
-    → progress_at query (core_of s).progress ≡ Some far → far ≡ far_of query (entry_in s.table query) (tried_of s.table query)
-far_is s query o far there is =
-    let both : Some far ≡ Some (far_of query (entry_in s.table query) (tried_of s.table query)) =
-    sym is ∙ far_at query (machine_in s).queries (entry_in s.table) (tried_of s.table) o there in cc
 
 covered_is : (s : State) (query : ℕ) (o : Open) (far : QueryProgress) (cells : List DoneCells) → IsState s → open_at query (machine_in s).queries ≡ Some o
     → progress_at query (core_of s).progress ≡ Some far → is_offered_by far cells ≡ is_covered_in (entry_in s.table query) cells

@@ -40,6 +40,7 @@ use Rattle.pf_core.proofs.Outstanding.{each_filter, entry_there, jobs_grow, jobs
 use Rattle.pf_core.proofs.Progressing.{far_at, far_cancelled, far_closed, far_opened, far_set, goes_with, over_gone, tried_begun, tried_over, tries_over}
 use Rattle.pf_core.proofs.Stepped.{counted, history_as, same_core, same_history}
 use Rattle.pf_core.proofs.Tenanted.{empty_heads, has_queue, head_of, other_heads, queue_is, served, tries_table}
+use Rattle.pf_query.proofs.Naming.{eq_apart as apart}
 
 -- ---- what is kept of evaluated steps
 
@@ -434,12 +435,6 @@ stop_told s query o p d there is entry =
     ∙ ap (λ (x : Option EntryData). Some (far_of query x (tried_of s.table query))) entry in
     let same : p ≡ far_of query (Some d) (tried_of s.table query) = cc in
     ap (λ (x : QueryProgress). x.stop) same
-
-apart : (m n : ℕ) → (m ≡ n → ⊥) → nat_eq m n ≡ false
-apart m n d = elim (bool_cases (nat_eq m n)) [
-  | inl t ↦ absurd (d (grind (arith, nat_tests, t)))
-  | inr t ↦ t
-]
 
 -- a query is answered
 pub answered_state : (old new : State) (by : By) (query code cached evaluated : ℕ) (o : Open) → IsState old → HasHistory new

@@ -29,21 +29,14 @@ use Rattle.pf_join.specs.KeyPlaces.{place_cmp, placed, places_with, those_at}
 use Rattle.pf_join.specs.Results.{labels_of_pair}
 use Rattle.pf_join.proofs.OfOneKey.{those_found}
 use Rattle.pf_eval.specs.Zipped.{are_single, are_there, between, both, column_keys, is_set_sign, is_there, is_wanted, kept_if, kind_of, met, one_columns, pair_by, partners, set_columns, zipped, zipped_by, zipped_with}
+use Rattle.pf_columns.proofs.JoinedRuns.{joined_append}
+use Rattle.pf_join.proofs.Results.{same_labels_at as labels_at}
 
 abbrev with_side : Side → Matched → Matched
 with_side s m = record { on = m.on; labels = m.labels; side = s; include = m.include }
 
-labels_at : (s : Side) (m : Matched) (p : Pair) → labels_of_pair (with_side s m) p.left.labels p.right.labels ≡ pair_labels (with_side s m) p
-labels_at side.One m p = refl
-labels_at side.Left m p = refl
-labels_at side.Right m p = refl
-
 labels_same : (m : Matched) (p : Pair) → labels_of_pair m p.left.labels p.right.labels ≡ pair_labels m p
 labels_same m p = labels_at m.side m p
-
-joined_append : {X Y : Type 0} (f : X → List Y) (xs ys : List X) → joined f (xs ++ ys) ≡ joined f xs ++ joined f ys
-joined_append f [] ys = refl
-joined_append f (x ∷ xs) ys = ap (λ zs. f x ++ zs) (joined_append f xs ys) ∙ sym (append_assoc (f x) (joined f xs) (joined f ys))
 
 -- the partners of a key, found by the places of the keys of all columns
 pub partners_found : (m : Matched) (key : Pairs) (cs : List ColumnData) → those_at cs (places_with key (isort place_cmp (placed 0 (column_keys m cs)))) ≡ partners m key cs

@@ -29,6 +29,7 @@ use Rattle.pf_eval.specs.Merged.{AreMerged, AreOfShards, Holds, IsMerged, all_sh
 use Rattle.pf_eval.proofs.BoundLists.{two_true}
 use Rattle.pf_eval.proofs.BoundNodes.{left_evaluated, right_evaluated}
 use Rattle.pf_eval.proofs.GivenParts.{aggregated_evaluated, argument_evaluated, arguments_evaluated, called_evaluated, called_lawful, first_there, second_there, there_left, there_right}
+use Rattle.pf_model.proofs.MergeQuery.{first_again}
 
 abbrev Parts : Type 0
 Parts = List GroupStepsData
@@ -255,15 +256,6 @@ one_none : (ts : Trees) → is_one_plain ts ≡ true → all_sharded_in ts ≡ [
 one_none tree.none h = cc
 one_none (tree.more a tree.none) h = both_sharded (preorder a) [] ∙ (λ i. plain_none a h i ++ [])
 one_none (tree.more a (tree.more b ts)) h = cc
-
--- a cell and back
-first_again : (os : List Outcome) (o : Outcome) → of_cell (step_cell o) ≡ o → of_cell (step_cell (first_bad os o)) ≡ first_bad os o
-first_again [] o h = h
-first_again (scalar v ∷ os) o h = first_again os o h
-first_again (elements es ∷ os) o h = first_again os o h
-first_again (ranges from to ss ∷ os) o h = first_again os o h
-first_again (text bytes ∷ os) o h = first_again os o h
-first_again (bad kind ∷ os) o h = refl
 
 module _ (shards : ℕ) (t : Tree) (op : AggOp) (g : Grouped) (ts : Trees) (is : t ≡ tree.aggregate op g ts) (sharded : (is_mergeable op && is_one_plain ts) ≡ true) where
   pub mergeable : is_mergeable op ≡ true

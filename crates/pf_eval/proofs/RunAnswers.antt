@@ -20,6 +20,7 @@ use Rattle.pf_columns.specs.declared.steps.BadStep.{BadStep}
 use Rattle.pf_eval.specs.RunValues.{AreValues}
 use Rattle.pf_eval.specs.declared.bound.EvalError.TheVariants as error
 use Rattle.pf_eval.proofs.Answered.{AreSteps, failure_is, good_steps, grid_steps, no_failure, same_failure}
+use Rattle.pf_columns.proofs.PointWalk.{drop_at as behind_place}
 
 -- ---- values one after another
 
@@ -53,11 +54,6 @@ steps_append [] ys = refl
 steps_append (x ∷ xs) ys = ap (λ ss. record { time = x.time; elements = elements_of x.cell } ∷ ss) (steps_append xs ys)
 
 -- ---- runs
-
-behind_place : {X : Type 0} (xs : List X) (i : ℕ) (x : X) → slice_get xs i ≡ Some x → drop i xs ≡ x ∷ drop (suc i) xs
-behind_place [] i x h = cc
-behind_place (y ∷ xs) zero x h = let same : y ≡ x = cc in ap (λ z. z ∷ xs) same
-behind_place (y ∷ xs) (suc i) x h = behind_place xs i x h
 
 pub at_place : {X : Type 0} (xs : List X) (i : ℕ) (x : X) → i < length xs → x ≡ get_or xs i x → slice_get xs i ≡ Some x
 at_place [] i x h e = absurd (omega (arith, h))

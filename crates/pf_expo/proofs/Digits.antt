@@ -7,6 +7,7 @@ use Rattle.std.proofs.lemmas.List.{take_more}
 use Rattle.std.proofs.lemmas.Bool.Decides.{nat_tests}
 use Rattle.pf_base.specs.NumberTexts.{number_after}
 use Rattle.pf_expo.specs.Scans.{capped}
+use Rattle.pf_base.proofs.Digits.{number_more, number_append}
 
 in_range : (b : ℕ) → is_ascii_digit b ≡ true → (48 ≤ b) × (b ≤ 57)
 in_range b h = grind (arith, nat_tests)
@@ -15,13 +16,6 @@ pub digit_at : (bs : List ℕ) (i : ℕ) → list_all is_ascii_digit bs ≡ true
 digit_at [] i h lt = absurd (omega arith)
 digit_at (b ∷ bs) zero h lt = in_range b (and_parts _ _ h).0
 digit_at (b ∷ bs) (suc i) h lt = digit_at bs i (and_parts _ _ h).1 (omega arith)
-
-number_append : (n : ℕ) (xs ys : List ℕ) → number_after n (xs ++ ys) ≡ number_after (number_after n xs) ys
-number_append n [] ys = refl
-number_append n (x ∷ xs) ys = number_append (n * 10 + (x - 48)) xs ys
-
-number_more : (n : ℕ) (bs : List ℕ) (i : ℕ) → i < length bs → number_after n (take (i + 1) bs) ≡ number_after n (take i bs) * 10 + (get_or bs i 0 - 48)
-number_more n bs i lt = ap (number_after n) (take_more bs i 0 lt) ∙ number_append n (take i bs) (get_or bs i 0 ∷ [])
 
 pub read_step : (x r : ℕ) (bs : List ℕ) (i : ℕ) → i < length bs → x ≡ capped (number_after 0 (take i bs)) → r ≡ min (x * 10 + (get_or bs i 0 - 48)) 4398046511104
     → r ≡ capped (number_after 0 (take (i + 1) bs))

@@ -10,7 +10,7 @@ use Rattle.pf_base.specs.LabelSets.{Pairs, is_empty}
 use Rattle.pf_base.specs.NumberTexts.{number_after}
 use Rattle.pf_model.specs.Exposition.{AreLabels, AreParts, IsLabel, IsMiddle, IsStamp, Label, Middle, Parts, Stamp, are_blanks, are_digits, bare, begins_with, empty, full, goes_on_metric, is_blank, is_gap, is_metric_name, is_no_blank, is_word, labelled, label_text, middle_pairs, middle_text, more_text, name_label, pairs_of, parts_pairs, parts_text, stamp_text, starts_metric}
 use Rattle.pf_expo.specs.Scans.{Cut, Scanned, all_labels, begins_blank, behind_byte, capped, capped_time, front_of, kept, labels_from, metric_name_at, middle_at, past, past_pairs, scan, series_at, time_at, with_pairs}
-use Rattle.pf_expo.proofs.Braces.{BracesFound, core, core_is, labels_again, labels_found, name_no_blank, opened, pairs_some, shut, text_at}
+use Rattle.pf_expo.proofs.Braces.{BracesFound, core, core_is, labels_again, labels_found, name_no_blank, opened, pairs_some, shut, text_at, moved}
 use Rattle.pf_expo.proofs.FirstBytes.{Begins}
 use Rattle.pf_expo.proofs.Fronts.{front_all}
 use Rattle.pf_expo.proofs.Shorter.{bind_some}
@@ -27,9 +27,6 @@ pub record MiddleFound (bytes : List ℕ) (x : Pairs × List ℕ) : Type 0 where
 gap_found : (bytes : List ℕ) → begins_blank bytes ≡ true → is_gap (front_of is_blank bytes) ≡ true
 gap_found [] h = cc
 gap_found (b ∷ bs) h = rw h (rw h (front_all is_blank bs))
-
-moved : Label → List ℕ → Label
-moved l blanks = record { before = blanks; name = l.name; before_sign = l.before_sign; behind_sign = l.behind_sign; value = l.value; behind = l.behind }
 
 braces_found : (bytes inside : List ℕ) (y : Pairs × List ℕ) → past is_blank bytes ≡ 123 ∷ inside → BracesFound (past is_blank inside) y.0 y.1 → MiddleFound bytes (y.0, past is_blank y.1)
 unfolding moved

@@ -20,14 +20,11 @@ use Rattle.pf_model.specs.declared.cell.StepCell.TheVariants.{Good, Bad}
 use Rattle.pf_results.specs.Woven.{AreWoven, IsWoven, Span, done, done_in, rest_of, wanted, wanted_in}
 use Rattle.pf_split.specs.Pieces.{points_of, steps_of as steps_by_piece}
 use Rattle.pf_split.specs.declared.splitting.Piece.{Piece}
+pub use Rattle.pf_columns.proofs.Parts.{length_cells as cells_many}
 
 pub points_append : (rs ss : List GridData) → points_over (rs ++ ss) ≡ points_over rs ++ points_over ss
 points_append [] ss = refl
 points_append (r ∷ rs) ss = ap (λ ts. points r ++ ts) (points_append rs ss) ∙ sym (append_assoc (points r) (points_over rs) (points_over ss))
-
-pub cells_many : (cs : List ColumnData) (k n : ℕ) → length (cells_from cs k n) ≡ n
-cells_many cs k zero = refl
-cells_many cs k (suc n) = ap suc (cells_many cs (k + 1) n)
 
 pub drop_next : {X : Type 0} (xs : List X) (n : ℕ) (x : X) → n < length xs → x ≡ get_or xs n x → drop n xs ≡ x ∷ drop (n + 1) xs
 drop_next [] n x h e = absurd (omega (arith, h))

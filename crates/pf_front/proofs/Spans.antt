@@ -14,6 +14,9 @@ use Rattle.pf_query.specs.Covers.{lies_in}
 use Rattle.pf_results.specs.Woven.{AreWoven, IsFirstSpan, IsWoven, Span, done, done_in, rest_of, run_in, wanted, wanted_in}
 use Rattle.pf_split.specs.Pieces.{pieces_of, put_before}
 use Rattle.pf_split.specs.declared.splitting.Piece.{Piece}
+pub use Rattle.pf_results.proofs.Weaving.{rest_next}
+pub use Rattle.pf_core.proofs.Divided.{points_split}
+pub use Rattle.pf_results.proofs.Weaving.{rest_none}
 
 -- ---- each of a list
 
@@ -36,18 +39,6 @@ module _ {X : Type 0} where
 
 -- ---- the rest of a run
 
-pub rest_none : (run : GridData) → rest_of run 0 ≡ run
-rest_none run =
-    let start : run.start + 0 * run.step ≡ run.start = omega arith in
-    let len : run.len - 0 ≡ run.len = omega arith in
-    λ i. record { start = start i; step = run.step; len = len i }
-
-pub rest_next : (run : GridData) (from n : ℕ) → rest_of (rest_of run from) n ≡ rest_of run (from + n)
-rest_next run from n =
-    let start : run.start + from * run.step + n * run.step ≡ run.start + (from + n) * run.step = omega (arith, add-mul from n run.step) in
-    let len : run.len - from - n ≡ run.len - (from + n) = omega arith in
-    λ i. record { start = start i; step = run.step; len = len i }
-
 pub rest_grid : (run : GridData) (n : ℕ) → IsGrid run → n < run.len → IsGrid (rest_of run n)
 rest_grid run n g h = record {
   some = omega (arith, h);
@@ -61,12 +52,6 @@ rest_grid run n g h = record {
   alone = λ z. let one = g.alone z in omega (arith, one, h);
   multiple = λ p. add-mul-mod_self_right run.start n run.step ∙ g.multiple p;
 }
-
--- so many first steps, and the others
-pub points_split : (run : GridData) (n : ℕ) → n ≤ run.len → points run ≡ times_from run.start run.step n ++ points (rest_of run n)
-points_split run n h =
-    let all : run.len ≡ n + (run.len - n) = omega (arith, h) in
-    ap (times_from run.start run.step) all ∙ times_from-append run.start run.step n (run.len - n)
 
 pub span_points : (run : GridData) (s : Span) → IsFirstSpan run s → points run ≡ points (run_in s) ++ points (rest_of run (run_in s).len)
 span_points run s f =

@@ -16,6 +16,7 @@ use Rattle.pf_model.specs.Trees.{Tree}
 use Rattle.pf_query.specs.Jobs.{is_empty}
 use Rattle.pf_results.specs.Woven.{AreWoven, IsFirstSpan, IsWoven, Span, done, done_in, rest_of, run_in, wanted, wanted_in}
 use Rattle.pf_split.specs.declared.splitting.Piece.{Piece}
+use Rattle.pf_results.proofs.Weaving.{wanted_more, done_more}
 
 -- ---- cells, one after another
 
@@ -72,16 +73,6 @@ walked_none all p ps ds es e line woven whole =
     }
 
 -- ---- one span more
-
-done_more : (ss : List Span) (s : Span) → done_in (ss ++ s ∷ []) ≡ done_in ss ++ done_in (s ∷ [])
-done_more [] s = refl
-done_more (done d ∷ ss) s = ap (λ (ds : List DoneCells). d ∷ ds) (done_more ss s)
-done_more (wanted r ∷ ss) s = done_more ss s
-
-wanted_more : (ss : List Span) (s : Span) → wanted_in (ss ++ s ∷ []) ≡ wanted_in ss ++ wanted_in (s ∷ [])
-wanted_more [] s = refl
-wanted_more (done d ∷ ss) s = wanted_more ss s
-wanted_more (wanted r ∷ ss) s = ap (λ (rs : List GridData). r ∷ rs) (wanted_more ss s)
 
 heads_same : {X : Type 0} (x y : X) (xs ys : List X) → x ∷ xs ≡ y ∷ ys → x ≡ y
 heads_same x y xs ys e = cc

@@ -14,20 +14,9 @@ use Rattle.pf_model.specs.declared.cell.ErrorKind.TheVariants.{DoubleLabels}
 use Rattle.pf_model.specs.declared.cell.StepCell.TheVariants.{Good, Bad}
 use Rattle.pf_model.specs.Cells.{cell_of, has_equal, in_label_order}
 use Rattle.pf_model.specs.Selection.{same_labels}
-use Rattle.pf_model.proofs.KeySets.{same_is, same_turned}
+use Rattle.pf_model.proofs.KeySets.{same_is, same_turned, or_turned as turned}
 use Rattle.pf_join.specs.Neighbours.{repeats, repeats_after}
-
--- l lies below m, and m is at most n: so l is not n
-apart_by : (l m n : Pairs) (b : Bool) → same_labels l n ≡ b → is_gt (labels_cmp l m) ≡ false → same_labels l m ≡ false → is_gt (labels_cmp m n) ≡ false → b ≡ false
-apart_by l m n true e p s q =
-    let back : is_gt (labels_cmp m l) ≡ false = subst (λ x. is_gt (labels_cmp m x) ≡ false) (sym (same_is l n e)) q in
-    let same : same_labels l m ≡ true = ap is_eq (level (labels_cmp l m) (labels_cmp m l) (labels_total.antisymm l m) p back) in cc
-apart_by l m n false e p s q = refl
-
-turned : (a b c : Bool) → (a || (b || c)) ≡ (b || (a || c))
-turned true true c = refl
-turned true false c = refl
-turned false b c = refl
+use Rattle.pf_math.proofs.Repeats.{apart_by}
 
 crossed : (a b c d : Bool) → ((a || b) || (c || d)) ≡ ((a || c) || (b || d))
 crossed true b c d = refl

@@ -21,7 +21,7 @@ use Rattle.pf_join.specs.Results.{elements_of, joined_results, labels_of_pair, r
 abbrev with_side : Side → Matched → Matched
 with_side s m = record { on = m.on; labels = m.labels; side = s; include = m.include }
 
-same_labels_at : (s : Side) (m : Matched) (p : Pair) → labels_of_pair (with_side s m) p.left.labels p.right.labels ≡ pair_labels (with_side s m) p
+pub same_labels_at : (s : Side) (m : Matched) (p : Pair) → labels_of_pair (with_side s m) p.left.labels p.right.labels ≡ pair_labels (with_side s m) p
 same_labels_at side.One m p = refl
 same_labels_at side.Left m p = refl
 same_labels_at side.Right m p = refl

@@ -9,7 +9,7 @@ use Rattle.std.specs.Str.{bytes_eq}
 use Rattle.pf_base.specs.declared.plain.Limits.{Limits}
 use Rattle.pf_model.specs.Lists.{Each, first_with}
 use Rattle.pf_model.specs.Queries.{IsReading, Reading}
-use Rattle.pf_journal.proofs.Going.{NeverStops, going, ran-snoc, runs_to_end, runs_to_stop, text_grows, text_stays, turn_behind, woven_enters, woven_stays}
+use Rattle.pf_journal.proofs.Going.{NeverStops, going, ran-snoc, runs_to_end, runs_to_stop, text_grows, text_stays, turn_behind, woven_enters, woven_stays, one_more}
 use Rattle.pf_journal.proofs.Growing.{hands_behind, moments-snoc}
 use Rattle.pf_journal.proofs.Named.{all_named}
 use Rattle.pf_journal.proofs.Opened.{IsAmong, all_above, all_own, asked_at, found_among, opened}
@@ -44,7 +44,7 @@ each_append : {X : Type 0} (P : X → Type 0) (xs ys : List X) → Each P xs →
 each_append P [] ys h k = k
 each_append P (x ∷ xs) ys h k = (h.0, each_append P xs ys h.1 k)
 
-none_with : {X : Type 0} (p : X → Bool) (xs : List X) → Each (λ x. p x ≡ false) xs → first_with p xs ≡ None
+pub none_with : {X : Type 0} (p : X → Bool) (xs : List X) → Each (λ x. p x ≡ false) xs → first_with p xs ≡ None
 none_with p [] h = refl
 none_with p (x ∷ xs) h = rw h.0 (none_with p xs h.1)
 
@@ -66,16 +66,16 @@ drop_next (y ∷ xs) (suc n) x left h = drop_next xs n x left h
 
 -- ---- lines below
 
-line_below : (ls : List Numbered) (k n : ℕ) → Each (λ l. l.number < n) ls → IsLineOf ls k → k < n
+pub line_below : (ls : List Numbered) (k n : ℕ) → Each (λ l. l.number < n) ls → IsLineOf ls k → k < n
 line_below [] k n h there = absurd there
 line_below (l ∷ ls) k n h (inl same) = let low = h.0 in omega (arith, low, same)
 line_below (l ∷ ls) k n h (inr there) = line_below ls k n h.1 there
 
-own_below : (own : List Moment) (ls : List Numbered) (n : ℕ) → Each (λ l. l.number < n) ls
+pub own_below : (own : List Moment) (ls : List Numbered) (n : ℕ) → Each (λ l. l.number < n) ls
     → Each (λ x. IsLineOf ls x.entry.line) own → Each (λ x. x.entry.line < n) own
 own_below own ls n low lined = each_so _ _ (λ x h. line_below ls x.entry.line n low h) own lined
 
-ran_below : (ls : List Numbered) (told : List Told) (n : ℕ) → Each (λ l. l.number < n) (take (length told) ls)
+pub ran_below : (ls : List Numbered) (told : List Told) (n : ℕ) → Each (λ l. l.number < n) (take (length told) ls)
     → Each (λ r. r.line.number < n) (ran_lines ls told)
 ran_below [] told n h = tt
 ran_below (l ∷ ls) [] n h = tt
@@ -109,7 +109,7 @@ room_after l names m (e ∷ es) r h = room_after l names (next m e.what) es h.0.
 legal_room : (l : Limits) (names : List (List ℕ)) (journal : List Entry) → Legal l names journal → HasRoom l (machine_after started journal)
 legal_room l names journal h = room_after l names started journal (omega arith) h
 
-machine-snoc : (m : Machine) (journal : List Entry) (e : Entry) → machine_after m (journal ++ e ∷ []) ≡ next (machine_after m journal) e.what
+pub machine-snoc : (m : Machine) (journal : List Entry) (e : Entry) → machine_after m (journal ++ e ∷ []) ≡ next (machine_after m journal) e.what
 machine-snoc m [] e = refl
 machine-snoc m (x ∷ journal) e = machine-snoc (next m x.what) journal e
 
@@ -125,9 +125,6 @@ own-snoc client journal n what =
 answers-snoc : (journal : List Entry) (e : Entry) → is_500 e.what ≡ 0 → failed_answers (journal ++ e ∷ []) ≡ failed_answers journal
 answers-snoc [] e h = rw h refl
 answers-snoc (x ∷ journal) e h = ap (λ n. is_500 x.what + n) (answers-snoc journal e h)
-
-one_more : (told : List Told) (t : Told) → length (told ++ t ∷ []) ≡ suc (length told)
-one_more told t = length-append told (t ∷ []) ∙ omega arith
 
 told-snoc : (told : List Told) (t : Told) → failed_in t ≡ 0 → failed_told (told ++ t ∷ []) ≡ failed_told told
 told-snoc [] t h = rw h refl

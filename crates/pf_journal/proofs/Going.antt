@@ -66,7 +66,7 @@ turn_behind own rs r = turn_of own (lines_behind [] rs) (hands_behind [] rs) r
 abbrev pub going : List Told → Told → Why → Client
 going told t why = record { told = told ++ t ∷ []; why = why }
 
-one_more : (told : List Told) (t : Told) → length (told ++ t ∷ []) ≡ suc (length told)
+pub one_more : (told : List Told) (t : Told) → length (told ++ t ∷ []) ≡ suc (length told)
 one_more told t = length-append told (t ∷ []) ∙ omega arith
 
 -- a line without an entry

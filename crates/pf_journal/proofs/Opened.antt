@@ -208,7 +208,7 @@ each_push : (P : Open → Type 0) (qs : List Open) (q : Open) → Each P qs → 
 each_push P [] q h p = (p, tt)
 each_push P (o ∷ qs) q h p = (h.0, each_push P qs q h.1 p)
 
-each_closed : (P : Open → Type 0) (place : ℕ) (qs : List Open) → Each P qs → Each P (closed place qs)
+pub each_closed : (P : Open → Type 0) (place : ℕ) (qs : List Open) → Each P qs → Each P (closed place qs)
 each_closed P place [] h = tt
 each_closed P place (q ∷ qs) h = elim (bool_cases (nat_eq q.place place)) [
   | inl t ↦ rw t (each_closed P place qs h.1)
@@ -251,7 +251,7 @@ found_among p (y ∷ ys) x h = elim (bool_cases (p y)) [
       inr (found_among p ys x there)
 ]
 
-later_places : (m : Machine) (es : List Entry) (x : Moment) → IsAmong x (moments_from m es) → m.count ≤ place_of x
+pub later_places : (m : Machine) (es : List Entry) (x : Moment) → IsAmong x (moments_from m es) → m.count ≤ place_of x
 later_places m [] x h = absurd h
 later_places m (e ∷ es) x (inl same) = let s = ap place_of same in omega (arith, s)
 later_places m (e ∷ es) x (inr h) = let s = later_places (next m e.what) es x h in omega (arith, s)

@@ -22,7 +22,7 @@ use Rattle.pf_lex.specs.declared.string.Piece.TheVariants as found
 use Rattle.pf_lex.specs.declared.string.Written.{Written}
 use Rattle.pf_lex.proofs.Pieces.{map_some, raw_ends, raw_stands}
 
-one_low : (b : ℕ) → b < 128 → IsUtf8 (b ∷ [])
+pub one_low : (b : ℕ) → b < 128 → IsUtf8 (b ∷ [])
 one_low b h = subst IsUtf8 (encode_ascii b h) (IsUtf8-encode b (low_scalar b h))
   where
     low_scalar : (b : ℕ) → b < 128 → scalar b ≡ true

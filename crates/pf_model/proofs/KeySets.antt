@@ -50,7 +50,7 @@ or_same : (b c : Bool) → (b || c) ≡ (b || (b || c))
 or_same true c = refl
 or_same false c = refl
 
-or_turned : (a b c : Bool) → (a || (b || c)) ≡ (b || (a || c))
+pub or_turned : (a b c : Bool) → (a || (b || c)) ≡ (b || (a || c))
 or_turned true true c = refl
 or_turned true false c = refl
 or_turned false b c = refl

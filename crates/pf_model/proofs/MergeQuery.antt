@@ -123,7 +123,7 @@ same_called samples (function.Instant instant.LabelJoin) args os t h = refl
 -- ---- aggregations
 
 -- a cell and back
-first_again : (os : List Outcome) (o : Outcome) → of_cell (step_cell o) ≡ o → of_cell (step_cell (first_bad os o)) ≡ first_bad os o
+pub first_again : (os : List Outcome) (o : Outcome) → of_cell (step_cell o) ≡ o → of_cell (step_cell (first_bad os o)) ≡ first_bad os o
 first_again [] o h = h
 first_again (scalar v ∷ os) o h = first_again os o h
 first_again (elements es ∷ os) o h = first_again os o h

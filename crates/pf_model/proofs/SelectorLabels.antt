@@ -35,7 +35,7 @@ placed_above k l m ms behind Less h a b = (h, a)
 placed_above k l m ms behind Equal h a b = a
 placed_above k l m ms behind Greater h a b = (a.0, b)
 
-put_above : (k l : Pairs) (ms : List Pairs) → labels_cmp k l ≡ Less → AllAbove k ms → AllAbove k (put l ms)
+pub put_above : (k l : Pairs) (ms : List Pairs) → labels_cmp k l ≡ Less → AllAbove k ms → AllAbove k (put l ms)
 put_above k l [] h a = (h, tt)
 put_above k l (m ∷ ms) h a = placed_above k l m ms (put l ms) (labels_cmp l m) h a (put_above k l ms h a.1)
 

@@ -14,7 +14,7 @@ use Rattle.pf_base.specs.NumberTexts.{value_text, micros_text, fraction_text, si
 use Rattle.pf_base.specs.Arithmetic.{IsValue}
 use Rattle.std.specs.Fmt.{decimal}
 use Rattle.pf_model.specs.Canonical.{string_byte, string_bytes_of}
-use Rattle.pf_lex.proofs.Utf8.{high_encode, is_high}
+use Rattle.pf_lex.proofs.Utf8.{high_encode, is_high, one_low}
 use lib.Utf8.{scalar, scalars, encodes}
 
 pub escaped_onto : (xs ys : List ℕ) → string_bytes_of (xs ++ ys) ≡ string_bytes_of xs ++ string_bytes_of ys
@@ -52,12 +52,6 @@ high_plain [] h = refl
 high_plain (b ∷ bs) h =
     let p = and_parts (is_high b) (list_all is_high bs) h in
     ap (λ x. x ++ string_bytes_of bs) (high_byte b p.0) ∙ ap (λ x. b ∷ x) (high_plain bs p.1)
-
-one_low : (b : ℕ) → b < 128 → IsUtf8 (b ∷ [])
-one_low b h = subst IsUtf8 (encode_ascii b h) (IsUtf8-encode b (low_scalar b h))
-  where
-    low_scalar : (b : ℕ) → b < 128 → scalar b ≡ true
-    low_scalar b h = grind (arith, nat_tests)
 
 two_low : (a b : ℕ) → a < 128 → b < 128 → IsUtf8 (a ∷ b ∷ [])
 two_low a b h k = IsUtf8-append (a ∷ []) (b ∷ []) (one_low a h) (one_low b k)

@@ -30,6 +30,7 @@ use Rattle.pf_query.proofs.Stepping.{Holds, agree_again, agree_gone, agree_stopp
 use Rattle.pf_query.proofs.Tallies.{bool_cases, each_map}
 use Rattle.pf_query.proofs.Tabled.{are_same, left_after, raw_of, same_table, table_same, unplanned_by}
 use Rattle.pf_query.proofs.Trying.{AreAllTried, AreFewer, back_others, back_own, counted_more, counts_try, fewer_left, fewer_released, fewer_same, fewer_taken, hand_fewer, keeps_tried, last_gone, not_more, tried_after, tried_change, tried_equal, tried_more, tries_at}
+pub use Rattle.pf_query.proofs.Tabled.{planned_by as work_by}
 
 raw_is : (o : Option Entry) (e f : Entry) → o ≡ Some e → o ≡ Some f → e ≡ f
 raw_is o e f h k = cc
@@ -562,10 +563,6 @@ module _ (old new : Table) (held : Held) (s : EntryState) (h : Some s ≡ option
 
 given_by : (o : Option WorkData) (w : WorkData) (b : Bool) → o ≡ Some w → is_given_out o ≡ b → w.given ≡ b
 given_by o w b h g = sym (ap is_given_out h) ∙ g
-
-pub work_by : (o : Option WorkData) → is_planned o ≡ true → (w : WorkData) × (o ≡ Some w)
-work_by None h = cc
-work_by (Some w) h = (w, refl)
 
 module _ (old : Table) (query : ℕ) (s : EntryState) (h : Some s ≡ option_map state_of (raw_of old query)) (t : IsTable old) where
   abbrev pub asked : Told (raw_of old query) s

@@ -253,7 +253,7 @@ module _ (old new : Table) (query : ℕ) (e : Entry) (mid : Queues) (t : IsTable
 
 -- ---- what is told of a query
 
-planned_by : (o : Option WorkData) → is_planned o ≡ true → (w : WorkData) × (o ≡ Some w)
+pub planned_by : (o : Option WorkData) → is_planned o ≡ true → (w : WorkData) × (o ≡ Some w)
 planned_by None h = cc
 planned_by (Some w) h = (w, refl)
 

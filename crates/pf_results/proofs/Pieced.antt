@@ -28,6 +28,8 @@ use Rattle.pf_results.specs.Truth.{AreAllSpaced, AreTrue, IsAsker, IsEvaluated, 
 use Rattle.pf_results.specs.Woven.{AreWoven, AreWovenIn, done_in, wanted_in}
 use Rattle.pf_results.proofs.Growing.{values}
 use Rattle.pf_results.proofs.Keys.{touched_spaced, touched_true, true_under}
+use Rattle.pf_results.proofs.Served.{count_more}
+use Rattle.pf_base.proofs.GridTimes.{length-times_from as length_times}
 
 -- ---- keys
 
@@ -53,10 +55,6 @@ stepped_before length step t (p ∷ ps) h = elim (bool_cases (p.interval == t / 
 pub stepped_pieces : (length step : ℕ) (ts : List ℕ) → Each (λ (p : Piece). p.run.step ≡ step) (pieces_of length step ts)
 stepped_pieces length step [] = tt
 stepped_pieces length step (t ∷ ts) = stepped_before length step t (pieces_of length step ts) (stepped_pieces length step ts)
-
-length_times : (t step n : ℕ) → length (times_from t step n) ≡ n
-length_times t step zero = refl
-length_times t step (suc n) = ap suc (length_times (t + step) step n)
 
 -- ---- what is found
 
@@ -195,10 +193,6 @@ taken : (ds : List DoneCells) (i : ℕ) → i < length ds → steps_in (take (su
 taken [] i h = absurd (omega (arith, h))
 taken (d ∷ ds) zero h = omega arith
 taken (d ∷ ds) (suc i) h = let e = taken ds i (omega (arith, h)) in omega (arith, e)
-
-count_more : (ds : List DoneCells) (d : DoneCells) → steps_in (ds ++ d ∷ []) ≡ steps_in ds + d.run.len
-count_more [] d = omega arith
-count_more (x ∷ ds) d = let r = count_more ds d in omega (arith, r)
 
 each_at : {X : Type 0} (P : X → Type 0) (xs : List X) (i : ℕ) (d : X) → i < length xs → Each P xs → P (get_or xs i d)
 each_at P [] i d h e = absurd (omega (arith, h))

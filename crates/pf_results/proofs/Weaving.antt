@@ -11,23 +11,23 @@ use Rattle.pf_results.specs.Serving.{IsServedPart}
 use Rattle.pf_results.specs.Woven.{AreWovenIn, IsFirstSpan, IsWoven, Span, done, done_in, rest_of, run_in, wanted, wanted_in}
 use Rattle.pf_results.proofs.Parts.{part_is_grid}
 
-done_more : (ss : List Span) (s : Span) → done_in (ss ++ s ∷ []) ≡ done_in ss ++ done_in (s ∷ [])
+pub done_more : (ss : List Span) (s : Span) → done_in (ss ++ s ∷ []) ≡ done_in ss ++ done_in (s ∷ [])
 done_more [] s = refl
 done_more (done d ∷ ss) s = ap (λ (ds : List DoneCells). d ∷ ds) (done_more ss s)
 done_more (wanted r ∷ ss) s = done_more ss s
 
-wanted_more : (ss : List Span) (s : Span) → wanted_in (ss ++ s ∷ []) ≡ wanted_in ss ++ wanted_in (s ∷ [])
+pub wanted_more : (ss : List Span) (s : Span) → wanted_in (ss ++ s ∷ []) ≡ wanted_in ss ++ wanted_in (s ∷ [])
 wanted_more [] s = refl
 wanted_more (done d ∷ ss) s = wanted_more ss s
 wanted_more (wanted r ∷ ss) s = ap (λ (rs : List GridData). r ∷ rs) (wanted_more ss s)
 
-rest_none : (run : GridData) → rest_of run 0 ≡ run
+pub rest_none : (run : GridData) → rest_of run 0 ≡ run
 rest_none run =
     let start : run.start + 0 * run.step ≡ run.start = omega arith in
     let len : run.len - 0 ≡ run.len = omega arith in
     λ i. record { start = start i; step = run.step; len = len i }
 
-rest_next : (run : GridData) (from n : ℕ) → rest_of (rest_of run from) n ≡ rest_of run (from + n)
+pub rest_next : (run : GridData) (from n : ℕ) → rest_of (rest_of run from) n ≡ rest_of run (from + n)
 rest_next run from n =
     let start : run.start + from * run.step + n * run.step ≡ run.start + (from + n) * run.step = omega (arith, add-mul from n run.step) in
     let len : run.len - from - n ≡ run.len - (from + n) = omega arith in

@@ -25,7 +25,7 @@ each_implied : {X : Type 0} (P Q : X → Type 0) → ((x : X) → P x → Q x) �
 each_implied P Q f [] h = tt
 each_implied P Q f (x ∷ xs) h = (f x h.0, each_implied P Q f xs h.1)
 
-each_more : {X : Type 0} (P : X → Type 0) (xs : List X) (y : X) → Each P xs → P y → Each P (xs ++ y ∷ [])
+pub each_more : {X : Type 0} (P : X → Type 0) (xs : List X) (y : X) → Each P xs → P y → Each P (xs ++ y ∷ [])
 each_more P [] y h p = (p, tt)
 each_more P (x ∷ xs) y h p = (h.0, each_more P xs y h.1 p)
 

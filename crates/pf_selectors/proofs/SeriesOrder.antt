@@ -15,7 +15,7 @@ use Rattle.pf_model.specs.declared.expr.Matcher.{Matcher}
 use Rattle.pf_model.specs.Binding.{accepted_from, accepted_of, series_cmp}
 use Rattle.pf_model.specs.Lists.{Each}
 use Rattle.pf_model.specs.Selection.{same_labels, accepts}
-use Rattle.pf_model.proofs.KeySets.{same_is, same_self, stands_in}
+use Rattle.pf_model.proofs.KeySets.{same_is, same_self, stands_in, or_turned}
 use Rattle.pf_model.proofs.SelectorLabels.{AllAbove, Ascends, above_all}
 
 -- a label set with an id
@@ -113,11 +113,6 @@ module _ (ms : List Matcher) where
         ∙ any_by first l m ls (same_labels l m) refl (first_absent m ls (first + 1) h) (any_accepted (first + 1) l ls (others_apart m ls h))
 
 -- ---- in order
-
-or_turned : (a b c : Bool) → (a || (b || c)) ≡ (b || (a || c))
-or_turned true true c = refl
-or_turned true false c = refl
-or_turned false b c = refl
 
 any_ins_by : (p : Entry → Bool) (x y : Entry) (ys : List Entry) (b : Bool) → list_any p (ins series_cmp x ys) ≡ (p x || list_any p ys)
     → list_any p (cond b (y ∷ ins series_cmp x ys) (x ∷ y ∷ ys)) ≡ (p x || (p y || list_any p ys))

@@ -7,6 +7,7 @@ use Rattle.std.proofs.lemmas.Nat.{mul-le}
 use Rattle.pf_range.specs.Windows.{IsTime}
 use Rattle.pf_selectors.specs.Times.{AreEnds, AreStarts, AreTimes, IsAmong, Spans, away, time_at}
 use Rattle.pf_selectors.specs.declared.times.Times.{Times}
+pub use Rattle.pf_columns.proofs.Below.{lt_or_is}
 
 -- a run without a list
 pub run_at : (t : Times) (k : ℕ) → t.list.now ≡ [] → time_at t k ≡ t.start +ℤ (pos k *ℤ t.step)
@@ -75,12 +76,6 @@ one_spans t a b p q = record {
   least = record { step = 0; below = omega arith; is = p };
   greatest = record { step = 0; below = omega arith; is = q };
 }
-
-pub lt_or_is : (k n : ℕ) → k < suc n → (k < n) ⊎ (k ≡ n)
-lt_or_is zero zero h = inr refl
-lt_or_is zero (suc n) h = inl (omega arith)
-lt_or_is (suc k) zero h = absurd (omega (arith, h))
-lt_or_is (suc k) (suc n) h = elim (lt_or_is k n (omega (arith, h))) [ inl a ↦ inl (omega (arith, a)) | inr a ↦ inr (ap suc a) ]
 
 pub more_spans : (t : Times) (a b c d u : ℤ) (n : ℕ) → Spans a b n t → u ≡ time_at t n → c ≡ int_min a u → d ≡ int_max b u → Spans c d (suc n) t
 more_spans t a b c d u n s e p q =

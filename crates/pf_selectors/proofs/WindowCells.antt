@@ -19,6 +19,7 @@ use Rattle.pf_model.specs.Evaluation.{by_time, sample_of}
 use Rattle.pf_model.specs.Log.{AreApart, held_value}
 use Rattle.pf_model.specs.Selection.{same_labels}
 use Rattle.pf_model.proofs.KeySets.{same_is}
+use Rattle.pf_block.proofs.Keeping.{put_after_by, rises_put_by}
 
 both : (a b : Bool) → a ≡ true → b ≡ true → (a && b) ≡ true
 both a b h k = λ i. h i && k i
@@ -127,22 +128,12 @@ absent : (v : Bool) (z : ℤ) (o : Option ℤ) → cond v (Some z) o ≡ None �
 absent true z o h = cc
 absent false z o h = (refl, h)
 
-put_after_by : (a : ℤ) (s x : Sample) (xs : List Sample) (v : Bool) → int_lt x.time s.time ≡ v → int_lt a s.time ≡ true → rises_after a (x ∷ xs) ≡ true → int_eq x.time s.time ≡ false → rises_after x.time xs ≡ true →
-    (int_lt x.time s.time ≡ true → rises_after x.time (put_sample s xs) ≡ true) → rises_after a (cond v (x ∷ put_sample s xs) (s ∷ x ∷ xs)) ≡ true
-put_after_by a s x xs true e l r k t h = both (int_lt a x.time) (rises_after x.time (put_sample s xs)) (first_so (int_lt a x.time) (rises_after x.time xs) r) (h e)
-put_after_by a s x xs false e l r k t h = both (int_lt a s.time) (rises_after s.time (x ∷ xs)) l (both (int_lt s.time x.time) (rises_after x.time xs) (later x.time s.time e k) t)
-
 rises_after_put : (a : ℤ) (s : Sample) (xs : List Sample) → int_lt a s.time ≡ true → rises_after a xs ≡ true → value_at xs s.time ≡ None → rises_after a (put_sample s xs) ≡ true
 rises_after_put a s [] l r n = both (int_lt a s.time) true l refl
 rises_after_put a s (x ∷ xs) l r n =
     let c = absent (int_eq x.time s.time) x.value (value_at xs s.time) n in
     let t = second_so (int_lt a x.time) (rises_after x.time xs) r in
     put_after_by a s x xs (int_lt x.time s.time) refl l r c.0 t (λ e. rises_after_put x.time s xs e t c.1)
-
-rises_put_by : (s x : Sample) (xs : List Sample) (v : Bool) → int_lt x.time s.time ≡ v → int_eq x.time s.time ≡ false → rises_after x.time xs ≡ true → (int_lt x.time s.time ≡ true → rises_after x.time (put_sample s xs) ≡ true) →
-    rises (cond v (x ∷ put_sample s xs) (s ∷ x ∷ xs)) ≡ true
-rises_put_by s x xs true e k t h = h e
-rises_put_by s x xs false e k t h = both (int_lt s.time x.time) (rises_after x.time xs) (later x.time s.time e k) t
 
 rises_put : (s : Sample) (xs : List Sample) → rises xs ≡ true → value_at xs s.time ≡ None → rises (put_sample s xs) ≡ true
 rises_put s [] r n = refl

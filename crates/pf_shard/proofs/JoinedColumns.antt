@@ -18,6 +18,7 @@ use Rattle.pf_shard.specs.Groups.{AreWithin, GroupColumnData, IsWithin, both, gr
 use Rattle.pf_shard.specs.JoinedGroups.{both_each, by_order, column_of_both, heads_cmp, into_columns, joined_columns}
 use Rattle.pf_shard.proofs.KnownValues.{all_wider, both_none, both_within, min_left, take_drop}
 use Rattle.pf_shard.proofs.MergedGroups.{above_append, keys, take_both, take_first, take_second}
+use Rattle.pf_columns.proofs.JoinedRows.{turned}
 
 abbrev Columns : Type 0
 Columns = List GroupColumnData
@@ -95,9 +96,6 @@ module _ (l : Pairs) where
   joined_above : (xs : Columns) → Above l xs → (ys : Columns) → Above l ys → Above l (joined_columns xs ys)
   joined_above [] h ys g = g
   joined_above (a ∷ xs) h ys g = into_above a xs (joined_columns xs) (joined_above xs h.1) h.0 h.1 ys g
-
-turned : (k l : Pairs) → labels_cmp k l ≡ Greater → labels_cmp l k ≡ Less
-turned k l h = labels_total.antisymm l k ∙ ap ordering_reverse h
 
 module _ (a : GroupColumnData) (xs : Columns) (rest : Columns → Columns) (h : Above a.key xs) (each : (l : Pairs) → Above l xs → (ys : Columns) → Above l ys → Above l (rest ys)) where
   ordered_rises : (b : GroupColumnData) (ys : Columns) (o : Ordering) → labels_cmp a.key b.key ≡ o → Rise (b ∷ ys)

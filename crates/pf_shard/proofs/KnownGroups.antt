@@ -21,12 +21,12 @@ use Rattle.pf_columns.specs.Columns.{AreRising, ColumnData, cell_at, columns_lab
 use Rattle.pf_columns.specs.Groups.{keys_by, members, place_in, those_of}
 use Rattle.pf_columns.specs.Steps.{bad_in, unless_bad}
 use Rattle.pf_columns.proofs.Below.{below_is, first_below, in_below, length_below}
-use Rattle.pf_columns.proofs.GroupColumns.{below_alike, those_members}
+use Rattle.pf_columns.proofs.GroupColumns.{below_alike, those_members, those_snoc, length_take_alike}
 use Rattle.pf_columns.proofs.GroupKeys.{distinct_rising, each_stands}
 use Rattle.pf_columns.proofs.GroupedCells.{keys_at, of_key, picked}
 use Rattle.pf_columns.proofs.Occurring.{is_full}
 use Rattle.pf_shard.specs.Groups.{AreWithin, GroupColumnData, IsWithin, group, group_columns, groups_in, groups_unless, keys_in, known_of, known_over, partial_in, with_keys, with_values}
-use Rattle.pf_shard.proofs.KnownValues.{known_further}
+use Rattle.pf_shard.proofs.KnownValues.{known_further, each_snoc}
 
 -- ---- a place that is set
 
@@ -50,23 +50,6 @@ module _ {X : Type 0} (d : X) (f : ℕ → X) (n o : ℕ) (y : X) (h : o < n) wh
       ∙ map-id set_in)
 
 -- ---- the loop over the columns
-
-those_snoc : (g : ℕ) (os : List ℕ) (cs : List ColumnData) (o : ℕ) (c : ColumnData) → length os ≡ length cs → those_of g (os ++ (o ∷ [])) (cs ++ (c ∷ [])) ≡ those_of g os cs ++ cond (nat_eq o g) (c ∷ []) []
-those_snoc g [] [] o c e = refl
-those_snoc g [] (d ∷ ds) o c e = absurd (omega (arith, e))
-those_snoc g (p ∷ ps) [] o c e = absurd (omega (arith, e))
-those_snoc g (p ∷ ps) (d ∷ ds) o c e = by (nat_eq p g) (those_snoc g ps ds o c (omega (arith, e))) where
-  by : (b : Bool) → those_of g (ps ++ (o ∷ [])) (ds ++ (c ∷ [])) ≡ those_of g ps ds ++ cond (nat_eq o g) (c ∷ []) []
-      → cond b (d ∷ those_of g (ps ++ (o ∷ [])) (ds ++ (c ∷ []))) (those_of g (ps ++ (o ∷ [])) (ds ++ (c ∷ []))) ≡ cond b (d ∷ those_of g ps ds) (those_of g ps ds) ++ cond (nat_eq o g) (c ∷ []) []
-  by true r = ap (λ xs. d ∷ xs) r
-  by false r = r
-
-length_take_alike : {X Y : Type 0} (xs : List X) (ys : List Y) (i : ℕ) → length xs ≡ length ys → length (take i xs) ≡ length (take i ys)
-length_take_alike xs ys zero e = refl
-length_take_alike [] [] (suc i) e = refl
-length_take_alike [] (y ∷ ys) (suc i) e = absurd (omega (arith, e))
-length_take_alike (x ∷ xs) [] (suc i) e = absurd (omega (arith, e))
-length_take_alike (x ∷ xs) (y ∷ ys) (suc i) e = ap suc (length_take_alike xs ys i (omega (arith, e)))
 
 abbrev known_from : ℕ → List ℕ → List ColumnData → ℕ → List (Option Partial)
 known_from len os cs g = known_over len (those_of g os cs)
@@ -185,10 +168,6 @@ part_known g all cs found n bads kept e b f k h =
     ∙ (λ i. grouped_part g (unless_bad (bad_in (b i) k) (Good (cell_at (e i) k))))
 
 -- ---- bounds
-
-each_snoc : {X : Type 0} (P : X → Type 0) (xs : List X) (x : X) → Each P xs → P x → Each P (xs ++ (x ∷ []))
-each_snoc P [] x h p = (p, tt)
-each_snoc P (y ∷ ys) x h p = (h.0, each_snoc P ys x h.1 p)
 
 each_below : {X : Type 0} (P : X → Type 0) (f : ℕ → X) (n : ℕ) → ((k : ℕ) → P (f k)) → Each P (below f n)
 each_below P f zero h = tt

@@ -132,7 +132,7 @@ with_no_values : (ps : List (Option Partial)) → with_values ps [] ≡ ps
 with_no_values [] = refl
 with_no_values (p ∷ ps) = refl
 
-each_snoc : {X : Type 0} (P : X → Type 0) (xs : List X) (x : X) → Each P xs → P x → Each P (xs ++ (x ∷ []))
+pub each_snoc : {X : Type 0} (P : X → Type 0) (xs : List X) (x : X) → Each P xs → P x → Each P (xs ++ (x ∷ []))
 each_snoc P [] x h p = (p, tt)
 each_snoc P (y ∷ ys) x h p = (h.0, each_snoc P ys x h.1 p)
 

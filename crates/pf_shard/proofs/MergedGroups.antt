@@ -14,8 +14,8 @@ use Rattle.pf_model.specs.Cells.{distinct, placed, put}
 use Rattle.pf_model.specs.Legs.{GroupPart}
 use Rattle.pf_model.specs.Merging.{merged, merged_groups}
 use Rattle.pf_model.specs.Selection.{same_labels}
-use Rattle.pf_model.proofs.KeySets.{alike, distinct_ascends, distinct_in, same_self, same_turned, stands_in}
-use Rattle.pf_model.proofs.SelectorLabels.{AllAbove, Ascends, above_all}
+use Rattle.pf_model.proofs.KeySets.{alike, distinct_ascends, distinct_in, same_self, same_turned, stands_in, or_turned}
+use Rattle.pf_model.proofs.SelectorLabels.{AllAbove, Ascends, above_all, put_above}
 use Rattle.pf_columns.specs.Columns.{AreRising}
 use Rattle.pf_columns.proofs.Rising.{ascends}
 use Rattle.pf_agg.specs.Partials.{keys_of, parts_of}
@@ -78,10 +78,6 @@ placed_above k l m ms behind Less h a b = (h, a)
 placed_above k l m ms behind Equal h a b = a
 placed_above k l m ms behind Greater h a b = (a.0, b)
 
-put_above : (k l : Pairs) (ms : List Pairs) → labels_cmp k l ≡ Less → AllAbove k ms → AllAbove k (put l ms)
-put_above k l [] h a = (h, tt)
-put_above k l (m ∷ ms) h a = placed_above k l m ms (put l ms) (labels_cmp l m) h a (put_above k l ms h a.1)
-
 distinct_above : (k : Pairs) (ls : List Pairs) → AllAbove k ls → AllAbove k (distinct ls)
 distinct_above k [] a = tt
 distinct_above k (l ∷ ls) a = put_above k l (distinct ls) a.0 (distinct_above k ls a.1)
@@ -106,11 +102,6 @@ module _ (k : Pairs) (gs hs : List GroupPart) (others : (l : Pairs) → same_lab
 pub above_append : (k : Pairs) (xs ys : List GroupPart) → AllAbove k (keys xs) → AllAbove k (keys ys) → AllAbove k (keys (xs ++ ys))
 above_append k [] ys a b = b
 above_append k (x ∷ xs) ys a b = (a.0, above_append k xs ys a.1 b)
-
-or_turned : (a b c : Bool) → (a || (b || c)) ≡ (b || (a || c))
-or_turned true true c = refl
-or_turned true false c = refl
-or_turned false b c = refl
 
 or_same : (b c : Bool) → (b || (b || c)) ≡ (b || c)
 or_same true c = refl

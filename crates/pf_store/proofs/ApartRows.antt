@@ -8,6 +8,7 @@ use Rattle.pf_model.specs.Log.{AreApart, Change, Store, append, delete, changed,
 use Rattle.pf_model.specs.Selection.{same_labels}
 use Rattle.pf_model.proofs.KeySets.{same_turned}
 use Rattle.pf_store.proofs.Holding.{is_at, either, held_value-append, left_held, removes}
+use Rattle.pf_store.proofs.Judging.{cond_front as front}
 
 -- ---- a further row
 
@@ -52,10 +53,6 @@ unheld (Some floor) held r h =
 apart_with : (held : List Row) (r : Row) (b : Bool) → AreApart held → (b ≡ true → held_value held r.labels r.time ≡ None) → AreApart (held ++ cond b (r ∷ []) [])
 apart_with held r true a f = apart_more held r a (f refl)
 apart_with held r false a f = subst AreApart (sym (append-nil held)) a
-
-front : (b : Bool) (r : Row) (rows : List Row) → cond b (r ∷ rows) rows ≡ cond b (r ∷ []) [] ++ rows
-front true r rows = refl
-front false r rows = refl
 
 apart_taken : (floor : Option ℕ) (held rows : List Row) → AreApart held → AreApart (held ++ taken_rows rows (verdicts_on floor held rows))
 apart_taken floor held [] a = subst AreApart (sym (append-nil held)) a

@@ -34,7 +34,7 @@ held_unknown snap xs ys l t f e = held_value-append xs ys l t ∙ ap (λ o. eith
 
 -- ---- the verdicts on rows, one after another
 
-cond_front : (b : Bool) (r : Row) (rows : List Row) → cond b (r ∷ rows) rows ≡ cond b (r ∷ []) [] ++ rows
+pub cond_front : (b : Bool) (r : Row) (rows : List Row) → cond b (r ∷ rows) rows ≡ cond b (r ∷ []) [] ++ rows
 cond_front true r rows = refl
 cond_front false r rows = refl
 
