@@ -1,7 +1,7 @@
 //! Rows of the table of outstanding queries.
 
 ghost use Rattle.std.specs.Arc.{arc_value};
-ghost use Rattle.std.specs.Prelude.{◌≡◌, ◌≤◌, IfSome, length};
+ghost use Rattle.std.specs.Prelude.{◌+◌, ◌≡◌, ◌≤◌, IfSome, length};
 ghost use Rattle.pf_base.specs.Limits.{most_steps};
 ghost use Rattle.pf_query.specs.Tables.{IsTable};
 ghost use Rattle.pf_shard.specs.Lawful.{IsLawful, legs_data};

@@ -1,7 +1,7 @@
 //! What is kept of evaluated steps.
 
 ghost use Rattle.std.specs.Arc.{arc_value};
-ghost use Rattle.std.specs.Prelude.{◌≡◌, ℕ, ◌≤◌, false, IfOk, IsSome, MatchOption, OnErr, OnOk, Some, take};
+ghost use Rattle.std.specs.Prelude.{◌+◌, ◌≡◌, ℕ, ◌≤◌, false, IfOk, IsSome, MatchOption, OnErr, OnOk, Some, take};
 ghost use Rattle.pf_base.specs.Limits.{most_steps};
 ghost use Rattle.pf_extent.specs.Done.{steps_in};
 ghost use Rattle.pf_journal.specs.Machine.{Open, open_at};

@@ -78,21 +78,24 @@ fn places_of(
     Ok(found)
 }
 
-/// The columns that match a label set, whose places by their keys are these.
+/// The columns that match a label set, whose places by their keys are these, and how many keys are lesser: about so many as are
+/// told.
 #[tactic(auto, using(crate::proofs::JoinedCells::partners_found))]
 fn partners<'a>(
     alloc: Global,
     matching: &Matching,
     labels: &Labels,
     places: &KeyPlaces,
+    near: usize,
     columns: &'a [Column],
-) -> Result<Vec<&'a Column>, OutOfMemory>
+) -> Result<(Vec<&'a Column>, usize), OutOfMemory>
     requires { places.now ≡ isort place_cmp (placed 0 (column_keys matching.now columns.now)) }
-    ensures { IfOk result (λ v. map (λ c. c.now) v.items ≡ partners matching.now (matching_key matching.now labels.now) columns.now) }
+    ensures { IfOk result (λ v. map (λ c. c.now) v.0.items ≡ partners matching.now (matching_key matching.now labels.now) columns.now) }
 {
     let key = matching_key(matching, labels)?;
-    let found = columns_at(alloc, places.with_key(&key), columns)?;
-    Ok(found)
+    let (places, near) = places.with_key(&key, near);
+    let found = columns_at(alloc, places, columns)?;
+    Ok((found, near))
 }
 
 fn both(op: BinaryOp, a: Option<Value>, b: Option<Value>) -> Option<Value>
@@ -172,9 +175,11 @@ fn zipped(
 {
     let places = places_of(alloc, matching, rights)?;
     let mut found = Vec::new(alloc);
+    let mut near = 0;
     for left in lefts {
-        let others = partners(alloc, matching, &left.labels, &places, rights)?;
+        let (others, at) = partners(alloc, matching, &left.labels, &places, near, rights)?;
         push_pairs(&mut found, alloc, op, matching, left, &others, len)?;
+        near = at;
     }
     Ok(found)
 }
@@ -250,9 +255,11 @@ fn met(
 {
     let places = places_of(alloc, matching, others)?;
     let mut found = Vec::new(alloc);
+    let mut near = 0;
     for column in columns {
-        let matches = partners(alloc, matching, &column.labels, &places, others)?;
+        let (matches, at) = partners(alloc, matching, &column.labels, &places, near, others)?;
         found.push(met_column(alloc, wanted, column, &matches, len)?)?;
+        near = at;
     }
     Ok(found)
 }

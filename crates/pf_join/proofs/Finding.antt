@@ -1,5 +1,6 @@
 -- What a search by halves finds in elements sorted by their keys.
-use Rattle.std.proofs.Common.{◌≡◌, ℕ, zero, suc, ◌-◌, ◌<◌, ◌≤◌, Bool, true, false, cond, ◌&&◌, ◌||◌, not, nat_eq, List, [], ◌∷◌, length, take, drop, get_or, refl, sym, ap, ◌∙◌, arith, add-one}
+use Rattle.std.proofs.Common.{◌≡◌, inl, inr, ℕ, zero, suc, ◌-◌, ◌<◌, ◌≤◌, Bool, true, false, cond, ◌&&◌, ◌||◌, not, nat_eq, List, [], ◌∷◌, length, take, drop, get_or, refl, sym, ap, ◌∙◌, arith, add-one}
+use Rattle.std.specs.Bool.{◌==◌}
 use Rattle.std.specs.List.{AllWithin, filter}
 use Rattle.std.specs.List.Sorted.{IsPartitionedBy, IsSorted}
 use Rattle.std.specs.Ordering.{is_eq, is_gt, is_lt, ordering_reverse}
@@ -11,6 +12,7 @@ use Rattle.std.proofs.lemmas.List.Elements.{filter_agree}
 use Rattle.std.proofs.Math.Seq.{take-length}
 use Rattle.pf_base.specs.LabelSets.{Pairs}
 use Rattle.pf_base.specs.LabelOrder.{labels_cmp, labels_exact, labels_total}
+use Rattle.pf_base.proofs.Readings.{bool_cases}
 use Rattle.pf_base.proofs.Sorting.{Ascends, ascends_sorted}
 use Rattle.pf_model.specs.Selection.{same_labels}
 use Rattle.pf_join.specs.declared.keys.Keyed.{Keyed}
@@ -49,6 +51,29 @@ module _ {X : Type 0} (p : X → Bool) where
   back_is (x ∷ xs) (suc i) l f g =
       back_is xs i (omega arith) (λ k d a b. f (suc k) d (omega arith) (omega arith)) (λ k d a b. g (suc k) d (omega arith) (omega arith))
       ∙ sym (ap (λ b. cond (not b) (x ∷ filter (λ y. not (p y)) xs) (filter (λ y. not (p y)) xs)) (f 0 x (omega arith) (omega arith)))
+
+-- in a list that is parted, an element tells of all before it, or behind it
+module _ {X : Type 0} (p : X → Bool) (xs : List X) (parted : IsPartitionedBy p xs) where
+  passed_before : (i : ℕ) → i ≤ length xs → ((d : X) → 0 < i → p (get_or xs (i - 1) d) ≡ true) → AllWithin (λ x. p x ≡ true) xs 0 i
+  passed_before i l h k d a b = parted k (i - 1) d (omega (arith, b)) (omega (arith, b, l)) (h d (omega (arith, b)))
+
+  failed_behind : (i : ℕ) → ((d : X) → i < length xs → p (get_or xs i d) ≡ false) → AllWithin (λ x. p x ≡ false) xs i (length xs)
+  failed_behind i h k d a b = elim (bool_cases (p (get_or xs k d))) [
+    | inl t ↦ absurd (let e = sym (parted i k d a b t) ∙ h d (omega (arith, a, b)) in cc)
+    | inr f ↦ f
+  ]
+
+  pub front_near : (i : ℕ) → i ≤ length xs → ((d : X) → 0 < i → p (get_or xs (i - 1) d) ≡ true) → ((d : X) → i < length xs → p (get_or xs i d) ≡ false)
+      → take i xs ≡ filter p xs
+  front_near i l f g = front_is p xs i l (passed_before i l f) (failed_behind i g)
+
+  pub back_near : (i : ℕ) → i ≤ length xs → ((d : X) → 0 < i → p (get_or xs (i - 1) d) ≡ true) → ((d : X) → i < length xs → p (get_or xs i d) ≡ false)
+      → drop i xs ≡ filter (λ x. not (p x)) xs
+  back_near i l f g = back_is p xs i l (passed_before i l f) (failed_behind i g)
+
+pub some_there : {X : Type 0} (xs : List X) → false ≡ (length xs == 0) → 1 ≤ length xs
+some_there [] h = cc
+some_there (x ∷ xs) h = omega arith
 
 pub rest_of : {X : Type 0} (i : ℕ) (xs : List X) → take (length xs - i) (drop i xs) ≡ drop i xs
 rest_of i xs = ap (λ n. take n (drop i xs)) (sym (length-drop i xs)) ∙ take-length (drop i xs)

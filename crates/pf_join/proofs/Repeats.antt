@@ -1,20 +1,20 @@
 -- Keys in order have two equal ones exactly where two neighbours are such.
-use Rattle.std.proofs.Common.{◌≡◌, Bool, true, false, cond, ◌||◌, Some, List, [], ◌∷◌, map, refl, sym, ap, ◌∙◌, subst}
+use Rattle.std.proofs.Common.{◌≡◌, Bool, true, false, cond, ◌||◌, Some, List, [], ◌∷◌, map, refl, sym, ap, ◌∙◌}
 use Rattle.std.specs.Cmp.{IsTotalOrder}
 use Rattle.std.specs.List.{All, list_any}
-use Rattle.std.specs.Ordering.{is_eq, is_gt}
+use Rattle.std.specs.Ordering.{is_gt}
 use Rattle.std.specs.declared.cmp.Ordering.{Ordering}
 use Rattle.std.proofs.lemmas.List.Elements.{All-head, All-tail}
 use Rattle.pf_base.specs.LabelSets.{Pairs}
 use Rattle.pf_base.specs.LabelOrder.{labels_cmp, labels_total}
 use Rattle.pf_base.specs.Sorting.{ins, isort}
-use Rattle.pf_base.proofs.Sorting.{Ascends, ascends_isort, level}
+use Rattle.pf_base.proofs.Sorting.{Ascends, ascends_isort}
 use Rattle.pf_model.specs.declared.cell.Element.{Element}
 use Rattle.pf_model.specs.declared.cell.ErrorKind.TheVariants.{DoubleLabels}
 use Rattle.pf_model.specs.declared.cell.StepCell.TheVariants.{Good, Bad}
 use Rattle.pf_model.specs.Cells.{cell_of, has_equal, in_label_order}
 use Rattle.pf_model.specs.Selection.{same_labels}
-use Rattle.pf_model.proofs.KeySets.{same_is, same_turned, or_turned as turned}
+use Rattle.pf_model.proofs.KeySets.{same_turned, or_turned as turned}
 use Rattle.pf_join.specs.Neighbours.{repeats, repeats_after}
 use Rattle.pf_math.proofs.Repeats.{apart_by}
 

@@ -1,7 +1,7 @@
 //! The jobs of a plan.
 
 ghost use Rattle.std.specs.Arc.{arc_value};
-ghost use Rattle.std.specs.Prelude.{◌≡◌, ◌≤◌, IfOk, length};
+ghost use Rattle.std.specs.Prelude.{◌+◌, ◌≡◌, ◌≤◌, IfOk, length};
 ghost use Rattle.pf_base.specs.Limits.{most_steps};
 ghost use Rattle.pf_shard.specs.Lawful.{IsLawful, legs_data};
 ghost use Rattle.pf_query.specs.Works.{ArePlanned, IsJobOver, last_of};

@@ -3,7 +3,7 @@
 ghost use Rattle.std.specs.Arc.{arc_value};
 ghost use Rattle.std.specs.HashMap.{get};
 ghost use Rattle.std.specs.Option.{option_map};
-ghost use Rattle.std.specs.Prelude.{◌≡◌, ℕ, ◌<◌, ◌≤◌, [], IfOk, IfErr, IfSome, IsSome, None, OnErr, OnOk, Some, length, nat_eq};
+ghost use Rattle.std.specs.Prelude.{◌+◌, ◌≡◌, ℕ, ◌<◌, ◌≤◌, [], IfOk, IfErr, IfSome, IsSome, None, OnErr, OnOk, Some, length, nat_eq};
 ghost use Rattle.pf_base.specs.Limits.{most_steps};
 ghost use Rattle.pf_journal.specs.Machine.{most_tenants};
 ghost use Rattle.pf_shard.specs.Lawful.{IsLawful, legs_data};
