@@ -9,5 +9,5 @@ returns c =
     let m = c.args.matching.now in
     let cs = c.args.columns.now in
     c.in_ok-found.ensures
-    ∙ ap (those_at cs) (c.with_key.ensures ∙ (λ i. places_with (c.in_ok-key.ensures i) (c.requires i)))
+    ∙ ap (those_at cs) (c.with_key-near.ensures ∙ (λ i. places_with (c.in_ok-key.ensures i) (c.requires i)))
     ∙ partners_found m (matching_key m c.args.labels.now) cs
