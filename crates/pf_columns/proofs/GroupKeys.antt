@@ -1,5 +1,5 @@
 -- Keys that are sorted, each once, and found by a binary search.
-use Rattle.std.proofs.Common.{◌≡◌, ◌+◌, ◌<◌, ◌≤◌, ◌⊎◌, inl, inr, ℕ, zero, suc, Bool, true, false, cond, ◌||◌, Some, None, Result, Ok, Err, List, [], ◌∷◌, ◌++◌, append_assoc, drop, length, map, get_or, refl, sym, ap, ◌∙◌, subst, arith}
+use Rattle.std.proofs.Common.{◌≡◌, ◌+◌, ◌<◌, ◌≤◌, ◌⊎◌, inl, inr, ℕ, zero, suc, Bool, true, false, cond, ◌||◌, Option, Some, None, IfSome, Result, Ok, Err, List, [], ◌∷◌, ◌++◌, append_assoc, drop, length, map, get_or, refl, sym, ap, ◌∙◌, subst, arith}
 use Rattle.std.specs.List.{All, list_any}
 use Rattle.std.specs.Result.{MatchResult}
 use Rattle.std.specs.List.Sorted.{IsBinarySearchResult, IsSearchInRange}
@@ -17,7 +17,7 @@ use Rattle.pf_model.specs.Selection.{same_labels}
 use Rattle.pf_model.proofs.KeySets.{alike, distinct_ascends, distinct_in, same_is, same_self, same_turned, stands_in}
 use Rattle.pf_model.proofs.SelectorLabels.{AllAbove, above_all}
 use Rattle.pf_columns.specs.Columns.{AreRising}
-use Rattle.pf_columns.specs.Groups.{place_in, unrepeated}
+use Rattle.pf_columns.specs.Groups.{is_again, place_in, unrepeated}
 use Rattle.pf_columns.proofs.Fusing.{or_true}
 use Rattle.pf_columns.proofs.Rising.{ascends, less_of, rising}
 
@@ -85,6 +85,16 @@ distinct_is ls =
     let sorted = isort labels_cmp ls in
     alike (unrepeated None sorted) (distinct ls) (ascends _ (once_rising sorted (sorting.ascends_isort labels_cmp labels_total ls))) (distinct_ascends ls)
     (λ k. once_in k sorted ∙ any_isort (same_labels k) labels_cmp ls ∙ sym (distinct_in k ls))
+
+pub distinct_unrepeated : (ls : List Pairs) → distinct (unrepeated None ls) ≡ distinct ls
+distinct_unrepeated ls =
+    alike (distinct (unrepeated None ls)) (distinct ls) (distinct_ascends (unrepeated None ls)) (distinct_ascends ls)
+    (λ k. distinct_in k (unrepeated None ls) ∙ once_in k ls ∙ sym (distinct_in k ls))
+
+-- what is equal to the one before has its place
+pub again_place : (sets : List Pairs) (o : Option Pairs) (l : Pairs) (n : ℕ) → is_again o l ≡ true → IfSome o (λ m. n ≡ place_in sets m) → n ≡ place_in sets l
+again_place sets None l n h i = cc
+again_place sets (Some m) l n h i = i ∙ ap (place_in sets) (same_is m l h)
 
 pub distinct_rising : (ls : List Pairs) → AreRising (distinct ls)
 distinct_rising ls = rising (distinct ls) (distinct_ascends ls)

@@ -105,16 +105,6 @@ fn keys_of(
     Ok(found)
 }
 
-fn copies_of(alloc: Global, all: &[Labels]) -> Result<Vec<Labels>, OutOfMemory>
-    ensures { IfOk result (λ v. v.items ≡ all.now) }
-{
-    let mut found = Vec::new(alloc);
-    for labels in all {
-        found.push(labels.clone()?)?;
-    }
-    Ok(found)
-}
-
 fn in_order(mut all: Vec<Labels>) -> Result<Vec<Labels>, OutOfMemory>
     ensures { IfOk result (λ v. v.items ≡ isort labels_cmp all.items) }
 {
@@ -133,12 +123,12 @@ fn is_again(last: Option<&Labels>, labels: &Labels) -> bool
 }
 
 /// Label sets without those that are equal to the one before.
-fn unrepeated(alloc: Global, sorted: &[Labels]) -> Result<Vec<Labels>, OutOfMemory>
-    ensures { IfOk result (λ v. v.items ≡ unrepeated None sorted.now) }
+fn unrepeated(alloc: Global, all: &[Labels]) -> Result<Vec<Labels>, OutOfMemory>
+    ensures { IfOk result (λ v. v.items ≡ unrepeated None all.now) }
 {
     let mut found = Vec::new(alloc);
     let mut last: Option<&Labels> = None;
-    for labels in sorted {
+    for labels in all {
         if !is_again(last, labels) {
             found.push(labels.clone()?)?;
         }
@@ -147,12 +137,12 @@ fn unrepeated(alloc: Global, sorted: &[Labels]) -> Result<Vec<Labels>, OutOfMemo
     Ok(found)
 }
 
-/// Label sets, each once, in label order.
+/// Label sets, each once, in label order. Of equal ones in a row one is sorted.
 fn distinct(alloc: Global, all: &[Labels]) -> Result<Vec<Labels>, OutOfMemory>
     ensures { IfOk result (λ v. v.items ≡ distinct all.now) }
 {
-    let copies = copies_of(alloc, all)?;
-    let sorted = in_order(copies)?;
+    let apart = unrepeated(alloc, all)?;
+    let sorted = in_order(apart)?;
     let found = unrepeated(alloc, &sorted)?;
     Ok(found)
 }
@@ -169,15 +159,23 @@ fn place_in(sets: &[Labels], labels: &Labels) -> usize
     }
 }
 
-/// The place of each of some label sets.
+/// The place of each of some label sets. One that is equal to the one before has its place.
 fn places_in(alloc: Global, sets: &[Labels], all: &[Labels]) -> Result<Vec<usize>, OutOfMemory>
     requires rising { AreRising sets.now }
     requires there { All (λ l. list_any (same_labels l) sets.now ≡ true) all.now }
     ensures { IfOk result (λ v. v.items ≡ map (place_in sets.now) all.now) }
 {
-    let mut found = Vec::new(alloc);
+    let mut found = Vec::with_capacity(alloc, all.len())?;
+    let mut last: Option<&Labels> = None;
+    let mut place = 0;
     for labels in all {
-        found.push(place_in(sets, labels))?;
+        place = if is_again(last, labels) {
+            place
+        } else {
+            place_in(sets, labels)
+        };
+        found.push(place)?;
+        last = Some(labels);
     }
     Ok(found)
 }

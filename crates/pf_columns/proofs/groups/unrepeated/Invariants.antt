@@ -5,4 +5,4 @@ use Rattle.pf_columns.proofs.groups.unrepeated.Given as goal
 
 abbrev pub invariant-loop-labels : goal.invariant-loop-labels
 invariant-loop-labels l =
-    l.found.items ++ unrepeated (option_copied l.last) (drop l.labels-index l.sorted) ≡ unrepeated None l.sorted
+    l.found.items ++ unrepeated (option_copied l.last) (drop l.labels-index l.all) ≡ unrepeated None l.all
