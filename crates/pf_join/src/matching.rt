@@ -30,7 +30,11 @@ struct Joined {
 fn others_left(labels: &Labels, names: &[Text]) -> Result<Labels, OutOfMemory>
     ensures { IfOk result (λ l. l ≡ left_out (metric_name ∷ names.now) labels.now) }
 {
-    labels.without_name()?.leave_out(names)
+    let others = labels.without_name()?;
+    if names.is_empty() {
+        return Ok(others);
+    }
+    others.leave_out(names)
 }
 
 /// What has to be equal for two elements to match: the labels of `on`, or all but those of `ignoring` and the metric name.
