@@ -10,7 +10,6 @@ use Rattle.pf_model.specs.declared.cell.ErrorKind.{ErrorKind}
 use Rattle.pf_model.specs.declared.cell.ErrorKind.TheVariants.{DoubleLabels}
 use Rattle.pf_model.specs.declared.cell.StepCell.TheVariants.{Good, Bad}
 use Rattle.pf_model.specs.Cells.{cell_of, element, element_cmp, has_equal, labels_of}
-use Rattle.pf_model.specs.Lists.{joined}
 use Rattle.pf_model.specs.Merging.{below}
 use Rattle.pf_model.specs.Selection.{same_labels}
 use Rattle.pf_model.proofs.KeySets.{same_is, same_self}

@@ -1,7 +1,7 @@
 -- Columns whose label sets rise: their elements at each step are a cell as they stand.
-use Rattle.std.proofs.Common.{◌≡◌, ℕ, ℤ, true, false, Option, Some, None, List, [], ◌∷◌, ◌++◌, sym, refl}
+use Rattle.std.proofs.Common.{◌≡◌, ℕ, ℤ, true, Option, Some, None, List, [], ◌∷◌, ◌++◌, sym, refl}
 use Rattle.std.specs.Cmp.{first_so, second_so}
-use Rattle.std.specs.Ordering.{is_eq, is_gt, is_lt}
+use Rattle.std.specs.Ordering.{is_lt}
 use Rattle.std.specs.declared.cmp.Ordering.{Ordering}
 use Rattle.std.specs.declared.cmp.Ordering.TheVariants.{Less, Equal, Greater}
 use Rattle.pf_base.specs.LabelSets.{Pairs}

@@ -132,7 +132,7 @@ head_name (b ∷ bs) r behind h e = let q : 125 ≡ b = cc in let k : starts_nam
 first_label : List ℕ → List ℕ → List ℕ → List ℕ × List ℕ → Label
 first_label one two three p = record { before = []; name = p.0; before_sign = one; behind_sign = two; value = p.1; behind = three }
 
-pub moved : Label → List ℕ → Label
+unfoldable pub moved : Label → List ℕ → Label
 moved l blanks = record { before = blanks; name = l.name; before_sign = l.before_sign; behind_sign = l.behind_sign; value = l.value; behind = l.behind }
 
 join_found : (bytes : List ℕ) (p : List ℕ × List ℕ) (b2 : List ℕ) (qs : Pairs) (rest : List ℕ) → LabelFound bytes p b2 → BracesFound b2 qs rest → BracesFound bytes (p ∷ qs) rest

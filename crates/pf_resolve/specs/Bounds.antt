@@ -1,5 +1,5 @@
 -- Bounds of the times that stand in a query, so that each time that it reads has a number: this project's own.
-use Rattle.std.specs.Prelude.{ℕ, ◌+◌, ◌*◌, ◌≤◌, ℤ, Bool, true, ◌&&◌, Option, Some, nat_le, unsigned_abs, unwrap_or}
+use Rattle.std.specs.Prelude.{◌+◌, ◌*◌, ◌≤◌, ℤ, Bool, true, ◌&&◌, Option, Some, nat_le, unsigned_abs, unwrap_or}
 use Rattle.pf_base.specs.Limits.{greatest_time}
 use Rattle.pf_model.specs.declared.expr.At.{At}
 use Rattle.pf_model.specs.declared.expr.At.TheVariants as at

@@ -1,11 +1,11 @@
 -- What is known of the groups of columns, found once by the places of their keys, is at each step what is known of the groups of
 -- its elements.
-use Rattle.std.proofs.Common.{◌≡◌, ◌+◌, ◌<◌, ◌≤◌, ℕ, zero, suc, ℤ, Bool, true, false, cond, nat_eq, Option, Some, None, List, [], ◌∷◌, ◌++◌, map, length, take, get_or, refl, sym, ap, ◌∙◌, subst, append-nil, arith}
+use Rattle.std.proofs.Common.{◌≡◌, ◌+◌, ◌<◌, ℕ, zero, suc, ℤ, Bool, true, false, cond, nat_eq, Option, Some, None, List, [], ◌∷◌, ◌++◌, map, length, take, get_or, refl, sym, ap, ◌∙◌, subst, append-nil, arith}
 use Rattle.std.specs.List.{filter}
 use Rattle.std.specs.Prelude.{slice_set}
 use Rattle.std.proofs.lemmas.Bool.Decides.{nat_tests}
 use Rattle.std.proofs.lemmas.Grind.{take_at_read}
-use Rattle.std.proofs.lemmas.List.{get_or-set_same, get_or-set_other, length-set, length-map, map-id}
+use Rattle.std.proofs.lemmas.List.{get_or-set_same, get_or-set_other, length-set, map-id}
 use Rattle.pf_base.specs.declared.plain.Partial.{Partial}
 use Rattle.pf_base.specs.LabelSets.{Pairs}
 use Rattle.pf_model.specs.declared.cell.Element.{Element}
@@ -25,7 +25,7 @@ use Rattle.pf_columns.proofs.GroupColumns.{below_alike, those_members, those_sno
 use Rattle.pf_columns.proofs.GroupKeys.{distinct_rising, each_stands}
 use Rattle.pf_columns.proofs.GroupedCells.{keys_at, of_key, picked}
 use Rattle.pf_columns.proofs.Occurring.{is_full}
-use Rattle.pf_shard.specs.Groups.{AreWithin, GroupColumnData, IsWithin, group, group_columns, groups_in, groups_unless, keys_in, known_of, known_over, partial_in, with_keys, with_values}
+use Rattle.pf_shard.specs.Groups.{AreWithin, GroupColumnData, IsWithin, group, group_columns, groups_in, groups_unless, keys_in, known_of, known_over, with_keys, with_values}
 use Rattle.pf_shard.proofs.KnownValues.{known_further, each_snoc}
 
 -- ---- a place that is set

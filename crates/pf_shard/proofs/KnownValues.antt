@@ -1,9 +1,9 @@
 -- What is known of values, put together value by value, and that it stays within its bounds.
-use Rattle.std.proofs.Common.{◌≡◌, ◌⊎◌, inl, inr, ◌+◌, ◌*◌, ◌<◌, ◌≤◌, ℕ, zero, suc, ℤ, pos, ◌+ℤ◌, min, Option, Some, None, List, [], ◌∷◌, ◌++◌, length, map, take, drop, get_or, refl, sym, ap, ◌∙◌, subst, append-nil, append_assoc, FitsSigned, to_z, of_z, w64, arith}
+use Rattle.std.proofs.Common.{◌≡◌, ◌⊎◌, inl, inr, ◌+◌, ◌<◌, ◌≤◌, ℕ, zero, suc, ℤ, pos, ◌+ℤ◌, min, Option, Some, None, List, [], ◌∷◌, ◌++◌, length, map, take, drop, get_or, refl, sym, ap, ◌∙◌, subst, append-nil, append_assoc, to_z, of_z, w64, arith}
 use Rattle.std.specs.Prelude.{slice_set, unsigned_abs}
 use Rattle.std.specs.Int.{int_min, int_max, w128}
-use Rattle.std.proofs.lemmas.Int.{ints, fits_signed_from_abs, to_z-of_z}
-use Rattle.std.proofs.lemmas.List.{drop_all, drop_more, drop-set, drop-set-lt, length-set, map-append, take_all, take_more_set}
+use Rattle.std.proofs.lemmas.Int.{ints, fits_signed_from_abs}
+use Rattle.std.proofs.lemmas.List.{drop_all, drop_more, drop-set, drop-set-lt, length-set, map-append, take_more_set}
 use Rattle.pf_base.specs.declared.plain.Partial.{Partial}
 use Rattle.pf_base.specs.Arithmetic.{IsValue}
 use Rattle.pf_base.specs.LabelSets.{Pairs}

@@ -10,7 +10,7 @@ use Rattle.std.proofs.lemmas.List.Elements.{filter-append}
 use Rattle.pf_base.specs.declared.plain.Partial.{Partial}
 use Rattle.pf_base.specs.LabelSets.{Pairs}
 use Rattle.pf_base.specs.LabelOrder.{labels_cmp, labels_exact, labels_total}
-use Rattle.pf_model.specs.Cells.{distinct, placed, put}
+use Rattle.pf_model.specs.Cells.{distinct, placed}
 use Rattle.pf_model.specs.Legs.{GroupPart}
 use Rattle.pf_model.specs.Merging.{merged, merged_groups}
 use Rattle.pf_model.specs.Selection.{same_labels}

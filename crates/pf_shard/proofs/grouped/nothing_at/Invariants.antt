@@ -1,5 +1,4 @@
 use Rattle.std.proofs.Common.{◌≡◌, []}
-use Rattle.pf_model.specs.Merging.{below}
 use Rattle.pf_shard.specs.Groups.{known_over}
 use Rattle.pf_shard.proofs.grouped.nothing_at.Given as goal
 

@@ -1,5 +1,5 @@
 use Rattle.std.proofs.Common.{◌≡◌, true, false, None, length, nat_lt, ap, subst, sym, ◌∙◌}
-use Rattle.std.specs.Prelude.{Some, option_map, slice_index_or}
+use Rattle.std.specs.Prelude.{option_map, slice_index_or}
 use Rattle.pf_extent.specs.Steps.{AreApart, ended, extent_at, known_of}
 use Rattle.pf_extent.proofs.Places.{found_in, known_is, lawful_at, missing_in}
 use Rattle.pf_extent.proofs.list.List.at.Goals as goal

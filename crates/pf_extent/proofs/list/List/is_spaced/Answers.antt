@@ -1,5 +1,5 @@
-use Rattle.std.proofs.Common.{◌≡◌, List, subst, ap, ◌∙◌}
-use Rattle.std.specs.Prelude.{◌↔◌, IsTrue, Some, nat_eq, slice_get}
+use Rattle.std.proofs.Common.{List, subst, ap, ◌∙◌}
+use Rattle.std.specs.Prelude.{◌↔◌, IsTrue, nat_eq, slice_get}
 use Rattle.pf_extent.specs.Steps.{AreSpaced}
 use Rattle.pf_extent.specs.declared.extent.Extent.{Extent}
 use Rattle.pf_extent.proofs.ApartLists.{spaced_as_first}
