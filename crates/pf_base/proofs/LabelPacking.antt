@@ -7,8 +7,9 @@ use Rattle.std.specs.List.{All}
 use Rattle.std.specs.Str.{IsUtf8, IsCharBoundary}
 use Rattle.std.proofs.lemmas.Bool.Decides.{Decides-eqb}
 use Rattle.std.proofs.lemmas.List.{take_at, drop_at, append-nil}
-use Rattle.std.proofs.lemmas.List.Elements.{All-push, All-weaker}
+use Rattle.std.proofs.lemmas.List.Elements.{All-push, All-weaker, filter-append}
 use Rattle.std.proofs.lemmas.Str.{IsCharBoundary-end, IsCharBoundary-start}
+use Rattle.pf_base.specs.LabelChanges.{is_other, metric_name, others}
 use Rattle.pf_base.specs.LabelSets.{Pairs, name_at, value_at}
 use Rattle.pf_base.specs.LabelOrder.{labels_eq, labels_decides}
 use Rattle.pf_base.specs.LabelPacking.{pairs_after, pairs_in, joined, ends_after, bounds_of, IsPacked}
@@ -72,9 +73,15 @@ ends_push (p ∷ ps) q start middle end e f =
     ap (λ l. (start + length p.0) ∷ (start + length p.0 + length p.1) ∷ l)
     (ends_push ps q (start + length p.0 + length p.1) middle end (omega (arith, e, k)) f)
 
-labels_onto_push : (ps : Pairs) (q : List ℕ × List ℕ) (h : ℕ) → labels_onto h (ps ++ q ∷ []) ≡ hash_onto (labels_onto h ps) (label_bytes q)
-labels_onto_push [] q h = refl
-labels_onto_push (p ∷ ps) q h = labels_onto_push ps q (hash_onto h (label_bytes p))
+labels_onto_more : (ps qs : Pairs) (h : ℕ) → labels_onto h (ps ++ qs) ≡ labels_onto (labels_onto h ps) qs
+labels_onto_more [] qs h = refl
+labels_onto_more (p ∷ ps) qs h = labels_onto_more ps qs (hash_onto h (label_bytes p))
+
+hash_push : (ps : Pairs) (q : List ℕ × List ℕ) (h : ℕ)
+    → labels_onto h (others metric_name (ps ++ q ∷ [])) ≡ labels_onto (labels_onto h (others metric_name ps)) (others metric_name (q ∷ []))
+hash_push ps q h =
+    ap (labels_onto h) (filter-append (is_other metric_name) ps (q ∷ []))
+    ∙ labels_onto_more (others metric_name ps) (others metric_name (q ∷ [])) h
 
 -- where a text may be cut, it may be cut where more follows too
 cut_before : (text more : List ℕ) (k : ℕ) → IsUtf8 more → IsCharBoundary text k → IsCharBoundary (text ++ more) k
@@ -98,7 +105,7 @@ length_bounds ps = let t = length_ends ps 0 in omega (arith, t)
 
 pub one_more : (ps : Pairs) (text bounds name value named valued parted ended : List ℕ) (hash middle end next : ℕ) → IsPacked ps text bounds hash → IsUtf8 name → IsUtf8 value
     → named ≡ text ++ name → middle ≡ length named → valued ≡ named ++ value → end ≡ length valued → length bounds < 2 ^ 32
-    → parted ≡ bounds ++ middle ∷ [] → ended ≡ parted ++ end ∷ [] → next ≡ hash_onto hash (label_bytes (name, value))
+    → parted ≡ bounds ++ middle ∷ [] → ended ≡ parted ++ end ∷ [] → next ≡ labels_onto hash (others metric_name ((name, value) ∷ []))
     → IsPacked (ps ++ (name, value) ∷ []) valued ended next
 one_more ps text bounds name value named valued parted ended hash middle end next h u v e m f n few' p q g =
     let q0 : List ℕ × List ℕ = (name, value) in
@@ -115,7 +122,7 @@ one_more ps text bounds name value named valued parted ended hash middle end nex
           (subst (λ l. All (IsCharBoundary l) parted) (sym e)
           (subst (All (IsCharBoundary (text ++ name))) (sym p) (cuts_push text name bounds middle u h.cuts (m ∙ ap length e))))
           (n ∙ ap length f)));
-      hashed = g ∙ ap (λ k. hash_onto k (label_bytes q0)) h.hashed ∙ sym (labels_onto_push ps q0 (labels_onto 14695981039346656037 []));
+      hashed = g ∙ ap (λ k. labels_onto k (others metric_name (q0 ∷ []))) h.hashed ∙ sym (hash_push ps q0 (labels_onto 14695981039346656037 []));
       few = let l = length-append ps (q0 ∷ []) in omega (arith, l);
     }
 
@@ -235,7 +242,7 @@ module _ (ps qs vs ws : Pairs) (t u b d : List ℕ) (h k : ℕ) (m : IsPacked vs
   equal g = e ∙ (labels_decides ps qs).0 g ∙ sym f
 
   pub hashes_apart : (h ≡ k → ⊥) → false ≡ labels_eq ps qs
-  hashes_apart g = sym (untrue (labels_eq ps qs) (λ l. g (m.hashed ∙ ap labels_hash (equal l) ∙ sym n.hashed)))
+  hashes_apart g = sym (untrue (labels_eq ps qs) (λ l. g (m.hashed ∙ ap (λ ls. labels_hash (others metric_name ls)) (equal l) ∙ sym n.hashed)))
 
   pub bounds_apart : pointwise nat_eq b d ≡ false → false ≡ labels_eq ps qs
   bounds_apart g = sym (untrue (labels_eq ps qs) (λ l.

@@ -3,6 +3,7 @@
 use Rattle.std.specs.Prelude.{◌≡◌, ℕ, ◌+◌, ◌<◌, ◌^◌, List, [], ◌∷◌, ◌++◌, length, slice_range}
 use Rattle.std.specs.List.{All}
 use Rattle.std.specs.Str.{IsCharBoundary}
+use Rattle.pf_base.specs.LabelChanges.{metric_name, others}
 use Rattle.pf_base.specs.LabelSets.{Pairs}
 use Rattle.pf_base.specs.ShardHash.{labels_hash}
 
@@ -30,10 +31,11 @@ ends_after start (p ∷ ps) =
 abbrev pub bounds_of : Pairs → List ℕ
 bounds_of ps = 0 ∷ ends_after 0 ps
 
--- these pairs, packed: their text, its bounds, at each of which a character begins or the text ends, and their hash
+-- these pairs, packed: their text, its bounds, at each of which a character begins or the text ends, and the hash
+-- of all but the metric name's
 pub record IsPacked (ps : Pairs) (text bounds : List ℕ) (hash : ℕ) : Type 0 where
   pub text_is : text ≡ joined ps
   pub bounds_are : bounds ≡ bounds_of ps
   pub cuts : All (IsCharBoundary text) bounds
-  pub hashed : hash ≡ labels_hash ps
+  pub hashed : hash ≡ labels_hash (others metric_name ps)
   pub few : length ps < 2 ^ 32

@@ -214,6 +214,21 @@ below_parted id rs h i j d l m q = parted_by (λ r. nat_lt r.0 id) (λ a b x y z
 pub begun_parted : (place : ℕ) (rs : Runs) → are_apart rs ≡ true → IsPartitionedBy (λ r. nat_le r.1 place) rs
 begun_parted place rs h i j d l m q = parted_by (λ r. nat_le r.1 place) (λ a b x y z. let w = le_of b.1 place z in is_le a.1 place (omega (arith, y, w))) rs h i j d l m q
 
+pub is_id : (i j : ℕ) → nat_eq i j ≡ true → i ≡ j
+is_id i j h = grind (arith, nat_tests)
+
+-- where a run is of an id, those before it are the runs of ids below
+pub below_at : (id : ℕ) (rs : Runs) (k : ℕ) (d : Run) → are_apart rs ≡ true → k < length rs → (get_or rs k d).0 ≡ id → k ≡ count_by (λ r. nat_lt r.0 id) rs
+below_at id [] k d h l e = absurd (omega (arith, l))
+below_at id (r ∷ rs) zero d h l e = sym (ap (λ b. cond b (suc (count_by (λ x. nat_lt x.0 id) rs)) 0) (not_lt r.0 id (omega (arith, e))))
+below_at id (r ∷ rs) (suc k) d h l e =
+    let before = (after_all r rs k d h (omega (arith, l))).0 in
+    let rest : k ≡ count_by (λ x. nat_lt x.0 id) rs = below_at id rs k d (behind_apart r rs h) (omega (arith, l)) e in
+    sym (
+    ap (λ b. cond b (suc (count_by (λ x. nat_lt x.0 id) rs)) 0) (is_lt r.0 id (omega (arith, before, e)))
+    ∙ ap suc (sym rest)
+    )
+
 pub count_is : (p : Run → Bool) (rs : Runs) (n : ℕ) → n ≤ length rs → AllWithin (λ r. p r ≡ true) rs 0 n → AllWithin (λ r. p r ≡ false) rs n (length rs) → n ≡ count_by p rs
 count_is p [] n l f g = omega arith
 count_is p (x ∷ xs) zero l f g = let e : p x ≡ false = g 0 x (omega arith) (omega arith) in sym (ap (λ b. cond b (suc (count_by p xs)) 0) e)

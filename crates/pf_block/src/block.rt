@@ -36,12 +36,34 @@ impl Model for Block {
     ghost invariant = { λ b. (are_runs b.runs.items (length b.samples.items) ≡ true) × (ascends (laid b.runs.items b.samples.items) ≡ true) };
 }
 
-/// The number of runs of ids below one.
+/// Whether a run is of an id.
+#[tactic(auto, using(crate::proofs::Runs::below_at))]
+fn is_of(runs: &[Run], run: usize, id: u32) -> bool
+    requires { are_apart runs.now ≡ true }
+    ensures within { result ≡ true → run ≤ length runs.now }
+    ensures value { result ≡ true → run ≡ count_by (λ r. nat_lt r.0 id) runs.now }
+{
+    if run >= runs.len() {
+        return false;
+    }
+    runs[run].0 == id
+}
+
+/// The number of runs of ids below one. Where ids follow one another, it is as far from the first as the id is, and is looked
+/// for there before it is found by halves.
 fn count_below(runs: &[Run], id: u32) -> usize
     requires { are_apart runs.now ≡ true }
     ensures within { result ≤ length runs.now }
     ensures value { result ≡ count_by (λ r. nat_lt r.0 id) runs.now }
 {
+    let first = match runs.first() {
+        Some(run) => run.0,
+        None => 0,
+    };
+    let near = id.saturating_sub(first) as usize;
+    if is_of(runs, near, id) {
+        return near;
+    }
     runs.partition_point(|r| r.0 < id)
 }
 

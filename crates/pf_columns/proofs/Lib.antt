@@ -10,7 +10,6 @@ pub mod Below
 pub mod SortedColumns
 pub mod Fusing
 pub mod GroupKeys
-pub mod KeptLabels
 pub mod GroupedCells
 pub mod GroupColumns
 pub mod Sums

@@ -99,7 +99,7 @@ fn put_column<'a>(
 fn empty_buckets<'a>(alloc: Global, count: usize) -> Result<Vec<Vec<&'a Column>>, OutOfMemory>
     ensures { IfOk result (λ v. map (λ b. map (λ c. c.now) b.items) v.items ≡ below (λ g. []) count) }
 {
-    let mut found = Vec::new(alloc);
+    let mut found = Vec::with_capacity(alloc, count)?;
     for _ in 0..count {
         found.push(Vec::new(alloc))?;
     }
@@ -150,7 +150,7 @@ fn op_values(
 ) -> Result<Vec<Option<Value>>, OutOfMemory>
     ensures { IfOk result (λ v. v.items ≡ below (λ k. found_of (group_value op) (values_of (cell_at (map (λ c. c.now) columns.now) k))) len) }
 {
-    let mut found = Vec::new(alloc);
+    let mut found = Vec::with_capacity(alloc, len as usize)?;
     let mut values = Vec::new(alloc);
     for i in 0..len {
         values = values_at(values, columns, i)?;
@@ -182,7 +182,7 @@ fn quantile_values(
 ) -> Result<Vec<Option<Value>>, OutOfMemory>
     ensures { IfOk result (λ v. v.items ≡ below (λ k. quantile_of (value_in params.now k) (values_of (cell_at (map (λ c. c.now) columns.now) k))) len) }
 {
-    let mut found = Vec::new(alloc);
+    let mut found = Vec::with_capacity(alloc, len as usize)?;
     for i in 0..len {
         let values = values_at(Vec::new(alloc), columns, i)?;
         found.push(quantile_of(value_of(params, i), values)?)?;
@@ -216,7 +216,7 @@ fn columns_of_buckets(
     requires { length buckets.now ≡ length keys.now }
     ensures { IfOk result (λ v. v.items ≡ bucket_columns (found_at function.now) (map (λ b. map (λ c. c.now) b.items) buckets.now) len keys.now) }
 {
-    let mut found = Vec::new(alloc);
+    let mut found = Vec::with_capacity(alloc, keys.len())?;
     for i in 0..keys.len() {
         found.push(Column {
             labels: keys[i].clone()?,

@@ -3,7 +3,6 @@
 ghost use Rattle.std.specs.Prelude.{◌≡◌, true, map, None, IfOk};
 ghost use Rattle.std.specs.List.{All, list_any};
 ghost use Rattle.std.specs.Option.{option_copied};
-ghost use Rattle.pf_base.specs.LabelChanges.{kept, stands_in};
 ghost use Rattle.pf_base.specs.LabelOrder.{labels_cmp};
 ghost use Rattle.pf_base.specs.Sorting.{isort};
 ghost use Rattle.pf_model.specs.Aggregation.{group_key};
@@ -14,7 +13,7 @@ ghost use Rattle.pf_columns.specs.Groups.{groups_by, is_again, place_in, unrepea
 ghost use Rattle.pf_columns.specs.Steps.{rise_above};
 
 use crate::column::Column;
-use pf_base::{Labels, OutOfMemory, Text};
+use pf_base::{Labels, OutOfMemory};
 use pf_model::Grouping;
 use std::alloc::Global;
 use std::cmp::Ordering;
@@ -35,56 +34,41 @@ impl Model for GroupIds {
     ghost view = { λ g. record { keys = g.keys.items; of = g.of.items } };
 }
 
-/// Whether a name is one of some.
-fn is_one_of(name: &str, names: &[Text]) -> bool
-    ensures { result ≡ stands_in names.now name.now }
-{
-    names.iter().any(|one| one.as_str() == name)
-}
-
-/// Whether the names of a label set are all among some.
-#[tactic(auto, using(crate::proofs::KeptLabels::all_kept))]
-fn has_no_other(labels: &Labels, names: &[Text]) -> bool
-    ensures { result ≡ true → kept names.now labels.now ≡ labels.now }
-{
-    for i in 0..labels.count() {
-        if !is_one_of(labels.name(i), names) {
-            return false;
-        }
-    }
-    true
-}
-
-/// The labels of some names. Where there are no others, nothing is copied.
-fn kept(labels: &Labels, names: &[Text]) -> Result<Labels, OutOfMemory>
-    ensures { IfOk result (λ l. l ≡ kept names.now labels.now) }
-{
-    if has_no_other(labels, names) {
-        return Ok(labels.clone()?);
-    }
-    labels.keep(names)
-}
-
 /// The labels that `by` keeps, or that `without` leaves.
-#[tactic(auto, using(pf_model::proofs::WithoutName::left_without_name))]
 fn group_key(grouping: &Grouping, labels: &Labels) -> Result<Labels, OutOfMemory>
     ensures { IfOk result (λ l. l ≡ group_key grouping.now.without grouping.now.labels labels.now) }
 {
     if grouping.without {
-        labels.without_name()?.leave_out(&grouping.labels)
+        labels.leave_out_with_name(&grouping.labels)
     } else {
-        kept(labels, &grouping.labels)
+        labels.keep(&grouping.labels)
     }
 }
 
-/// A key, which is shared with the last one where that is equal, so that few lie in memory where many columns have one key.
+/// Whether these are the labels that `by` keeps, or that `without` leaves.
 #[tactic(auto, using(pf_base::specs::LabelOrder::labels_decides))]
-fn shared_with(last: Option<&Labels>, key: Labels) -> Result<Labels, OutOfMemory>
-    ensures { IfOk result (λ l. l ≡ key) }
+fn has_key(grouping: &Grouping, labels: &Labels, key: &Labels) -> bool
+    ensures { result ≡ true → key.now ≡ group_key grouping.now.without grouping.now.labels labels.now }
+{
+    if grouping.without {
+        labels.leaves(&grouping.labels, key)
+    } else {
+        labels.keeps(&grouping.labels, key)
+    }
+}
+
+/// The key of a column. Where it is that of the column before, it is shared, so that few lie in memory where many columns have
+/// one key.
+fn key_behind(
+    last: Option<&Labels>,
+    grouping: &Grouping,
+    labels: &Labels,
+) -> Result<Labels, OutOfMemory>
+    ensures { IfOk result (λ l. l ≡ group_key grouping.now.without grouping.now.labels labels.now) }
 {
     match last {
-        Some(last) if *last == key => Ok(last.clone()?),
-        _ => Ok(key),
+        Some(last) if has_key(grouping, labels, last) => Ok(last.clone()?),
+        _ => group_key(grouping, labels),
     }
 }
 
@@ -98,8 +82,7 @@ fn keys_of(
 {
     let mut found = Vec::with_capacity(alloc, columns.len())?;
     for column in columns {
-        let key = group_key(grouping, &column.labels)?;
-        let key = shared_with(found.last(), key)?;
+        let key = key_behind(found.last(), grouping, &column.labels)?;
         found.push(key)?;
     }
     Ok(found)

@@ -69,7 +69,7 @@ fn put_place(buckets: &mut Vec<Vec<usize>>, group: usize, place: usize) -> Resul
 fn empty_buckets(alloc: Global, count: usize) -> Result<Vec<Vec<usize>>, OutOfMemory>
     ensures { IfOk result (λ v. map (λ b. b.items) v.items ≡ below (λ g. []) count) }
 {
-    let mut found = Vec::new(alloc);
+    let mut found = Vec::with_capacity(alloc, count)?;
     for _ in 0..count {
         found.push(Vec::new(alloc))?;
     }
@@ -228,7 +228,7 @@ fn kept_columns(
 ) -> Result<Vec<Column>, OutOfMemory>
     ensures { IfOk result (λ v. v.items ≡ kept_columns (map (λ r. r.items) rows.now) 0 columns.items) }
 {
-    let mut found = Vec::new(alloc);
+    let mut found = Vec::with_capacity(alloc, columns.len())?;
     for column in columns {
         let values = kept_values(rows, found.len(), column.values);
         found.push(Column {

@@ -129,7 +129,7 @@ fn merged(
 ) -> Result<Vec<Option<Value>>, OutOfMemory>
     ensures { IfOk result (λ v. v.items ≡ below (λ k. either (value_in a.now k) (value_in b.now k)) len) }
 {
-    let mut found = Vec::new(alloc);
+    let mut found = Vec::with_capacity(alloc, len as usize)?;
     for i in 0..len {
         found.push(either(value_of(a, i), value_of(b, i)))?;
     }
@@ -158,7 +158,7 @@ fn clashes(
 ) -> Result<Vec<Option<ErrorKind>>, OutOfMemory>
     ensures { IfOk result (λ v. v.items ≡ below (λ k. clash (bad_in bads.now k) (value_in a.now k) (value_in b.now k)) len) }
 {
-    let mut found = Vec::new(alloc);
+    let mut found = Vec::with_capacity(alloc, len as usize)?;
     for i in 0..len {
         found.push(clash(bad_of(bads, i), value_of(a, i), value_of(b, i)))?;
     }

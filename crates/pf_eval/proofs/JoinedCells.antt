@@ -1,6 +1,6 @@
 -- An operator between two vectors, from columns: the pairs of columns are the pairs of each step, and where the columns' labels
 -- are single no error of matching comes.
-use Rattle.std.proofs.Common.{◌≡◌, ◌<◌, ℕ, ℤ, Bool, true, false, cond, not, ◌&&◌, ◌||◌, Option, Some, None, List, [], ◌∷◌, ◌++◌, map, refl, sym, ap, ◌∙◌, append_assoc}
+use Rattle.std.proofs.Common.{◌≡◌, ◌<◌, ◌+◌, ℕ, ℤ, Bool, true, false, cond, not, ◌&&◌, ◌||◌, Option, Some, None, List, [], ◌∷◌, ◌++◌, map, refl, sym, ap, ◌∙◌}
 use Rattle.std.specs.List.{filter, list_any}
 use Rattle.std.proofs.lemmas.List.{map-append}
 use Rattle.pf_base.specs.LabelSets.{Pairs}
@@ -25,10 +25,11 @@ use Rattle.pf_columns.specs.Columns.{ColumnData, cell_at, columns_labels, value_
 use Rattle.pf_columns.specs.Steps.{unless_bad}
 use Rattle.pf_columns.proofs.Below.{in_below}
 use Rattle.pf_eval.specs.Nodes.{first_of}
-use Rattle.pf_join.specs.KeyPlaces.{place_cmp, placed, places_with, those_at}
+use Rattle.pf_join.specs.KeyPlaces.{key_of, place_cmp, placed, places_with, those_at}
 use Rattle.pf_join.specs.Results.{labels_of_pair}
 use Rattle.pf_join.proofs.OfOneKey.{those_found}
-use Rattle.pf_eval.specs.Zipped.{are_single, are_there, between, both, column_keys, is_set_sign, is_there, is_wanted, kept_if, kind_of, met, one_columns, pair_by, partners, set_columns, zipped, zipped_by, zipped_with}
+use Rattle.pf_join.proofs.Repeats.{equal_isort}
+use Rattle.pf_eval.specs.Zipped.{are_apart, are_single, are_there, between, both, column_keys, is_set_sign, is_there, is_wanted, kept_if, kind_of, met, pair_by, partners, set_columns, zipped, zipped_by, zipped_with}
 use Rattle.pf_columns.proofs.JoinedRuns.{joined_append}
 use Rattle.pf_join.proofs.Results.{same_labels_at as labels_at}
 
@@ -41,6 +42,20 @@ labels_same m p = labels_at m.side m p
 -- the partners of a key, found by the places of the keys of all columns
 pub partners_found : (m : Matched) (key : Pairs) (cs : List ColumnData) → those_at cs (places_with key (isort place_cmp (placed 0 (column_keys m cs)))) ≡ partners m key cs
 partners_found m key cs = those_found (λ c. matching_key m c.labels) key cs
+
+-- keys that are put in order with their places have equal ones where they have some
+keys_placed : (i : ℕ) (ks : List Pairs) → map key_of (placed i ks) ≡ ks
+keys_placed i [] = refl
+keys_placed i (k ∷ ks) = ap (λ l. k ∷ l) (keys_placed (i + 1) ks)
+
+equal_placed : (ks : List Pairs) → has_equal (map key_of (isort place_cmp (placed 0 ks))) ≡ has_equal ks
+equal_placed ks = equal_isort key_of (placed 0 ks) ∙ ap has_equal (keys_placed 0 ks)
+
+pub apart_placed : (s : Side) (left_keys right_keys labels : List Pairs)
+    → are_apart s left_keys (map key_of (isort place_cmp (placed 0 right_keys))) labels ≡ are_apart s left_keys right_keys labels
+apart_placed side.One left_keys right_keys labels = ap (λ b. not b && not (has_equal left_keys)) (equal_placed right_keys)
+apart_placed side.Left left_keys right_keys labels = ap (λ b. not b && not (has_equal labels)) (equal_placed right_keys)
+apart_placed side.Right left_keys right_keys labels = refl
 
 module _ (f : ℤ → ℤ → Option ℤ) (op : BinaryOp) (m : Matched) (n k : ℕ) (h : k < n) where
   abbrev pub result : Pair → List Element
@@ -203,8 +218,7 @@ module _ (op : BinaryOp) (m : Matched) (n k : ℕ) (h : k < n) where
       × ((is_grouping s && has_equal (map pair_label (pairs_of m (cell_at ls k) (cell_at rs k)))) ≡ false)
 
   no_error : (s : Side) (ls rs : List ColumnData)
-      → (not (has_equal (column_keys m (one_columns s ls rs))) && not (cond (is_grouping s) (has_equal (columns_labels (zipped op m n ls rs))) (has_equal (column_keys m ls)))) ≡ true
-      → NoError s ls rs
+      → are_apart s (column_keys m ls) (column_keys m rs) (columns_labels (zipped op m n ls rs)) ≡ true → NoError s ls rs
   no_error side.One ls rs e =
       let t = two_nots (has_equal (column_keys m rs)) (has_equal (column_keys m ls)) e in
       (once_cell (matching_key m) k rs t.0, once_part (matching_key m) k (has_match m (cell_at rs k)) (cell_at ls k) (once_cell (matching_key m) k ls t.1), refl)

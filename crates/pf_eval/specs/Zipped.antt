@@ -1,6 +1,6 @@
 -- The columns of an operator between two vectors: those of pairs of columns that match, and those of columns with or without
 -- a match. Prometheus, Operators: Vector matching. That they are made of columns is this project's own.
-use Rattle.std.specs.Prelude.{ℕ, ℤ, Bool, true, false, not, ◌&&◌, ◌||◌, Option, Some, None, cond, List, [], ◌∷◌, ◌++◌, map, filter}
+use Rattle.std.specs.Prelude.{ℕ, ℤ, Bool, true, false, not, ◌&&◌, ◌||◌, Option, Some, None, List, [], ◌∷◌, ◌++◌, map, filter}
 use Rattle.pf_base.specs.LabelSets.{Pairs}
 use Rattle.pf_model.specs.declared.cell.ErrorKind.{ErrorKind}
 use Rattle.pf_model.specs.declared.expr.BinaryOp.{BinaryOp}
@@ -11,7 +11,7 @@ use Rattle.pf_model.specs.declared.functions.Sign.TheVariants.{And, Or, Unless}
 use Rattle.pf_model.specs.Cells.{has_equal}
 use Rattle.pf_model.specs.Clauses.{Matched}
 use Rattle.pf_model.specs.Lists.{joined}
-use Rattle.pf_model.specs.Matching.{is_grouping, matching_key, operated, result_labels}
+use Rattle.pf_model.specs.Matching.{matching_key, operated, result_labels}
 use Rattle.pf_model.specs.Merging.{below}
 use Rattle.pf_model.specs.Outcomes.{Outcome, bad}
 use Rattle.pf_model.specs.Selection.{same_labels}
@@ -50,18 +50,14 @@ zipped_by f op m n ls rs = joined (zipped_with f op m n rs) ls
 abbrev pub zipped : BinaryOp → Matched → ℕ → List ColumnData → List ColumnData → List ColumnData
 zipped op m n ls rs = zipped_by (between op) op m n ls rs
 
--- the columns of the one side
-abbrev pub one_columns : Side → List ColumnData → List ColumnData → List ColumnData
-one_columns side.One ls rs = rs
-one_columns side.Left ls rs = rs
-one_columns side.Right ls rs = ls
+-- no two keys of the one side are equal, nor two of the other; where that is the many side, no two results have equal labels
+abbrev pub are_apart : Side → (left_keys right_keys labels : List Pairs) → Bool
+are_apart side.One left_keys right_keys labels = not (has_equal right_keys) && not (has_equal left_keys)
+are_apart side.Left left_keys right_keys labels = not (has_equal right_keys) && not (has_equal labels)
+are_apart side.Right left_keys right_keys labels = not (has_equal left_keys) && not (has_equal labels)
 
--- no two columns of the one side have equal keys, nor two of the other; where it is the many side, no two results have
--- equal labels
 abbrev pub are_single : Matched → List ColumnData → List ColumnData → List ColumnData → Bool
-are_single m ls rs pairs =
-    not (has_equal (column_keys m (one_columns m.side ls rs)))
-    && not (cond (is_grouping m.side) (has_equal (columns_labels pairs)) (has_equal (column_keys m ls)))
+are_single m ls rs pairs = are_apart m.side (column_keys m ls) (column_keys m rs) (columns_labels pairs)
 
 abbrev pub is_set_sign : Sign → Bool
 is_set_sign And = true

@@ -55,7 +55,7 @@ fn changed_values(
 ) -> Result<Vec<Option<Value>>, OutOfMemory>
     ensures { IfOk result (λ v. v.items ≡ below (λ k. onto (value_in values.now k) (applied change (value_in scalars.now k))) len) }
 {
-    let mut found = Vec::new(alloc);
+    let mut found = Vec::with_capacity(alloc, len as usize)?;
     for i in 0..len {
         let value = match value_of(values, i) {
             Some(value) => applied(change, value_of(scalars, i), value),
@@ -75,7 +75,7 @@ fn changed_columns(
 ) -> Result<Vec<Column>, OutOfMemory>
     ensures { IfOk result (λ v. v.items ≡ map (changed (labelled change) (λ k. applied change (value_in scalars.now k)) len) columns.now) }
 {
-    let mut found = Vec::new(alloc);
+    let mut found = Vec::with_capacity(alloc, columns.len())?;
     for column in columns {
         found.push(Column {
             labels: labelled(change, &column.labels)?,
@@ -161,7 +161,7 @@ pub(crate) fn operated_scalars(
 ) -> Result<Vec<Option<Value>>, OutOfMemory>
     ensures { IfOk result (λ v. v.items ≡ below (λ k. of_scalars op (value_in lefts.now k) (value_in rights.now k)) len) }
 {
-    let mut found = Vec::new(alloc);
+    let mut found = Vec::with_capacity(alloc, len as usize)?;
     for i in 0..len {
         found.push(of_scalars(op, value_of(lefts, i), value_of(rights, i)))?;
     }

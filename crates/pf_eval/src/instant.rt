@@ -190,7 +190,7 @@ fn changed_columns(
 ) -> Result<Vec<Column>, OutOfMemory>
     ensures { IfOk result (λ v. (k : ℕ) → cell_at v.items k ≡ each_value (changed (change_at changes.now k)) (cell_at columns.items k)) }
 {
-    let mut found = Vec::new(alloc);
+    let mut found = Vec::with_capacity(alloc, columns.len())?;
     let rest = columns.into_iter();
     for column in rest {
         found.push(changed_column(changes, column)?)?;
@@ -388,7 +388,7 @@ fn relabelled_columns(
 ) -> Result<Vec<Column>, OutOfMemory>
     ensures { IfOk result (λ v. (k : ℕ) → cell_at v.items k ≡ map (λ e. record { labels = relabels relabelling.entry e.labels; value = e.value }) (cell_at columns.items k)) }
 {
-    let mut found = Vec::new(alloc);
+    let mut found = Vec::with_capacity(alloc, columns.len())?;
     let rest = columns.into_iter();
     for column in rest {
         found.push(Column {

@@ -33,7 +33,7 @@ pub(crate) fn number(alloc: Global, value: Value, len: u32) -> Result<Node, OutO
     ensures value { IfOk result (λ n. (k : ℕ) → k < len → node_at n k ≡ scalar (Some value)) }
     ensures kind { IfOk result (λ n. is_text n ≡ false) }
 {
-    let mut values = Vec::new(alloc);
+    let mut values = Vec::with_capacity(alloc, len as usize)?;
     for _ in 0..len {
         values.push(Some(value))?;
     }

@@ -5,13 +5,15 @@ ghost use Rattle.std.specs.List.{list_all, slice_get};
 ghost use Rattle.pf_base.specs.LabelSets.{is_label_name};
 ghost use Rattle.pf_base.specs.Sorting.{isort};
 ghost use Rattle.pf_model.specs.Cells.{cell_of};
-ghost use Rattle.pf_model.specs.Matching.{is_grouping, matching_key};
+ghost use Rattle.pf_model.specs.Clauses.{Matched};
+ghost use Rattle.pf_model.specs.Matching.{matching_key, result_labels};
 ghost use Rattle.pf_model.specs.Merging.{below};
 ghost use Rattle.pf_model.specs.Outcomes.{of_cell, operation};
 ghost use Rattle.pf_columns.specs.Columns.{cell_at, columns_labels, value_in};
 ghost use Rattle.pf_columns.specs.Steps.{bad_in, step_at, unless_bad};
-ghost use Rattle.pf_join.specs.KeyPlaces.{one_of, place_cmp, placed, those_at};
-ghost use Rattle.pf_eval.specs.Zipped.{are_single, are_there, between, both, column_keys, is_set_sign, is_wanted, kept_if, kind_of, met, met_among, one_columns, pair_by, partners, set_columns, zipped};
+ghost use Rattle.pf_join.specs.KeyPlaces.{key_of, one_of, place_cmp, placed, those_at};
+ghost use Rattle.pf_join.specs.Results.{labels_of_pair};
+ghost use Rattle.pf_eval.specs.Zipped.{are_apart, are_there, between, both, column_keys, is_set_sign, is_wanted, kept_if, kind_of, met, met_among, pair_by, partners, set_columns, zipped};
 
 use crate::node::{first_bads, value_of};
 use pf_base::{Labels, OutOfMemory, Value};
@@ -29,7 +31,7 @@ fn keys_of(
 ) -> Result<Vec<Labels>, OutOfMemory>
     ensures { IfOk result (λ v. v.items ≡ column_keys matching.now columns.now) }
 {
-    let mut found = Vec::new(alloc);
+    let mut found = Vec::with_capacity(alloc, columns.len())?;
     for column in columns {
         found.push(matching_key(matching, &column.labels)?)?;
     }
@@ -78,22 +80,18 @@ fn places_of(
     Ok(found)
 }
 
-/// The columns that match a label set, whose places by their keys are these, and how many keys are lesser: about so many as are
-/// told.
+/// The columns of a key, by the places of their keys, and how many keys are lesser: about so many as are told.
 #[tactic(auto, using(crate::proofs::JoinedCells::partners_found))]
 fn partners<'a>(
     alloc: Global,
-    matching: &Matching,
-    labels: &Labels,
+    key: &Labels,
     places: &KeyPlaces,
     near: usize,
     columns: &'a [Column],
 ) -> Result<(Vec<&'a Column>, usize), OutOfMemory>
-    requires { places.now ≡ isort place_cmp (placed 0 (column_keys matching.now columns.now)) }
-    ensures { IfOk result (λ v. map (λ c. c.now) v.0.items ≡ partners matching.now (matching_key matching.now labels.now) columns.now) }
+    ensures { IfOk result (λ v. (m : Matched) → places.now ≡ isort place_cmp (placed 0 (column_keys m columns.now)) → map (λ c. c.now) v.0.items ≡ partners m key.now columns.now) }
 {
-    let key = matching_key(matching, labels)?;
-    let (places, near) = places.with_key(&key, near);
+    let (places, near) = places.with_key(key, near);
     let found = columns_at(alloc, places, columns)?;
     Ok((found, near))
 }
@@ -116,69 +114,98 @@ fn pair_values(
 ) -> Result<Vec<Option<Value>>, OutOfMemory>
     ensures { IfOk result (λ v. v.items ≡ below (λ k. both (between op) (value_in lefts.now k) (value_in rights.now k)) len) }
 {
-    let mut found = Vec::new(alloc);
+    let mut found = Vec::with_capacity(alloc, len as usize)?;
     for i in 0..len {
         found.push(both(op, value_of(lefts, i), value_of(rights, i)))?;
     }
     Ok(found)
 }
 
-/// The column of a pair of columns that match.
+/// The labels of a pair's result. Those of `on` alone are the key.
+fn labels_of_pair(
+    op: BinaryOp,
+    matching: &Matching,
+    key: &Labels,
+    left: &Labels,
+    right: &Labels,
+) -> Result<Labels, OutOfMemory>
+    requires named { list_all is_label_name matching.now.include ≡ true }
+    requires key { key.now ≡ matching_key matching.now left.now }
+    ensures { IfOk result (λ l. l ≡ result_labels op (labels_of_pair matching.now left.now right.now)) }
+{
+    match matching.side {
+        Side::One if matching.on => result_labels(op, key),
+        _ => {
+            let labels = pair_labels(matching, left, right)?;
+            result_labels(op, &labels)
+        }
+    }
+}
+
+/// The column of a pair of columns that match by a key.
 fn pair_column(
     alloc: Global,
     op: BinaryOp,
     matching: &Matching,
+    key: &Labels,
     left: &Column,
     right: &Column,
     len: u32,
 ) -> Result<Column, OutOfMemory>
-    requires { list_all is_label_name matching.now.include ≡ true }
+    requires named { list_all is_label_name matching.now.include ≡ true }
+    requires key { key.now ≡ matching_key matching.now left.now.labels }
     ensures { IfOk result (λ c. c ≡ pair_by (between op) op matching.now len left.now right.now) }
 {
-    let labels = pair_labels(matching, &left.labels, &right.labels)?;
     Ok(Column {
-        labels: result_labels(op, &labels)?,
+        labels: labels_of_pair(op, matching, key, &left.labels, &right.labels)?,
         values: pair_values(alloc, op, &left.values, &right.values, len)?,
     })
 }
 
-/// Pushes the columns of a left column with some right ones.
+/// Pushes the columns of a left column with some right ones of its key.
 fn push_pairs(
     found: &mut Vec<Column>,
     alloc: Global,
     op: BinaryOp,
     matching: &Matching,
+    key: &Labels,
     left: &Column,
     rights: &[&Column],
     len: u32,
 ) -> Result<(), OutOfMemory>
-    requires { list_all is_label_name matching.now.include ≡ true }
+    requires named { list_all is_label_name matching.now.include ≡ true }
+    requires key { key.now ≡ matching_key matching.now left.now.labels }
     ensures { OnOk result (found.new.items ≡ found.old.items ++ map (pair_by (between op) op matching.now len left.now) (map (λ c. c.now) rights.now)) }
 {
     for &right in rights {
-        found.push(pair_column(alloc, op, matching, left, right, len)?)?;
+        found.push(pair_column(alloc, op, matching, key, left, right, len)?)?;
     }
     Ok(())
 }
 
-/// The columns of all pairs of columns that match.
+/// The columns of all pairs of columns that match, by the keys of the left ones and the places of the right ones' keys.
 fn zipped(
     alloc: Global,
     op: BinaryOp,
     matching: &Matching,
     lefts: &[Column],
+    keys: &[Labels],
     rights: &[Column],
+    places: &KeyPlaces,
     len: u32,
 ) -> Result<Vec<Column>, OutOfMemory>
-    requires { list_all is_label_name matching.now.include ≡ true }
+    requires named { list_all is_label_name matching.now.include ≡ true }
+    requires keys { keys.now ≡ column_keys matching.now lefts.now }
+    requires places { places.now ≡ isort place_cmp (placed 0 (column_keys matching.now rights.now)) }
     ensures { IfOk result (λ v. v.items ≡ zipped op matching.now len lefts.now rights.now) }
 {
-    let places = places_of(alloc, matching, rights)?;
-    let mut found = Vec::new(alloc);
+    let mut found = Vec::with_capacity(alloc, lefts.len())?;
     let mut near = 0;
-    for left in lefts {
-        let (others, at) = partners(alloc, matching, &left.labels, &places, near, rights)?;
-        push_pairs(&mut found, alloc, op, matching, left, &others, len)?;
+    for i in 0..lefts.len() {
+        let left = &lefts[i];
+        let key = &keys[i];
+        let (others, at) = partners(alloc, key, places, near, rights)?;
+        push_pairs(&mut found, alloc, op, matching, key, left, &others, len)?;
         near = at;
     }
     Ok(found)
@@ -218,7 +245,7 @@ fn met_values(
 ) -> Result<Vec<Option<Value>>, OutOfMemory>
     ensures { IfOk result (λ v. v.items ≡ below (λ k. kept_if (is_wanted wanted (are_there (map (λ c. c.now) others.now) k)) (value_in values.now k)) len) }
 {
-    let mut found = Vec::new(alloc);
+    let mut found = Vec::with_capacity(alloc, len as usize)?;
     for i in 0..len {
         let kept = is_wanted(wanted, are_there(others, i));
         found.push(kept_if(kept, value_of(values, i)))?;
@@ -254,10 +281,11 @@ fn met(
     ensures { IfOk result (λ v. v.items ≡ met wanted matching.now len others.now columns.now) }
 {
     let places = places_of(alloc, matching, others)?;
-    let mut found = Vec::new(alloc);
+    let mut found = Vec::with_capacity(alloc, columns.len())?;
     let mut near = 0;
     for column in columns {
-        let (matches, at) = partners(alloc, matching, &column.labels, &places, near, others)?;
+        let key = matching_key(matching, &column.labels)?;
+        let (matches, at) = partners(alloc, &key, &places, near, others)?;
         found.push(met_column(alloc, wanted, column, &matches, len)?)?;
         near = at;
     }
@@ -297,54 +325,49 @@ fn set_columns(
     }
 }
 
-fn is_grouping(side: Side) -> bool
-    ensures { result ≡ is_grouping side }
-{
-    match side {
-        Side::One => false,
-        Side::Left | Side::Right => true,
-    }
-}
-
-fn one_columns<'a>(side: Side, lefts: &'a [Column], rights: &'a [Column]) -> &'a [Column]
-    ensures { result.now ≡ one_columns side lefts.now rights.now }
-{
-    match side {
-        Side::One | Side::Left => rights,
-        Side::Right => lefts,
-    }
-}
-
 fn labels_of(alloc: Global, columns: &[Column]) -> Result<Vec<Labels>, OutOfMemory>
     ensures { IfOk result (λ v. v.items ≡ columns_labels columns.now) }
 {
-    let mut found = Vec::new(alloc);
+    let mut found = Vec::with_capacity(alloc, columns.len())?;
     for column in columns {
         found.push(column.labels.clone()?)?;
     }
     Ok(found)
 }
 
-/// Whether the columns' labels alone show that no step has an error of matching.
+/// Whether the keys of the left columns and the places of the right ones' keys, and the labels of the pairs, show alone that no
+/// step has an error of matching.
 fn are_single(
     alloc: Global,
-    matching: &Matching,
-    lefts: &[Column],
-    rights: &[Column],
+    side: Side,
+    keys: Vec<Labels>,
+    places: &KeyPlaces,
     pairs: &[Column],
 ) -> Result<bool, OutOfMemory>
-    ensures { IfOk result (λ b. b ≡ are_single matching.now lefts.now rights.now pairs.now) }
+    ensures { IfOk result (λ b. b ≡ are_apart side keys.items (map key_of places.now) (columns_labels pairs.now)) }
 {
-    let keys = keys_of(alloc, matching, one_columns(matching.side, lefts, rights))?;
-    if has_equal(keys)? {
-        return Ok(false);
+    match side {
+        Side::One => {
+            if places.has_equal() {
+                return Ok(false);
+            }
+            Ok(!has_equal(keys)?)
+        }
+        Side::Left => {
+            if places.has_equal() {
+                return Ok(false);
+            }
+            let labels = labels_of(alloc, pairs)?;
+            Ok(!has_equal(labels)?)
+        }
+        Side::Right => {
+            if has_equal(keys)? {
+                return Ok(false);
+            }
+            let labels = labels_of(alloc, pairs)?;
+            Ok(!has_equal(labels)?)
+        }
     }
-    let others = if is_grouping(matching.side) {
-        labels_of(alloc, pairs)?
-    } else {
-        keys_of(alloc, matching, lefts)?
-    };
-    Ok(!has_equal(others)?)
 }
 
 /// The error of an operator at a step.
@@ -403,15 +426,19 @@ fn pair_bads(
     matching: &Matching,
     left: StepCells,
     right: StepCells,
+    keys: Vec<Labels>,
+    places: &KeyPlaces,
     pairs: &[Column],
     len: u32,
 ) -> Result<Vec<Option<ErrorKind>>, OutOfMemory>
     requires named { list_all is_label_name matching.now.include ≡ true }
     requires paired { is_set_sign op.sign ≡ false }
+    requires keys { keys.items ≡ column_keys matching.now left.columns }
+    requires places { places.now ≡ isort place_cmp (placed 0 (column_keys matching.now right.columns)) }
     requires pairs { pairs.now ≡ zipped op matching.now len left.columns right.columns }
     ensures { IfOk result (λ v. (k : ℕ) → k < len → of_cell (unless_bad (bad_in v.items k) (cell_of (cell_at pairs.now k))) ≡ operation op matching.now (of_cell (step_at left k)) (of_cell (step_at right k))) }
 {
-    if are_single(alloc, matching, &left.columns, &right.columns, pairs)? {
+    if are_single(alloc, matching.side, keys, places, pairs)? {
         let found = first_bads(alloc, left.bads, right.bads, len)?;
         return Ok(found);
     }
@@ -456,8 +483,19 @@ fn pair_operation(
     requires paired { is_set_sign op.sign ≡ false }
     ensures { IfOk result (λ s. (k : ℕ) → k < len → of_cell (step_at s k) ≡ operation op matching.now (of_cell (step_at left k)) (of_cell (step_at right k))) }
 {
-    let pairs = zipped(alloc, op, matching, &left.columns, &right.columns, len)?;
-    let bads = pair_bads(alloc, op, matching, left, right, &pairs, len)?;
+    let keys = keys_of(alloc, matching, &left.columns)?;
+    let places = places_of(alloc, matching, &right.columns)?;
+    let pairs = zipped(
+        alloc,
+        op,
+        matching,
+        &left.columns,
+        &keys,
+        &right.columns,
+        &places,
+        len,
+    )?;
+    let bads = pair_bads(alloc, op, matching, left, right, keys, &places, &pairs, len)?;
     let found = normalised(alloc, pairs, bads, len)?;
     Ok(found)
 }

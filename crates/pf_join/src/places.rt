@@ -158,7 +158,7 @@ fn upto_key<'a>(entries: &'a [KeyPlace], key: &Labels) -> &'a [KeyPlace]
 fn placed(alloc: Global, keys: Vec<Labels>) -> Result<Vec<KeyPlace>, OutOfMemory>
     ensures { IfOk result (λ v. v.items ≡ placed 0 keys.items) }
 {
-    let mut found = Vec::new(alloc);
+    let mut found = Vec::with_capacity(alloc, keys.len())?;
     let mut place = 0;
     for key in keys {
         found.push(KeyPlace { key, place })?;

@@ -29,11 +29,14 @@ pub fn push_points(out: &mut Vec<u8>, points: &[Sample]) -> Result<(), OutOfMemo
     push_points_by(&[], out, points)
 }
 
+/// The room that a label set as an object is given at first.
+const OBJECT: usize = 128;
+
 /// A label set as an object.
 fn labels_json(alloc: Global, labels: &Labels) -> Result<Vec<u8>, OutOfMemory>
     ensures { IfOk result (λ t. t.items ≡ labels_text labels.now) }
 {
-    let mut writer = Writer::new(Vec::new(alloc));
+    let mut writer = Writer::new(Vec::with_capacity(alloc, OBJECT)?);
     writer.begin_object()?;
     for i in 0..labels.count() {
         writer.key(labels.name(i))?;

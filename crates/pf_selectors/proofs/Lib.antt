@@ -4,6 +4,7 @@ mod MomentSamples
 mod PassingSeries
 mod Places
 mod RangeCells
+mod RankedSeries
 mod ReadCells
 mod RunValues
 mod SeriesOrder

@@ -1,13 +1,13 @@
 //! Instant selectors over a whole run.
 
-ghost use Rattle.std.specs.Prelude.{◌≡◌, ◌<◌, ◌≤◌, ℕ, int_le, Bool, true, Some, List, IfOk, length, map, option_map};
+ghost use Rattle.std.specs.Prelude.{◌≡◌, ◌<◌, ◌≤◌, ℕ, int_le, Bool, true, None, Some, List, IfOk, length, map, option_map};
 ghost use Rattle.std.specs.List.{All};
 ghost use Rattle.pf_base.specs.declared.plain.Row.{Row};
 ghost use Rattle.pf_base.specs.LabelSets.{Pairs};
 ghost use Rattle.pf_block.specs.Samples.{rises, until};
-ghost use Rattle.pf_block.specs.Snaps.{IsSnap};
-ghost use Rattle.pf_columns.specs.Columns.{cell_at};
-ghost use Rattle.pf_columns.specs.Steps.{step_at};
+ghost use Rattle.pf_block.specs.Snaps.{IsSnap, labels_of};
+ghost use Rattle.pf_columns.specs.Columns.{cell_at, columns_labels};
+ghost use Rattle.pf_columns.specs.Steps.{rise_above, step_at};
 ghost use Rattle.pf_model.specs.declared.cell.StepCell.TheVariants.{Good};
 ghost use Rattle.pf_model.specs.declared.expr.Matcher.{Matcher};
 ghost use Rattle.pf_model.specs.Binding.{accepted_ids};
@@ -20,6 +20,7 @@ ghost use Rattle.pf_store.specs.Standing.{StandsFor};
 ghost use Rattle.pf_selectors.specs.Passing.{ids_passing, rows_passing};
 ghost use Rattle.pf_selectors.specs.SeriesColumns.{labels_read, read_at, read_column, value_read, values_read};
 ghost use Rattle.pf_selectors.specs.Times.{AreTimes, time_at};
+ghost use Rattle.pf_selectors.specs.declared.times.Times.{Times};
 
 use crate::cursor::{moved, newest, read};
 use crate::times::{Span, Times};
@@ -141,7 +142,39 @@ fn read_columns(
     Ok(columns)
 }
 
-/// What is read of some series at each step.
+/// Whether some series stand in label order, each once.
+fn are_in_order(snap: &Snap, ids: &[u32]) -> bool
+    requires { All (λ id. id < length snap.now.labels) ids.now }
+    ensures { result ≡ true → rise_above None (map (labels_of snap.now) ids.now) ≡ true }
+{
+    let _count = snap.series_count();
+    let mut last: Option<u32> = None;
+    for id in ids {
+        let rank = snap.rank(*id);
+        if let Some(last) = last {
+            if rank <= last {
+                return false;
+            }
+        }
+        last = Some(rank);
+    }
+    true
+}
+
+/// Whether the label sets that are read of some series rise, as far as their places in label order tell it.
+#[tactic(auto, using(crate::proofs::RankedSeries::rise_as_read))]
+fn rise_as_read(reading: Reading, snap: &Snap, ids: &[u32]) -> bool
+    requires { All (λ id. id < length snap.now.labels) ids.now }
+    ensures { result ≡ true → (times : Times) → rise_above None (columns_labels (map (read_column reading snap.now times) ids.now)) ≡ true }
+{
+    match reading {
+        Reading::Value => are_in_order(snap, ids),
+        Reading::Time => false,
+    }
+}
+
+/// What is read of some series at each step. Where their places in label order rise, no label sets are compared.
+#[tactic(auto, using(pf_columns::proofs::Rising::rise_is, pf_columns::proofs::Rising::cell_rising))]
 fn read_cells(
     alloc: Global,
     reading: Reading,
@@ -162,6 +195,12 @@ fn read_cells(
         });
     }
     let columns = read_columns(alloc, reading, snap, ids, times)?;
+    if rise_as_read(reading, snap, ids) {
+        return Ok(StepCells {
+            columns,
+            bads: Vec::new(alloc),
+        });
+    }
     let found = normalised(alloc, columns, Vec::new(alloc), times.len)?;
     Ok(found)
 }

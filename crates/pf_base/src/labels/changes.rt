@@ -1,9 +1,9 @@
 //! Label sets made of others.
 
-ghost use Rattle.std.specs.Prelude.{◌≡◌, ◌<◌, ◌≤◌, ◌^◌, ◌++◌, true, not, length, filter, slice_range, IfOk};
+ghost use Rattle.std.specs.Prelude.{◌≡◌, ◌<◌, ◌≤◌, ◌^◌, ◌++◌, ◌∷◌, true, not, length, filter, slice_range, IfOk};
 ghost use Rattle.std.specs.Str.{bytes_eq};
 ghost use Rattle.pf_base.specs.LabelSets.{is_label_name};
-ghost use Rattle.pf_base.specs.LabelOrder.{pair_cmp};
+ghost use Rattle.pf_base.specs.LabelOrder.{labels_eq, pair_cmp};
 ghost use Rattle.pf_base.specs.LabelChanges.{metric_name, others, stands_in, kept, left_out, with_value};
 ghost use Rattle.pf_base.specs.LabelWalk.{place};
 ghost use Rattle.pf_base.specs.Sorting.{ins};
@@ -41,6 +41,12 @@ struct NotAmong<'a> {
     names: &'a [Text],
 }
 
+/// All but these and the metric name.
+#[derive(Clone, Copy)]
+struct Unnamed<'a> {
+    names: &'a [Text],
+}
+
 impl Choice for Others<'_> {
     ghost is_chosen = { λ c name. not (bytes_eq name c.name.now) };
 
@@ -62,6 +68,14 @@ impl Choice for NotAmong<'_> {
 
     fn chooses(&self, name: &str) -> bool {
         !is_one_of(name, self.names)
+    }
+}
+
+impl Choice for Unnamed<'_> {
+    ghost is_chosen = { λ c name. not (stands_in (metric_name ∷ c.names.now) name) };
+
+    fn chooses(&self, name: &str) -> bool {
+        METRIC_NAME != name && !is_one_of(name, self.names)
     }
 }
 
@@ -129,6 +143,22 @@ fn chosen<C: Choice>(labels: &Labels, choice: &C) -> Result<Labels, OutOfMemory>
     Labels::of(with_chosen(empty, &labels.pairs, 0, count, choice)?)
 }
 
+/// Whether the chosen pairs are those of a key.
+fn are_chosen<C: Choice>(pairs: &PackedPairs, choice: &C, key: &PackedPairs) -> bool
+    ensures { result ≡ labels_eq (filter (λ p. C.is_chosen choice.now p.0) pairs.now) key.now }
+{
+    let mut met = 0;
+    for i in 0..pairs.count() {
+        if choice.chooses(pairs.name(i)) {
+            if met == key.count() || !pairs.equals_at(i, key, met) {
+                return false;
+            }
+            met += 1;
+        }
+    }
+    met == key.count()
+}
+
 /// The place at which a name belongs among the pairs of other names.
 fn place_of(pairs: &PackedPairs, name: &str) -> usize
     ensures place { result ≡ place name.now pairs.now }
@@ -182,6 +212,27 @@ impl Labels {
         ensures { IfOk result (λ l. l ≡ left_out names.now self.now) }
     {
         chosen(self, &NotAmong { names })
+    }
+
+    /// The labels of all names but these and the metric name.
+    pub fn leave_out_with_name(&self, names: &[Text]) -> Result<Labels, OutOfMemory>
+        ensures { IfOk result (λ l. l ≡ left_out (metric_name ∷ names.now) self.now) }
+    {
+        chosen(self, &Unnamed { names })
+    }
+
+    /// Whether the labels of these names are those of a key. Nothing is copied.
+    pub fn keeps(&self, names: &[Text], key: &Labels) -> bool
+        ensures { result ≡ labels_eq (kept names.now self.now) key.now }
+    {
+        are_chosen(&self.pairs, &Among { names }, &key.pairs)
+    }
+
+    /// Whether the labels of all names but these and the metric name are those of a key. Nothing is copied.
+    pub fn leaves(&self, names: &[Text], key: &Labels) -> bool
+        ensures { result ≡ labels_eq (left_out (metric_name ∷ names.now) self.now) key.now }
+    {
+        are_chosen(&self.pairs, &Unnamed { names }, &key.pairs)
     }
 
     /// These labels with the name's value set to this one, or without the name where the value is empty.

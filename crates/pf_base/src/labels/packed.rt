@@ -4,9 +4,11 @@ ghost use Rattle.std.specs.Prelude.{◌≡◌, ◌<◌, ◌^◌, ◌++◌, ◌�
 ghost use Rattle.std.specs.List.{fold};
 ghost use Rattle.std.specs.Hash as fed;
 ghost use Rattle.pf_base.specs.LabelSets.{name_at, value_at};
-ghost use Rattle.pf_base.specs.LabelOrder.{pair_cmp, labels_cmp, labels_eq};
+ghost use Rattle.pf_base.specs.LabelChanges.{metric_name, others};
+ghost use Rattle.pf_base.specs.LabelOrder.{pair_cmp, pair_eq, labels_cmp, labels_eq};
+ghost use Rattle.pf_base.specs.ShardHash.{labels_hash};
 
-use crate::labels::shard::{OFFSET_BASIS, hash_label};
+use crate::labels::shard::{OFFSET_BASIS, hash_with};
 use crate::memory::OutOfMemory;
 use std::alloc::Global;
 use std::cmp::Ordering;
@@ -14,7 +16,7 @@ use std::hash::{Hash, Hasher};
 use std::marker::Model;
 
 /// Pairs of a name and a value: the names and values in one text, the places where the first begins and where each
-/// ends, and the FNV-1a hash of all pairs.
+/// ends, and the FNV-1a hash of all pairs but the metric name's.
 #[derive(Debug, Drop)]
 pub struct PackedPairs {
     hash: u64,
@@ -74,10 +76,17 @@ impl PackedPairs {
         bounds.push(middle as u32)?;
         bounds.push(end as u32)?;
         Ok(PackedPairs {
-            hash: hash_label(hash, name, value),
+            hash: hash_with(hash, name, value),
             text,
             bounds,
         })
+    }
+
+    /// The hash of all pairs but the metric name's.
+    pub fn hash(&self) -> u64
+        ensures { result ≡ labels_hash (others metric_name self.now) }
+    {
+        self.hash
     }
 
     pub fn allocator(&self) -> Global {
@@ -114,6 +123,15 @@ impl PackedPairs {
         ensures { result ≡ labels_eq self.now other.now }
     {
         self.hash == other.hash && self.bounds == other.bounds && self.text == other.text
+    }
+
+    /// Whether the pair at a place is the one at a place of others.
+    pub fn equals_at(&self, i: usize, other: &PackedPairs, k: usize) -> bool
+        requires own { i < length self.now }
+        requires other { k < length other.now }
+        ensures { result ≡ pair_eq (name_at self.now i, value_at self.now i) (name_at other.now k, value_at other.now k) }
+    {
+        self.name(i) == other.name(k) && self.value(i) == other.value(k)
     }
 
     /// The order of the pairs at one place of both.

@@ -1,10 +1,9 @@
 //! The shard of a label set.
 
-ghost use Rattle.std.specs.Prelude.{◌≡◌, ◌≤◌};
+ghost use Rattle.std.specs.Prelude.{◌≡◌, ◌∷◌, ◌≤◌, []};
 ghost use Rattle.pf_base.specs.LabelChanges.{metric_name, others};
-ghost use Rattle.pf_base.specs.ShardHash.{hash_step, hash_onto, label_bytes, labels_hash, shard_of};
+ghost use Rattle.pf_base.specs.ShardHash.{hash_step, hash_onto, label_bytes, labels_onto, shard_of};
 
-use crate::labels::packed::PackedPairs;
 use crate::labels::{Labels, METRIC_NAME};
 
 /// The offset basis of FNV with 64 bits: the hash of no pairs.
@@ -33,7 +32,7 @@ fn hash_bytes(mut hash: u64, bytes: &[u8]) -> u64
 
 /// The hash after one more pair.
 #[tactic(auto, using(crate::proofs::ShardSteps::label_steps))]
-pub fn hash_label(hash: u64, name: &str, value: &str) -> u64
+fn hash_label(hash: u64, name: &str, value: &str) -> u64
     ensures { result ≡ hash_onto hash (label_bytes (name.now, value.now)) }
 {
     let named = hash_bytes(hash, name.as_bytes());
@@ -42,17 +41,15 @@ pub fn hash_label(hash: u64, name: &str, value: &str) -> u64
     hash_byte(valued, END)
 }
 
-/// The hash of all pairs but the metric name's.
-fn hash_labels(pairs: &PackedPairs) -> u64
-    ensures { result ≡ labels_hash (others metric_name pairs.now) }
+/// The hash after one more pair. The metric name's leaves it.
+pub fn hash_with(hash: u64, name: &str, value: &str) -> u64
+    ensures { result ≡ labels_onto hash (others metric_name ((name.now, value.now) ∷ [])) }
 {
-    let mut hash = OFFSET_BASIS;
-    for i in 0..pairs.count() {
-        if pairs.name(i) != METRIC_NAME {
-            hash = hash_label(hash, pairs.name(i), pairs.value(i));
-        }
+    if name == METRIC_NAME {
+        hash
+    } else {
+        hash_label(hash, name, value)
     }
-    hash
 }
 
 impl Labels {
@@ -62,6 +59,6 @@ impl Labels {
         requires { 1 ≤ n }
         ensures { result ≡ shard_of self.now n }
     {
-        (hash_labels(&self.pairs) % n as u64) as u32
+        (self.pairs.hash() % n as u64) as u32
     }
 }

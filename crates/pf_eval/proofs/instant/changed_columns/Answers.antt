@@ -12,7 +12,7 @@ pub loop-column-init : goal.loop-column-init
 loop-column-init c =
     let all : into_iter_items c.into_iter-column-iterator.result ≡ c.args.columns.items =
     ap into_iter_items c.into_iter-column-iterator.ensures.into_iter_gives ∙ c.into_iter-rest.ensures.rest in (
-      (λ k. λ i. cell_at (c.new-found.ensures.items i) k ++ each_value (changed (change_at c.args.changes.now k)) (cell_at (all i) k)),
+      (λ k. λ i. cell_at (c.in_ok-found.ensures.items i) k ++ each_value (changed (change_at c.args.changes.now k)) (cell_at (all i) k)),
       search rules,
     )
 

@@ -10,7 +10,8 @@ loop-column-preserved c =
     let os = c.args.others.now in
     let column = c.column-item.result in
     let matches : map (λ d. d.now) c.deref.result.now ≡ partners m (matching_key m column.labels) os =
-    ap (map (λ d. d.now)) c.deref.ensures.value ∙ c.in_ok-matches.ensures
+    ap (map (λ d. d.now)) c.deref.ensures.value ∙ c.in_ok-matches.ensures m c.in_ok-places.ensures
+    ∙ ap (λ k. partners m k os) c.in_ok-key.ensures
     ∙ ap (λ d. partners m (matching_key m d.labels) os) c.column.view_is in
     map_more (met_column c.args.wanted m c.args.len os) c.args.columns.now c.loop-column.column-index column c.loop-column.found.items c.push.new.self.items
     c.loop-column-test.true c.column-item.is
