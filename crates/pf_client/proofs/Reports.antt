@@ -13,7 +13,7 @@ use Rattle.pf_journal.specs.Legal.{Moment, moments}
 use Rattle.pf_journal.specs.Machine.{Entry, open_at}
 use Rattle.pf_journal.specs.Replies.{line_text}
 use Rattle.pf_journal.specs.Report.{actors_from, client_text, entries_from, journal_text, report}
-use Rattle.pf_journal.specs.Rest.{Client as ToldClient, Known, Rest, Told, Why, nothing, refused_file, no_memory, journal_full, waiting, failed_five, of_plan, of_take, of_done, of_keep, at_end}
+use Rattle.pf_journal.specs.Rest.{Client as ToldClient, Known, Rest, Told, Why, nothing, refused_file, no_memory, journal_full, waiting, failed_five, of_plan, of_take, of_done, of_keep, at_end, at_full, at_memory}
 use Rattle.pf_journal.specs.Scripts.{Numbered}
 use Rattle.pf_journal.specs.Summaries.{Tally}
 use Rattle.pf_journal.specs.Turns.{own_moments, ran_lines}
@@ -31,10 +31,10 @@ use Rattle.pf_query.specs.Jobs.{hand_of}
 use Rattle.pf_query.specs.declared.job.Hand.{Hand}
 use Rattle.pf_query.specs.declared.job.Held.{Held as HeldJob}
 use Rattle.pf_client.specs.Clients.{IsKnown}
-use Rattle.pf_client.specs.Replays.{HaveMetFull, Held}
-use Rattle.pf_client.specs.Drives.{IsReport, is_full, left_text, why_of}
+use Rattle.pf_client.specs.Replays.{HaveStopped, Held, why_by}
+use Rattle.pf_client.specs.Drives.{IsReport, left_text, why_of}
 use Rattle.pf_client.specs.Files.{AreHeld}
-use Rattle.pf_client.specs.Summaries.{HaveEnded, IsSummary, why_by}
+use Rattle.pf_client.specs.Summaries.{IsSummary}
 use Rattle.pf_client.specs.Tallies.{IsCounted}
 use Rattle.pf_client.specs.Going.{AreCounted, HasRun, HasStopped, IsGoing, hands_last, own_of}
 use Rattle.pf_client.specs.Hands.{HaveHands, HoldsJobs, held_by, is_job_of}
@@ -198,10 +198,13 @@ all_read kept right text r e = by (get_by_text kept text) refl e where
 
 -- ---- the report
 
-met_by : (stopped : LineRun) (told : List Told) → HaveMetFull (is_full stopped) (record { told = told; why = why_of stopped } ∷ [])
-met_by run.On told = ((λ e. cc), tt)
-met_by run.Full told = λ h. h.0 refl
-met_by run.Starved told = ((λ e. cc), tt)
+-- a client alone stopped for its own cause
+pub stopped_as : (c : ToldClient) → HaveStopped c.why (c ∷ [])
+stopped_as c = by c.why refl where
+  by : (why : Why) → c.why ≡ why → HaveStopped why (c ∷ [])
+  by at_end e = (e, tt)
+  by at_full e = λ h. h.0 e
+  by at_memory e = λ h. h.0 e
 
 one_of : {X : Type 0} (x y : X) (n : ℕ) → slice_get (x ∷ []) n ≡ Some y → (n ≡ 0) × (x ≡ y)
 one_of x y zero h = (refl, some_is x y h)
@@ -243,17 +246,17 @@ woven_alone limits loaded lines why sent c held first are right short stands has
           (subst (λ (y : ToldClient). Woven known (own_of 0 c.core) lines y × RunsTo known.limits c.core.journal 0 y.why (drop (length y.told) lines) (ran_lines lines y.told)) same_d (woven, runs))
       each_one known c lines one woven runs (suc n) ls d at_ls at_d = cc
 
-pub reported : (limits : Limits) (loaded : Loaded) (lines : List Numbered) (run : LineRun) (met : Bool) (sent : List ℕ) (c : Client) (held : Held)
+pub reported : (limits : Limits) (loaded : Loaded) (lines : List Numbered) (run : LineRun) (sent : List ℕ) (c : Client) (held : Held)
     → c.client ≡ 0 → AreHeld held loaded.files → AreReadAs loaded.queries → length lines ≤ 18446744073709551615 → Stands c.core → HasStopped loaded limits lines (why_of run) sent c
-    → met ≡ is_full run → IsReport limits held lines met (sent ++ left_text c)
-reported limits loaded lines run met sent c held first are right short stands stopped full =
+    → IsReport limits held lines (why_of run) (sent ++ left_text c)
+reported limits loaded lines run sent c held first are right short stands stopped =
     let known : Known = record { limits = c.core.limits; names = c.core.names; files = held; readings = readings_in loaded.queries } in
     let has = stopped known (record { held = are; readings = refl }) (itself c.core held loaded) in
     let rest : Rest = record { clients = record { told = has.told; why = why_of run } ∷ []; failed = c.core.failed } in
     let behind : List ℕ = journal_text c.core.names c.core.journal ++ actors_from 0 c.core.failed in
     let text_is : sent ++ left_text c ≡ report known c.core.journal (lines ∷ []) rest =
     sym (append_assoc sent c.out.items behind) ∙ ap (λ (bytes : List ℕ). bytes ++ behind) (said_first known lines has.told has.has_told.said ∙ sym (append-nil _)) in
-    subst (λ (b : Bool). IsReport limits held lines b (sent ++ left_text c)) (sym full) (subst (λ (l : Limits). IsReport l held lines (is_full run) (sent ++ left_text c)) has.limited (record {
+    subst (λ (l : Limits). IsReport l held lines (why_of run) (sent ++ left_text c)) has.limited (record {
       journal = c.core.journal;
       names = c.core.names;
       readings = readings_in loaded.queries;
@@ -261,9 +264,9 @@ reported limits loaded lines run met sent c held first are right short stands st
       legal = stands.legal;
       named = stands.names;
       woven = woven_alone limits loaded lines (why_of run) sent c held first are right short stands has;
-      met = met_by run has.told;
+      stopped = stopped_as (record { told = has.told; why = why_of run });
       whole = text_is;
-    })) where
+    }) where
       said_first : (known : Known) (lines : List Numbered) (told : List Told)
           → sent ++ c.out.items ≡ client_text known (own_of c.client c.core) c.client lines (record { told = told; why = why_of run })
           → sent ++ c.out.items ≡ client_text known (own_of 0 c.core) 0 lines (record { told = told; why = why_of run })
@@ -271,10 +274,6 @@ reported limits loaded lines run met sent c held first are right short stands st
           subst (λ (i : ℕ). sent ++ c.out.items ≡ client_text known (own_of i c.core) i lines (record { told = told; why = why_of run })) first said
 
 -- ---- the summary
-
-ended_by : (full : Bool) (told : List Told) → HaveEnded full (record { told = told; why = why_by full } ∷ [])
-ended_by false told = (refl, tt)
-ended_by true told = λ h. h.0 refl
 
 pub summarized : (limits : Limits) (loaded : Loaded) (lines : List Numbered) (full : Bool) (t : Tally) (sent : List ℕ) (c : Client) (held : Held)
     → c.client ≡ 0 → AreHeld held loaded.files → AreReadAs loaded.queries → length lines ≤ 18446744073709551615 → Stands c.core → HasStopped loaded limits lines (why_by full) sent c
@@ -291,7 +290,7 @@ summarized limits loaded lines full t sent c held first are right short stands s
       legal = stands.legal;
       named = stands.names;
       woven = woven_alone limits loaded lines (why_by full) sent c held first are right short stands has;
-      ended = ended_by full has.told;
+      ended = stopped_as (record { told = has.told; why = why_by full });
       whole = sym (count known told (itself c.core held loaded));
     })
 

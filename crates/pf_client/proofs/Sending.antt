@@ -1,5 +1,5 @@
 -- A report that is written in pieces.
-use Rattle.std.proofs.Common.{◌≡◌, ℕ, ◌≤◌, Bool, false, Option, List, [], ◌∷◌, ◌++◌, codes, decimal, length, map, refl, sym, ap, ◌∙◌, subst, append-nil, append_assoc}
+use Rattle.std.proofs.Common.{◌≡◌, ℕ, ◌≤◌, Option, List, [], ◌∷◌, ◌++◌, codes, decimal, length, map, refl, sym, ap, ◌∙◌, subst, append-nil, append_assoc}
 use Rattle.std.specs.declared.alloc.Global.{Global}
 use Rattle.std.specs.declared.vec.Vec.{Vec}
 use Rattle.pf_base.specs.declared.plain.Limits.{Limits}
@@ -12,15 +12,15 @@ use Rattle.pf_journal.proofs.Ending.{begins_report}
 use Rattle.pf_journal.specs.Replies.{line_text}
 use Rattle.pf_journal.specs.Machine.{Entry}
 use Rattle.pf_journal.specs.Report.{actors_from, client_text, entries_from, journal_text, report}
-use Rattle.pf_journal.specs.Rest.{Known, Rest, at_end}
+use Rattle.pf_journal.specs.Rest.{Known, Rest, Why, at_end}
 use Rattle.pf_journal.specs.Scripts.{Numbered}
 use Rattle.pf_journal.specs.Weave.{Woven}
 use Rattle.pf_model.specs.Lists.{Each}
 use Rattle.pf_script.specs.Lines.{AllFollow}
 use Rattle.pf_client.proofs.Lines.{numbers_rise}
-use Rattle.pf_client.proofs.Reports.{all_read, itself, journal_said, reported, tried_so_far}
+use Rattle.pf_client.proofs.Reports.{all_read, itself, journal_said, reported, stopped_as, tried_so_far}
 use Rattle.pf_client.proofs.Writing.{all_written, grows_none, part_of, part_written, writes_beside, writes_none, writes_sent, writes_then}
-use Rattle.pf_client.specs.Drives.{BreaksOff, IsAnyReport, IsReport, is_full, left_text, why_of}
+use Rattle.pf_client.specs.Drives.{BreaksOff, IsAnyReport, IsReport, left_text, why_of}
 use Rattle.pf_client.specs.Files.{AreHeld}
 use Rattle.pf_client.specs.Going.{HasStopped, IsGoing, own_of}
 use Rattle.pf_client.specs.Hands.{HoldsJobs}
@@ -151,8 +151,8 @@ module _ (limits : Limits) (loaded : Loaded) (lines : List Numbered) (held : Hel
         (b.sent ++ c.out.items) ++ r.text,
         (
           (
-            false,
-            subst (λ (l : Limits). IsReport l held lines false ((b.sent ++ c.out.items) ++ r.text)) g.limited (record {
+            r.client.why,
+            subst (λ (l : Limits). IsReport l held lines r.client.why ((b.sent ++ c.out.items) ++ r.text)) g.limited (record {
               journal = r.whole;
               names = c.core.names;
               readings = readings_in loaded.queries;
@@ -160,7 +160,7 @@ module _ (limits : Limits) (loaded : Loaded) (lines : List Numbered) (held : Hel
               legal = r.legal;
               named = r.named;
               woven = r.woven;
-              met = (r.not_full, tt);
+              stopped = stopped_as r.client;
               whole = whole;
             }),
           ),
@@ -169,16 +169,17 @@ module _ (limits : Limits) (loaded : Loaded) (lines : List Numbered) (held : Hel
       )
 
   -- of a client that stopped
-  module _ (stopped : LineRun) (met : Bool) (old mid new : Option (List ℕ)) (c : Client) (first : c.client ≡ 0) (stands : Stands c.core)
-      (s : (sent : List ℕ) × (Grows old mid sent × HasStopped loaded limits lines (why_of stopped) sent c)) (full : met ≡ is_full stopped) where
-    whole : IsReport limits held lines met (s.0 ++ left_text c)
-    whole = reported limits loaded lines stopped met s.0 c held first are right short stands s.1.1 full
+  module _ (stopped : LineRun) (old mid new : Option (List ℕ)) (c : Client) (first : c.client ≡ 0) (stands : Stands c.core)
+      (s : (sent : List ℕ) × (Grows old mid sent × HasStopped loaded limits lines (why_of stopped) sent c)) where
+    whole : IsReport limits held lines (why_of stopped) (s.0 ++ left_text c)
+    whole = reported limits loaded lines stopped s.0 c held first are right short stands s.1.1
 
     to_end : (left : List ℕ) → WritesTo mid new (left_text c) left → WritesTo old new (s.0 ++ left_text c) left
     to_end left w = writes_then old mid new (s.0 ++ left_text c) (left_text c) left (writes_sent old mid s.0 (left_text c) s.1.0) w
 
-    pub report_written : WritesTo mid new (left_text c) [] → Writes (IsReport limits held lines met) old new
-    report_written w = (s.0 ++ left_text c, (whole, all_written old new (s.0 ++ left_text c) (to_end [] w)))
+    pub report_written : (why : Why) → why ≡ why_of stopped → WritesTo mid new (left_text c) [] → Writes (IsReport limits held lines why) old new
+    report_written why e w =
+        (s.0 ++ left_text c, (subst (λ (y : Why). IsReport limits held lines y (s.0 ++ left_text c)) (sym e) whole, all_written old new (s.0 ++ left_text c) (to_end [] w)))
 
     pub report_begun : WritesFront mid new (left_text c) → WritesPart (IsAnyReport limits held lines) old new
-    report_begun f = (s.0 ++ left_text c, ((met, whole), part_written old new (s.0 ++ left_text c) f.0 (to_end f.0 f.1)))
+    report_begun f = (s.0 ++ left_text c, ((why_of stopped, whole), part_written old new (s.0 ++ left_text c) f.0 (to_end f.0 f.1)))

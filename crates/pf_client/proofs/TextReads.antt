@@ -25,9 +25,9 @@ use Rattle.pf_model.proofs.TreeOf.{number_tree, text_tree, unary_tree, binary_tr
 use Rattle.pf_model.specs.declared.matchers.Matchers.{Matchers}
 use Rattle.pf_model.specs.ErrorTexts.{QueryFault, of_grammar, of_kinds, refused_pattern, empty_selector}
 use Rattle.pf_model.specs.Lists.{Each, at}
-use Rattle.pf_model.specs.Queries.{CanRefuse, first_empty, IsFaultOf, IsNoSelector, IsQuery, IsReading, is_plain_selector, is_unmodified, lawful, may_be_no_selector, may_be_refused, no_selector, selecting, selector}
+use Rattle.pf_model.specs.Queries.{CanRefuse, first_empty, IsBindable, IsFaultOf, IsFirstEmpty, IsNoSelector, IsQuery, IsReading, is_plain_selector, is_unmodified, lawful, may_be_no_selector, may_be_refused, no_selector, selecting, selector}
 use Rattle.pf_journal.specs.Scripts.{Numbered}
-use Rattle.pf_model.specs.Selection.{accepts_empty, all_compared}
+use Rattle.pf_model.specs.Selection.{accepts_empty, all_compared, all_meant}
 use Rattle.pf_model.specs.Trees.{Tree, number, text, unary, binary, call, aggregate, select, subquery, instant, no_mods, tree_of}
 use Rattle.pf_model.specs.Typing.{TypeFault, asked_fault}
 use Rattle.pf_script.specs.Lines.{numbered_of}
@@ -81,10 +81,10 @@ empty_tree (unary m e) n h = refl
 empty_tree (binary op m a b) n h = refl
 empty_tree (call f args) n h = refl
 empty_tree (aggregate op g args) n h = refl
-empty_tree (select ms None mods) n h = by (is_unmodified mods) (accepts_empty ms) h where
-  by : (u e : Bool) → cond e (Some 0) None ≡ Some n → cond (u && not e) (selector ms) no_selector ≡ no_selector
-  by u true g = ap (λ b. cond b (selector ms) no_selector) (and-false u)
-  by u false g = cc
+empty_tree (select ms None mods) n h = by (is_unmodified mods) (all_meant ms) (accepts_empty ms) h where
+  by : (u m e : Bool) → cond e (Some 0) None ≡ Some n → cond (u && (m && not e)) (selector ms) no_selector ≡ no_selector
+  by u m true g = ap (λ b. cond (u && b) (selector ms) no_selector) (and-false m) ∙ ap (λ b. cond b (selector ms) no_selector) (and-false u)
+  by u m false g = cc
 empty_tree (select ms (Some range) mods) n h = refl
 empty_tree (subquery e range resolution mods) n h = refl
 
@@ -152,9 +152,9 @@ select_plain e s range mods is h = (ap tree_of is ∙ select_tree s range mods) 
 -- ---- what a text is read as
 
 -- a query that is lawful
-pub lawful_right : (words : List ℕ) (t : Tree) (q : Arc BoundQuery Global) → arc_value q ≡ t → first_empty t ≡ None → IsQuery words t
+pub lawful_right : (words : List ℕ) (t : Tree) (q : Arc BoundQuery Global) → arc_value q ≡ t → IsBindable t → IsQuery words t
     → IsQueryRead words (query.Lawful q)
-lawful_right words t q is none h = subst (λ (u : Tree). IsReading words (lawful u)) (sym is) (h, none)
+lawful_right words t q is selects h = subst (λ (u : Tree). IsReading words (lawful u)) (sym is) (h, selects)
 
 -- a query that was bound
 pub bound_right : (words : List ℕ) (t u : Tree) (q : QueryRead) → u ≡ t → ((w : List ℕ) → IsQuery w u → IsQueryRead w q) → IsQuery words t → IsQueryRead words q
@@ -164,22 +164,26 @@ bound_right words t u q is h g = h words (subst (IsQuery words) (sym is) g)
 pub refused_pattern_right : (words : List ℕ) (t : Tree) (n : ℕ) → CanRefuse n t → IsQuery words t → IsQueryRead words (query.Refused (query_error.Pattern n))
 refused_pattern_right words t n c q = (refused_pattern n, (refl, (t, (q, c))))
 
-pub empty_selector_right : (words : List ℕ) (t : Tree) (n : ℕ) → first_empty t ≡ Some n → IsQuery words t → IsQueryRead words (query.Refused (query_error.Empty n))
+pub empty_selector_right : (words : List ℕ) (t : Tree) (n : ℕ) → IsFirstEmpty n t → IsQuery words t → IsQueryRead words (query.Refused (query_error.Empty n))
 empty_selector_right words t n some q = (empty_selector n, (refl, (t, (q, some))))
 
 -- what trees say as selectors
 pub other_refused : (t : Tree) → is_plain_selector t ≡ false → SelectsAs t chosen.Refused
 other_refused t h = inl (other_tree t h)
 
-pub plain_selects : (t : Tree) (s : List Matcher) (m : Arc Matchers Global) → t ≡ instant s → arc_value m ≡ s → accepts_empty s ≡ false → SelectsAs t (chosen.Built m)
-plain_selects t s m is same some =
-    ap selecting is ∙ ap (λ b. cond (not b) (selector s) no_selector) some ∙ ap selector (sym same)
+pub plain_selects : (t : Tree) (s : List Matcher) (m : Arc Matchers Global) → t ≡ instant s → arc_value m ≡ s → all_meant s ≡ true → accepts_empty s ≡ false
+    → SelectsAs t (chosen.Built m)
+plain_selects t s m is same meant some =
+    ap selecting is ∙ ap (λ b. cond (b && not (accepts_empty s)) (selector s) no_selector) meant
+    ∙ ap (λ b. cond (not b) (selector s) no_selector) some ∙ ap selector (sym same)
 
 pub pattern_refused : (t : Tree) (s : List Matcher) → t ≡ instant s → all_compared s ≡ false → SelectsAs t chosen.Refused
 pattern_refused t s is bad = inr (ap may_be_no_selector is ∙ ap not bad)
 
 pub empty_refused : (t : Tree) (s : List Matcher) → t ≡ instant s → accepts_empty s ≡ true → SelectsAs t chosen.Refused
-empty_refused t s is none = inl (ap selecting is ∙ ap (λ b. cond (not b) (selector s) no_selector) none)
+empty_refused t s is none =
+    inl (ap selecting is ∙ ap (λ b. cond (all_meant s && not b) (selector s) no_selector) none
+    ∙ ap (λ b. cond b (selector s) no_selector) (and-false (all_meant s)))
 
 selector_read : (words : List ℕ) (t : Tree) (s : SelectorRead) → SelectsAs t s → IsQuery words t → IsSelectorRead words s
 selector_read words t (chosen.Built ms) h q = (t, (q.parses, h))
@@ -199,7 +203,7 @@ fault_selects_none words (refused_pattern n) h = elim (bool_cases (is_plain_sele
   | inl p ↦ inr (inr (h.0, (h.1.0.parses, ap (λ b. b && may_be_refused h.0) p ∙ own_pattern h.0 n p h.1.1)))
   | inr p ↦ inr (inl (h.0, (h.1.0.parses, other_tree h.0 p)))
 ]
-fault_selects_none words (empty_selector n) h = inr (inl (h.0, (h.1.0.parses, empty_tree h.0 n h.1.1)))
+fault_selects_none words (empty_selector n) h = inr (inl (h.0, (h.1.0.parses, empty_tree h.0 n h.1.1.first)))
 
 pub refused_right : (words : List ℕ) (e : QueryError) → is_some (query_fault e) ≡ true → IsFaultFor words (query_fault e)
     → IsReadAs words (record { query = query.Refused e; selector = chosen.Refused })

@@ -1,5 +1,5 @@
 -- The run of a script: this project's own.
-use Rattle.std.specs.Prelude.{◌≡◌, ℕ, Bool, true, false, Option, List, [], ◌∷◌, ◌++◌, drop}
+use Rattle.std.specs.Prelude.{◌≡◌, ℕ, Option, List, [], ◌∷◌, ◌++◌, drop}
 use Rattle.pf_base.specs.declared.plain.Limits.{Limits}
 use Rattle.pf_core.specs.Cores.{Stands}
 use Rattle.pf_journal.specs.Legal.{AreNames, Legal}
@@ -12,7 +12,7 @@ use Rattle.pf_model.specs.Lists.{Each}
 use Rattle.pf_model.specs.Queries.{Readings}
 use Rattle.pf_script.specs.Lines.{AllFollow, IsRead, lines_of}
 use Rattle.pf_script.specs.declared.script.Script.{Script}
-use Rattle.pf_client.specs.Replays.{HaveMetFull, Held}
+use Rattle.pf_client.specs.Replays.{HaveStopped, Held}
 use Rattle.pf_client.specs.Files.{HaveLast, IsKept, NamesFile}
 use Rattle.pf_client.specs.Going.{IsGoing}
 use Rattle.pf_client.specs.Queries.{AreReadAs, IsKeptFor}
@@ -37,13 +37,8 @@ why_of On = at_end
 why_of Full = at_full
 why_of Starved = at_memory
 
-abbrev pub is_full : LineRun → Bool
-is_full On = false
-is_full Full = true
-is_full Starved = false
-
--- text is the report of a legal journal that is woven from one client's script
-pub record IsReport (limits : Limits) (held : Held) (lines : List Numbered) (full : Bool) (text : List ℕ) : Type 0 where
+-- text is the report of a legal journal that is woven from one client's script, which stopped for this cause
+pub record IsReport (limits : Limits) (held : Held) (lines : List Numbered) (why : Why) (text : List ℕ) : Type 0 where
   pub journal : List Entry
   pub names : List (List ℕ)
   pub readings : Readings
@@ -51,12 +46,12 @@ pub record IsReport (limits : Limits) (held : Held) (lines : List Numbered) (ful
   pub legal : Legal limits names journal
   pub named : AreNames names journal
   pub woven : Weave (record { limits = limits; names = names; files = held; readings = readings }) journal (lines ∷ []) rest
-  pub met : HaveMetFull full rest.clients
+  pub stopped : HaveStopped why rest.clients
   pub whole : text ≡ report (record { limits = limits; names = names; files = held; readings = readings }) journal (lines ∷ []) rest
 
--- the same, whether its client met the full journal or not
+-- the same for any cause
 abbrev pub IsAnyReport : Limits → Held → List Numbered → (text : List ℕ) → Type 0
-IsAnyReport limits held lines text = (full : Bool) × IsReport limits held lines full text
+IsAnyReport limits held lines text = (why : Why) × IsReport limits held lines why text
 
 -- what a client that stopped has still to say: what it holds, the journal and the actors' failed tries
 abbrev pub left_text : Client → List ℕ

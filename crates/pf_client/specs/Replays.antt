@@ -1,8 +1,8 @@
--- What a script names, how its files are read, and whether a client met the full journal: this project's own.
+-- What a script names, how its files are read, and why a run's clients stopped: this project's own.
 use Rattle.std.specs.Prelude.{◌≡◌, ℕ, ◌⊎◌, Bool, true, false, Option, Some, None, List, [], ◌∷◌}
 use Rattle.pf_io.specs.Outside.{Rose, Holds}
 use Rattle.pf_model.specs.Lists.{Each}
-use Rattle.pf_journal.specs.Rest.{Client, at_full}
+use Rattle.pf_journal.specs.Rest.{Client, Why, at_end, at_full, at_memory}
 use Rattle.pf_journal.specs.Scripts.{Line, Numbered, ingest}
 
 -- ---- what files hold
@@ -43,7 +43,13 @@ pub record HasFailed (sure : List ℕ → Bool) (before after : ℕ) (failed : B
 
 -- ---- what a run has
 
--- a client met the full journal, or none did
-abbrev pub HaveMetFull : Bool → List Client → Type 0
-HaveMetFull false clients = Each (λ c. c.why ≡ at_full → ⊥) clients
-HaveMetFull true clients = (Each (λ c. c.why ≡ at_full → ⊥) clients) → ⊥
+-- each client ran its whole script; or one met the full journal; or one lacked memory
+abbrev pub HaveStopped : Why → List Client → Type 0
+HaveStopped at_end clients = Each (λ c. c.why ≡ at_end) clients
+HaveStopped at_full clients = (Each (λ c. c.why ≡ at_full → ⊥) clients) → ⊥
+HaveStopped at_memory clients = (Each (λ c. c.why ≡ at_memory → ⊥) clients) → ⊥
+
+-- why clients that lacked no memory stopped, by whether one met the full journal
+abbrev pub why_by : (full : Bool) → Why
+why_by true = at_full
+why_by false = at_end

@@ -7,10 +7,11 @@ ghost use Rattle.pf_io.specs.Outside.{Grows, Rose};
 ghost use Rattle.pf_journal.specs.Scripts.{Numbered};
 ghost use Rattle.pf_journal.specs.Summaries.{nothing_counted};
 ghost use Rattle.pf_script.specs.Lines.{lines_of};
-ghost use Rattle.pf_client.specs.Drives.{BreaksOff, CanRun, IsAnyReport, IsReport, is_full, left_text, why_of};
+ghost use Rattle.pf_client.specs.Drives.{BreaksOff, CanRun, IsAnyReport, IsReport, left_text, why_of};
 ghost use Rattle.pf_client.specs.Files.{AreHeld};
 ghost use Rattle.pf_client.specs.Going.{HasStopped, IsGoing};
 ghost use Rattle.pf_client.specs.Hands.{HoldsJobs};
+ghost use Rattle.pf_client.specs.Replays.{why_by};
 ghost use Rattle.pf_client.specs.Tallies.{IsCounted};
 ghost use Rattle.pf_client.specs.Sent.{WritesFront, WritesTo};
 ghost use Rattle.pf_client.specs.Written.{Begins, Writes, WritesPart};
@@ -103,13 +104,15 @@ fn run_lines<O: Sink, H: Hop, G: Gate>(
     Ok(LineRun::On)
 }
 
-/// Whether the last line met the full journal.
-fn is_full(stopped: LineRun) -> bool
-    ensures { result ≡ is_full stopped }
+/// Whether the last line met the full journal. One that lacked memory is that error.
+fn met_full(stopped: LineRun) -> Result<bool, ReportError>
+    ensures full { IfOk result (λ full. why_by full ≡ why_of stopped) }
+    ensures starved { result ≢ Err ReportError.WriteFault }
 {
     match stopped {
-        LineRun::On | LineRun::Starved => false,
-        LineRun::Full => true,
+        LineRun::On => Ok(false),
+        LineRun::Full => Ok(true),
+        LineRun::Starved => Err(ReportError::OutOfMemory),
     }
 }
 
@@ -146,7 +149,8 @@ fn write_rest<O: Sink>(client: Client, out: &mut O) -> Result<(), ReportError>
 }
 
 /// Runs a script over what the files that it names hold, and writes the report as it runs, in pieces: whether the client met
-/// the full journal. After an `Err` a front of a report was written, or nothing.
+/// the full journal. After an `Err` a front of a report was written, or nothing. Where a file or a deletion found no memory, the
+/// report is written up to its end, and the answer is want of memory.
 pub fn run_script<O: Sink, H: Hop, G: Gate>(
     alloc: Global,
     limits: Limits,
@@ -159,7 +163,7 @@ pub fn run_script<O: Sink, H: Hop, G: Gate>(
     requires limits { AreLimits limits }
     requires actors { length hops.old ≡ 32 }
     requires can_run { CanRun script.now 0 loaded }
-    ensures written { IfOk result (λ full. (held : List ℕ → List ℕ) → AreHeld held loaded.files → Writes (IsReport limits held (lines_of script.now) full) (O.told out.old) (O.told out.new)) }
+    ensures written { IfOk result (λ full. (held : List ℕ → List ℕ) → AreHeld held loaded.files → Writes (IsReport limits held (lines_of script.now) (why_by full)) (O.told out.old) (O.told out.new)) }
     ensures begun { result ≡ Err ReportError.OutOfMemory → (held : List ℕ → List ℕ) → AreHeld held loaded.files → Begins (IsAnyReport limits held (lines_of script.now)) (O.told out.old) (O.told out.new) }
     ensures broken { result ≡ Err ReportError.WriteFault → (held : List ℕ → List ℕ) → AreHeld held loaded.files → WritesPart (IsAnyReport limits held (lines_of script.now)) (O.told out.old) (O.told out.new) }
     ensures fault { result ≡ Err ReportError.WriteFault → Rose (O.faults out.old) (O.faults out.new) }
@@ -169,5 +173,6 @@ pub fn run_script<O: Sink, H: Hop, G: Gate>(
     let mut client = client_of(alloc, limits, 0, script.is_stepped())?;
     let stopped = run_lines(&mut client, script, &mut loaded, hops, gate, out)?;
     write_rest(client, out)?;
-    Ok(is_full(stopped))
+    let full = met_full(stopped)?;
+    Ok(full)
 }

@@ -5,7 +5,7 @@ ghost use Rattle.std.specs.BTreeMap.{get_by_text};
 ghost use Rattle.pf_model.specs.Parsing.{most_bytes};
 ghost use Rattle.pf_model.specs.Built.{is_evaluated};
 ghost use Rattle.pf_model.specs.Lists.{Each};
-ghost use Rattle.pf_model.specs.Queries.{IsQuery, first_empty, is_plain_selector, is_unmodified};
+ghost use Rattle.pf_model.specs.Queries.{IsBindable, IsQuery, is_plain_selector, is_unmodified};
 ghost use Rattle.pf_model.specs.Trees.{height, instant, size, tree_of};
 ghost use Rattle.pf_print.specs.OwnTexts.{HasText};
 ghost use Rattle.pf_script.specs.Lines.{lines_of, numbered_of};
@@ -107,7 +107,7 @@ fn read_selector(alloc: Global, expr: &Expr) -> Result<SelectorRead, OutOfMemory
 /// What a query with its matchers and patterns is read as.
 #[tactic(auto, using(crate::proofs::TextReads::lawful_right))]
 fn read_bound(alloc: Global, query: BoundQuery) -> Result<QueryRead, OutOfMemory>
-    requires { first_empty query ≡ None }
+    requires { IsBindable query }
     ensures { IfOk result (λ q. (text : List ℕ) → IsQuery text query → IsQueryRead text q) }
 {
     Ok(QueryRead::Lawful(Arc::new(alloc, query)?))

@@ -9,8 +9,8 @@ ghost use Rattle.pf_client.specs.Drives.{CanRun};
 ghost use Rattle.pf_client.specs.Files.{AreHeld, LetsGoOf};
 ghost use Rattle.pf_client.specs.Going.{GoesOnWith, HasStopped, IsGoing, IsReady};
 ghost use Rattle.pf_client.specs.Hands.{HoldsJobs};
-ghost use Rattle.pf_client.specs.Replays.{file_of};
-ghost use Rattle.pf_client.specs.Summaries.{IsSummary, why_by};
+ghost use Rattle.pf_client.specs.Replays.{file_of, why_by};
+ghost use Rattle.pf_client.specs.Summaries.{IsSummary};
 ghost use Rattle.pf_client.specs.Tallies.{Counts, IsCounted, with_answered};
 
 use crate::answers::Answered;

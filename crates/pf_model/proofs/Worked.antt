@@ -11,7 +11,9 @@ use Rattle.pf_model.specs.declared.functions.Sign.TheVariants as operator
 use Rattle.pf_model.specs.declared.expr.Side.TheVariants as side
 use Rattle.pf_model.specs.Built.{is_evaluated}
 use Rattle.pf_model.specs.ErrorTexts.{of_grammar, of_kinds, empty_selector, query_text}
-use Rattle.pf_model.specs.Queries.{CanRefuse, first_empty, may_be_no_selector, may_be_refused, no_selector, selecting, selector}
+use Rattle.pf_match.specs.Meaning.{reading}
+use Rattle.regex.proofs.OnLiterals.{regex_on_literals}
+use Rattle.pf_model.specs.Queries.{CanRefuse, IsFirstEmpty, first_empty, may_be_no_selector, may_be_refused, no_selector, selecting, selector}
 use Rattle.pf_model.specs.Parsing.{bad_token}
 use Rattle.pf_model.specs.Trees.{Tree, instant, no_mods}
 use Rattle.pf_model.specs.Trees as tree
@@ -54,12 +56,22 @@ calls_are_counted = refl
 -- and its pattern may be refused before
 calls_may_be_refused : CanRefuse 0 unclosed
 unfolding unclosed one
-calls_may_be_refused = record { before = refl; node = unclosed; there = refl; pattern = refl }
+calls_may_be_refused = record { meant = refl; before = refl; node = unclosed; there = refl; pattern = refl }
 
--- at one node too the pattern comes before the empty selector: `{a=~"("}`
+-- at one node too: `{a=~"("}`
 pattern_comes_first : CanRefuse 0 (instant (one match.Like (codes "(")))
 unfolding one
-pattern_comes_first = record { before = refl; node = instant (one match.Like (codes "(")); there = refl; pattern = refl }
+pattern_comes_first = record { meant = refl; before = refl; node = instant (one match.Like (codes "(")); there = refl; pattern = refl }
+
+-- `{a!~"("}` accepts the empty text by its sign, but its pattern has no meaning, so it is refused for that
+pattern_before_empty : IsFirstEmpty 0 (instant (one match.NotLike (codes "("))) → ⊥
+unfolding one regex_on_literals reading
+pattern_before_empty h = let wrong : false ≡ true = h.meant in cc
+
+-- nor is it a selector of deletions
+unmeant_is_none : selecting (instant (one match.NotLike (codes "("))) ≡ no_selector
+unfolding one regex_on_literals reading
+unmeant_is_none = refl
 
 -- a plain pattern is never refused
 plain_is_taken : may_be_refused (instant (one match.Like (codes "b"))) ≡ false

@@ -5,9 +5,10 @@ use Rattle.std.proofs.lemmas.Bool.Decides.{nat_tests}
 use Rattle.pf_base.specs.declared.plain.Limits.{Limits}
 use Rattle.pf_io.specs.Outside.{Rose, Holds, Grows, LongerThan, StayKnown}
 use Rattle.pf_model.specs.Exposition.{file_lines}
+use Rattle.pf_journal.specs.Rest.{Why, at_end, at_full}
 use Rattle.pf_journal.specs.Scripts.{Numbered, lines_from, most_bytes, script_of}
 use Rattle.pf_script.specs.Lines.{AllFollow}
-use Rattle.pf_client.specs.Replays.{Agree, HasFailed, Held, Reaches, files_of}
+use Rattle.pf_client.specs.Replays.{Agree, HasFailed, Held, Reaches, files_of, why_by}
 use Rattle.pf_top.specs.Correct.{AllRead, Correct, EndsWell, FilesSeen, IsOutput, IsReported, Outside, Reported, needed, needed_by, script_files}
 use Rattle.pf_client.specs.Drives.{IsAnyReport, IsReport}
 use Rattle.pf_client.specs.Files.{AreHeld, AreLoaded, Contents, HasContent, IsKept, LetsGo, NamesFile, TellsContent}
@@ -108,12 +109,12 @@ replay_failed limits files script bytes name given lines status text holds reach
 
 -- what a run gives, once the script and the files are read, by its report
 run_ended : (limits : Limits) (held : Held) (lines : List Numbered) (full : Bool) (status : ℕ) (text : List ℕ)
-    → status ≡ cond full 8 0 → IsReport limits held lines full text → IsRun limits held lines status text
+    → status ≡ cond full 8 0 → IsReport limits held lines (why_by full) text → IsRun limits held lines status text
 run_ended limits held lines false status text is r = inl (is, r)
 run_ended limits held lines true status text is r = inr (is, r)
 
 pub run_printed : (limits : Limits) (held : Held) (lines : List Numbered) (full : Bool) (status : ℕ) (rest : List ℕ) (old new : Option (List ℕ))
-    → status ≡ cond full 8 0 → rest ≡ [] → Writes (IsReport limits held lines full) old new → Prints (IsRun limits held lines status) old new rest
+    → status ≡ cond full 8 0 → rest ≡ [] → Writes (IsReport limits held lines (why_by full)) old new → Prints (IsRun limits held lines status) old new rest
 run_printed limits held lines full status rest old new is none w =
     (w.0, (run_ended limits held lines full status w.0 is w.1.0, subst (WritesTo old new w.0) (sym none) (writes_all old new w.0 w.1.1)))
 
@@ -135,10 +136,10 @@ module _ (held : Held) (words : List (List ℕ)) (replay : Replay) (is : replay_
   all_read files names is_so found a = subst (AllRead files) (sym is_so) (record { there = (found, a.there); steady = a.steady })
 
   -- the report of the script is that of the words
-  reported_by : (limits : Limits) (files : FilesSeen) (lines : List Numbered) (full : Bool) (text : List ℕ)
+  reported_by : (limits : Limits) (files : FilesSeen) (lines : List Numbered) (why : Why) (text : List ℕ)
       → script_of true (held replay.script) ≡ Ok lines → AllRead files (needed held words)
-      → IsReport (limits_with limits replay) held lines full text → Reported limits files held words full text
-  reported_by limits files lines full text read a r = record {
+      → IsReport (limits_with limits replay) held lines why text → Reported limits files held words why text
+  reported_by limits files lines why text read a r = record {
     all = a;
     replay = replay;
     by_words = is;
@@ -151,14 +152,14 @@ module _ (held : Held) (words : List (List ℕ)) (replay : Replay) (is : replay_
     legal = r.legal;
     named = r.named;
     woven = r.woven;
-    met = r.met;
+    stopped = r.stopped;
     whole = r.whole;
   }
 
   begun_by : (limits : Limits) (files : FilesSeen) (lines : List Numbered) (text : List ℕ)
       → script_of true (held replay.script) ≡ Ok lines → AllRead files (needed held words)
       → IsAnyReport (limits_with limits replay) held lines text → IsReported limits files held words text
-  begun_by limits files lines text read a (full, r) = (full, reported_by limits files lines full text read a r)
+  begun_by limits files lines text read a (why, r) = (why, reported_by limits files lines why text read a r)
 
   -- what comes once the script is read is what comes by the words
   module _ (limits : Limits) (files : FilesSeen) (lines : List Numbered) (status : ℕ) (text : List ℕ)
@@ -167,12 +168,12 @@ module _ (held : Held) (words : List (List ℕ)) (replay : Replay) (is : replay_
     printed_by (inl (a, inl (zero, r))) =
         inl (
           zero,
-          inl (reported_by limits files lines false text read (all_read files (files_of lines) (needed_lines lines read) found a) r),
+          inl (reported_by limits files lines at_end text read (all_read files (files_of lines) (needed_lines lines read) found a) r),
         )
     printed_by (inl (a, inr (eight, r))) =
         inr (inl (
           eight,
-          inl (reported_by limits files lines true text read (all_read files (files_of lines) (needed_lines lines read) found a) r),
+          inl (reported_by limits files lines at_full text read (all_read files (files_of lines) (needed_lines lines read) found a) r),
         ))
     printed_by (inr (four, (file, (reached, (fault, whole))))) =
         inr (inr (inl (
@@ -426,11 +427,11 @@ written_run limits o words status text w grows files_steady out_steady =
 -- what was to be written is what a run may print
 may_print : (limits : Limits) (files : FilesSeen) (held : Held) (words : List (List ℕ)) (status : ℕ) (text : List ℕ)
     → IsPrinted limits files held words status text → IsOutput limits files held words text
-may_print limits files held words status text (inl (is, inl r)) = inl (false, r)
+may_print limits files held words status text (inl (is, inl r)) = inl (at_end, r)
 may_print limits files held words status text (inl (is, inr (inl e))) = inr (inr (inl e))
-may_print limits files held words status text (inl (is, inr (inr s))) = inr (inl (false, s))
-may_print limits files held words status text (inr (inl (is, inl r))) = inl (true, r)
-may_print limits files held words status text (inr (inl (is, inr s))) = inr (inl (true, s))
+may_print limits files held words status text (inl (is, inr (inr s))) = inr (inl (at_end, s))
+may_print limits files held words status text (inr (inl (is, inl r))) = inl (at_full, r)
+may_print limits files held words status text (inr (inl (is, inr s))) = inr (inl (at_full, s))
 may_print limits files held words status text (inr (inr (inl p))) = inr (inr (inr (inr (inl p.1))))
 may_print limits files held words status text (inr (inr (inr (inl p)))) = inr (inr (inr (inr (inr p.1))))
 may_print limits files held words status text (inr (inr (inr (inr p)))) = inr (inr (inr (inl p.1)))

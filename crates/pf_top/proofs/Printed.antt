@@ -26,7 +26,7 @@ use Rattle.pf_report.specs.Bodies.{code_in, text_of_body}
 use Rattle.pf_report.specs.declared.bodies.Body.{Body}
 use Rattle.pf_types.specs.Errors.{words_of_error}
 use Rattle.pf_types.specs.declared.query.QueryError.{QueryError}
-use Rattle.pf_client.specs.Replays.{Held, Reaches}
+use Rattle.pf_client.specs.Replays.{Held, Reaches, why_by}
 use Rattle.pf_top.specs.Correct.{AllRead, FilesSeen, Summarized, needed, needed_by}
 use Rattle.pf_top.specs.Evaluations.{IsFileOutput, IsNamedOutput, IsText}
 use Rattle.pf_client.specs.Files.{HoldsContent, TellsContent}
@@ -124,7 +124,7 @@ module _ (limits : Limits) (files : FilesSeen) (words : List (List ℕ)) (seed s
   no_files held = subst (AllRead files) (sym (needed_words held words None none neither)) (record { there = tt; steady = steady })
 
   summarized : (held : Held) (lines : List Numbered) (full : Bool) → script_of false (session seed).script ≡ Ok lines
-      → IsSum limits (page_in (session seed).files) seed lines full text → Summarized limits files held words full text
+      → IsSum limits (page_in (session seed).files) seed lines full text → Summarized limits files held words (why_by full) text
   summarized held lines full read (t, (sum, whole)) = record {
     all = no_files held;
     seed = seed;
@@ -138,7 +138,7 @@ module _ (limits : Limits) (files : FilesSeen) (words : List (List ℕ)) (seed s
     legal = sum.legal;
     named = sum.named;
     woven = sum.woven;
-    ended = sum.ended;
+    stopped = sum.ended;
     whole = whole ∙ ap (summary_text seed (asks lines)) sum.whole;
   }
 

@@ -14,12 +14,11 @@ use Rattle.pf_journal.specs.Files.{Gives, IsRefusedAs, FileRefusal}
 use Rattle.pf_journal.specs.Legal.{Legal, AreNames, moments}
 use Rattle.pf_journal.specs.Machine.{Entry}
 use Rattle.pf_journal.specs.Report.{report}
-use Rattle.pf_journal.specs.Rest.{Rest}
+use Rattle.pf_journal.specs.Rest.{Rest, Why, at_end, at_full}
 use Rattle.pf_journal.specs.Scripts.{Numbered, script_of}
 use Rattle.pf_journal.specs.Summaries.{asks, summary_text, tally_of}
 use Rattle.pf_journal.specs.Weave.{Weave}
-use Rattle.pf_client.specs.Replays.{Agree, HasFailed, HaveMetFull, Held, Reaches, files_of}
-use Rattle.pf_client.specs.Summaries.{HaveEnded}
+use Rattle.pf_client.specs.Replays.{Agree, HasFailed, HaveStopped, Held, Reaches, files_of}
 use Rattle.pf_client.specs.Written.{Begins, Writes, WritesPart}
 use Rattle.pf_top.specs.Pages.{page_in}
 use Rattle.pf_top.specs.Refusals.{refused_file, refused_not_built, refused_read, refused_script}
@@ -76,8 +75,9 @@ pub record AllRead (files : FilesSeen) (names : List (List ℕ)) : Type 0 where
 
 -- ---- what is printed
 
--- text is the report of a legal journal that is woven from the scripts, within the limits that the words choose
-pub record Reported (limits : Limits) (files : FilesSeen) (held : Held) (words : List (List ℕ)) (full : Bool) (text : List ℕ) : Type 0 where
+-- text is the report of a legal journal that is woven from the scripts, within the limits that the words choose, by clients that
+-- stopped for this cause
+pub record Reported (limits : Limits) (files : FilesSeen) (held : Held) (words : List (List ℕ)) (why : Why) (text : List ℕ) : Type 0 where
   pub all : AllRead files (needed held words)
   pub replay : Replay
   pub by_words : replay_words words ≡ Some replay
@@ -90,12 +90,12 @@ pub record Reported (limits : Limits) (files : FilesSeen) (held : Held) (words :
   pub legal : Legal (limits_with limits replay) names journal
   pub named : AreNames names journal
   pub woven : Weave (record { limits = limits_with limits replay; names = names; files = held; readings = readings }) journal scripts rest
-  pub met : HaveMetFull full rest.clients
+  pub stopped : HaveStopped why rest.clients
   pub whole : text ≡ report (record { limits = limits_with limits replay; names = names; files = held; readings = readings }) journal scripts rest
 
--- the same, whether a client met the full journal or not
+-- the same for any cause
 abbrev pub IsReported : Limits → FilesSeen → Held → List (List ℕ) → List ℕ → Type 0
-IsReported limits files held words text = (full : Bool) × Reported limits files held words full text
+IsReported limits files held words text = (why : Why) × Reported limits files held words why text
 
 -- text is what the evaluation of a query prints over the samples of one file
 pub record Evaluated (files : FilesSeen) (held : Held) (words : List (List ℕ)) (text : List ℕ) : Type 0 where
@@ -109,7 +109,7 @@ pub record Evaluated (files : FilesSeen) (held : Held) (words : List (List ℕ))
   pub whole : text ≡ evaluated_text (batch_samples batch.rows) (asked_with false (grid_of named.start named.end named.step) (Some reading))
 
 -- text sums up the generated session of a seed: a legal journal that is woven from the session's script over its pages
-pub record Summarized (limits : Limits) (files : FilesSeen) (held : Held) (words : List (List ℕ)) (full : Bool) (text : List ℕ) : Type 0 where
+pub record Summarized (limits : Limits) (files : FilesSeen) (held : Held) (words : List (List ℕ)) (why : Why) (text : List ℕ) : Type 0 where
   pub all : AllRead files (needed held words)
   pub seed : ℕ
   pub by_words : load_words words ≡ Some seed
@@ -122,7 +122,7 @@ pub record Summarized (limits : Limits) (files : FilesSeen) (held : Held) (words
   pub legal : Legal limits names journal
   pub named : AreNames names journal
   pub woven : Weave (record { limits = limits; names = names; files = page_in (session seed).files; readings = readings }) journal (lines ∷ []) rest
-  pub ended : HaveEnded full rest.clients
+  pub stopped : HaveStopped why rest.clients
   pub whole : text ≡ summary_text seed (asks lines) (tally_of limits (moments journal))
 
 -- text says at which line an evaluation's file is refused
@@ -159,11 +159,11 @@ Refused files held words text =
 -- what a run to its end prints
 abbrev pub Ended : Limits → FilesSeen → Held → List (List ℕ) → List ℕ → Type 0
 Ended limits files held words text =
-    Reported limits files held words false text ⊎ (Evaluated files held words text ⊎ Summarized limits files held words false text)
+    Reported limits files held words at_end text ⊎ (Evaluated files held words text ⊎ Summarized limits files held words at_end text)
 
 -- what a run prints whose client met the full journal
 abbrev pub Filled : Limits → FilesSeen → Held → List (List ℕ) → List ℕ → Type 0
-Filled limits files held words text = Reported limits files held words true text ⊎ Summarized limits files held words true text
+Filled limits files held words text = Reported limits files held words at_full text ⊎ Summarized limits files held words at_full text
 
 -- text says which file was not read: the first of those that are needed that is lost, or one before it
 pub record Unread (files : FilesSeen) (held : Held) (words : List (List ℕ)) (text : List ℕ) : Type 0 where
@@ -184,7 +184,7 @@ pub record Unbuilt (files : FilesSeen) (held : Held) (words : List (List ℕ)) (
 abbrev pub IsOutput : Limits → FilesSeen → Held → List (List ℕ) → List ℕ → Type 0
 IsOutput limits files held words text =
     IsReported limits files held words text
-    ⊎ (((full : Bool) × Summarized limits files held words full text)
+    ⊎ (((why : Why) × Summarized limits files held words why text)
     ⊎ (Evaluated files held words text
     ⊎ (Refused files held words text ⊎ (Unread files held words text ⊎ Unbuilt files held words text))))
 
@@ -199,7 +199,7 @@ pub record Correct (limits : Limits) (o : Outside) (words : List (List ℕ)) (st
   -- all that follows is over one reading of each file, which gave what is told
   pub held : Held
   pub agree : Agree o.files.told held
-  -- 0: the report was written, and no client met the full journal; or what an evaluation prints, or the sums of a session
+  -- 0: the report was written, and each client ran its whole script; or what an evaluation prints, or the sums of a session
   pub ended : status ≡ 0 → Writes (Ended limits o.files held words) o.old o.new
   -- 3: the script, also a session's, or an evaluation's file was refused
   pub refused : status ≡ 3 → Writes (Refused o.files held words) o.old o.new

@@ -2,6 +2,7 @@
 use Rattle.std.specs.Prelude.{◌≡◌, ℕ, ◌⊎◌, Option, true, false, List}
 use Rattle.pf_base.specs.Limits.{most_entries}
 use Rattle.pf_base.specs.declared.plain.Limits.{Limits}
+use Rattle.pf_journal.specs.Rest.{at_end, at_full}
 use Rattle.pf_journal.specs.Scripts.{Numbered}
 use Rattle.pf_client.specs.Replays.{Agree, HasFailed, Held, Reaches, files_of}
 use Rattle.pf_top.specs.Correct.{AllRead, Ended, Filled, FilesSeen, IsReported, Refused, Unread, Unbuilt}
@@ -42,7 +43,7 @@ pub record IsReportOutput (limits : Limits) (files : FilesSeen) (words : List (L
 -- a text with its status, once the script and the files are read
 abbrev pub IsRun : Limits → Held → List Numbered → ℕ → List ℕ → Type 0
 IsRun limits held lines status text =
-    ((status ≡ 0) × IsReport limits held lines false text) ⊎ ((status ≡ 8) × IsReport limits held lines true text)
+    ((status ≡ 0) × IsReport limits held lines at_end text) ⊎ ((status ≡ 8) × IsReport limits held lines at_full text)
 
 -- a text with its status, once the script is read
 abbrev pub IsScriptOutput : Limits → FilesSeen → Held → List Numbered → ℕ → List ℕ → Type 0

@@ -1,12 +1,13 @@
 -- Going over the counted nodes of a query.
 use Rattle.std.proofs.Common.{◌≡◌, ◌∙◌, sym, ap, subst, refl, arith, ℕ, zero, suc, ◌+◌, ◌<◌, ◌≤◌, ◌||◌, Bool, true, false, true≢false, cond, Some, None, List, [], ◌∷◌, ◌++◌, get_or, length, map, take, append_assoc}
 use Rattle.std.specs.List.{list_any}
+use Rattle.std.specs.Prelude.{◌&&◌}
 use Rattle.std.proofs.lemmas.List.{length-map, map-append, take-map, take_more}
-use Rattle.std.proofs.lemmas.List.Folds.{list_any-append}
+use Rattle.std.proofs.lemmas.List.Folds.{list_all-append, list_any-append}
 use Rattle.pf_model.specs.declared.expr.Matcher.{Matcher}
 use Rattle.pf_model.specs.Binding.{matchers_in, pattern_of, patterns_in}
 use Rattle.pf_model.specs.Lists.{at}
-use Rattle.pf_model.specs.Queries.{CanRefuse, counted, first_empty, first_empty_from, is_empty_selector}
+use Rattle.pf_model.specs.Queries.{CanRefuse, IsBindable, are_meant, counted, first_empty_from, is_empty_selector, is_meant_node}
 use Rattle.pf_model.specs.Trees.{Tree, number, text, unary, binary, call, aggregate, select, size, subquery}
 use Rattle.pf_types.specs.declared.bound.BindError.{BindError}
 use Rattle.pf_types.specs.declared.bound.BindError.TheVariants as bind
@@ -60,6 +61,12 @@ pub none_step : (ts more : List Tree) (t : Tree) → list_any is_empty_selector 
     → list_any is_empty_selector more ≡ false
 none_step ts more t h e m = ap (list_any is_empty_selector) m ∙ empty_append ts t h e
 
+meant_append : (xs : List Tree) (t : Tree) → are_meant xs ≡ true → is_meant_node t ≡ true → are_meant (xs ++ t ∷ []) ≡ true
+meant_append xs t h e = list_all-append is_meant_node xs (t ∷ []) ∙ ap (λ b. b && (is_meant_node t && true)) h ∙ ap (λ b. b && true) e
+
+pub meant_step : (ts more : List Tree) (t : Tree) → are_meant ts ≡ true → is_meant_node t ≡ true → more ≡ ts ++ t ∷ [] → are_meant more ≡ true
+meant_step ts more t h e m = ap are_meant m ∙ meant_append ts t h e
+
 -- ---- the first empty selector
 
 no_first : (n : ℕ) (ts : List Tree) → list_any is_empty_selector ts ≡ false → first_empty_from n ts ≡ None
@@ -70,8 +77,11 @@ no_first n (t ∷ ts) h = by (is_empty_selector t) h (no_first (n + 1) ts) where
   by true g more = absurd (true≢false g)
   by false g more = more g
 
-pub none_empty : (ts : List Tree) (tree : Tree) → list_any is_empty_selector ts ≡ false → ts ≡ counted tree → first_empty tree ≡ None
-none_empty ts tree h is = ap (first_empty_from 0) (sym is) ∙ no_first 0 ts h
+pub bindable : (ts : List Tree) (tree : Tree) → are_meant ts ≡ true → list_any is_empty_selector ts ≡ false → ts ≡ counted tree → IsBindable tree
+bindable ts tree meant h is = record {
+  meant = ap are_meant (sym is) ∙ meant;
+  selects = ap (first_empty_from 0) (sym is) ∙ no_first 0 ts h;
+}
 
 own_place : (n : ℕ) → n ≡ n + zero
 own_place n = omega arith
@@ -105,23 +115,31 @@ from_zero i = omega arith
 
 -- a node that is not bound stands at its number
 pub node_fault : {X : Type 0} (f : X → Tree) (xs : List X) (i which : ℕ) (x : X) (e : BindError)
-    → i < length xs → x ≡ get_or xs i x → which ≡ i → list_any is_empty_selector (map f (take i xs)) ≡ false
+    → i < length xs → x ≡ get_or xs i x → which ≡ i → are_meant (map f (take i xs)) ≡ true → list_any is_empty_selector (map f (take i xs)) ≡ false
     → IsNodeFault which (f x) e → (tree : Tree) → map f xs ≡ counted tree → IsBindFault tree e
-node_fault f xs i which x (bind.Pattern n) h is w none fault tree all =
+node_fault f xs i which x (bind.Pattern n) h is w meant none fault tree all =
     let k : n ≡ i = fault.0 ∙ w in
     subst (λ (m : ℕ). CanRefuse m tree) (sym k) (record {
+      meant = ap (λ ts. are_meant (take i ts)) (sym all) ∙ ap are_meant (take-map f i xs) ∙ meant;
       before = ap (λ ts. list_any is_empty_selector (take i ts)) (sym all) ∙ ap (list_any is_empty_selector) (take-map f i xs) ∙ none;
       node = f x;
       there = ap (λ ts. at ts i) (sym all) ∙ at_map f xs i x h ∙ ap (λ y. Some (f y)) (sym is);
       pattern = fault.1;
     })
-node_fault f xs i which x (bind.Empty n) h is w none fault tree all =
+node_fault f xs i which x (bind.Empty n) h is w meant none fault tree all =
     let k : 0 + i ≡ n = sym (fault.0 ∙ w ∙ from_zero i) in
-    ap (first_empty_from 0) (sym all)
-    ∙ first_at 0 i (map f xs) (f x) (ap (list_any is_empty_selector) (take-map f i xs) ∙ none)
-    (at_map f xs i x h ∙ ap (λ y. Some (f y)) (sym is)) fault.1
-    ∙ ap Some k
-node_fault f xs i which x bind.OutOfMemory h is w none fault tree all = tt
+    let m : i ≡ n = sym (fault.0 ∙ w) in
+    record {
+      meant =
+          ap (λ j. are_meant (take (j + 1) (counted tree))) (sym m) ∙ ap (λ ts. are_meant (take (i + 1) ts)) (sym all)
+          ∙ ap are_meant (take-map f (i + 1) xs) ∙ meant_step (map f (take i xs)) _ (f x) meant fault.1.0 (one_more f xs i x h is);
+      first =
+          ap (first_empty_from 0) (sym all)
+          ∙ first_at 0 i (map f xs) (f x) (ap (list_any is_empty_selector) (take-map f i xs) ∙ none)
+          (at_map f xs i x h ∙ ap (λ y. Some (f y)) (sym is)) fault.1.1
+          ∙ ap Some k;
+    }
+node_fault f xs i which x bind.OutOfMemory h is w meant none fault tree all = tt
 
 -- ---- how many nodes are counted
 

@@ -13,8 +13,9 @@ use Rattle.pf_model.specs.declared.functions.AggOp.{AggOp}
 use Rattle.pf_model.specs.declared.functions.InstantFn.TheVariants as function
 use Rattle.pf_model.specs.Binding.{fifth_text, matchers_in, pattern_of, patterns_in}
 use Rattle.pf_model.specs.Clauses.{Grouped, Matched}
-use Rattle.pf_model.specs.Queries.{counted, counted_in, is_counted, is_label_replace}
-use Rattle.pf_model.specs.Trees.{Tree, Trees, number, text, unary, binary, call, aggregate, select, subquery, more, preorder, all_preorder, size, tree_of, trees_of}
+use Rattle.pf_match.specs.Meaning.{is_pattern}
+use Rattle.pf_model.specs.Queries.{counted, counted_in, is_counted, is_fifth_meant, is_label_replace, is_meant_node}
+use Rattle.pf_model.specs.Trees.{Tree, Trees, number, text, unary, binary, call, aggregate, select, subquery, more, none, preorder, all_preorder, size, tree_of, trees_of}
 use Rattle.pf_model.proofs.PreorderSizes.{preorder_size}
 use Rattle.pf_model.proofs.TreeOf.{number_tree, text_tree, unary_tree, binary_tree, call_tree, aggregate_tree, select_tree, subquery_tree}
 use Rattle.pf_types.specs.Counted.{all_counted, text_in}
@@ -212,3 +213,38 @@ no_fifth (a ∷ (b ∷ [])) h = refl
 no_fifth (a ∷ (b ∷ (c ∷ []))) h = refl
 no_fifth (a ∷ (b ∷ (c ∷ (d ∷ [])))) h = refl
 no_fifth (a ∷ (b ∷ (c ∷ (d ∷ (e ∷ es))))) h = absurd (omega (arith, h))
+
+-- ---- its meaning
+
+-- what is said of it is said of the string that stands there
+fifth_by : (args : Trees) → ((p : List ℕ) → fifth_text args ≡ p ∷ [] → is_pattern p ≡ true) → is_fifth_meant args ≡ true
+fifth_by none h = refl
+fifth_by (more a none) h = refl
+fifth_by (more a (more b none)) h = refl
+fifth_by (more a (more b (more c none))) h = refl
+fifth_by (more a (more b (more c (more d none)))) h = refl
+fifth_by (more a (more b (more c (more d (more (number v) ts))))) h = refl
+fifth_by (more a (more b (more c (more d (more (text s) ts))))) h = h s refl
+fifth_by (more a (more b (more c (more d (more (unary m e) ts))))) h = refl
+fifth_by (more a (more b (more c (more d (more (binary op m l r) ts))))) h = refl
+fifth_by (more a (more b (more c (more d (more (call f args) ts))))) h = refl
+fifth_by (more a (more b (more c (more d (more (aggregate op g args) ts))))) h = refl
+fifth_by (more a (more b (more c (more d (more (select ms range mods) ts))))) h = refl
+fifth_by (more a (more b (more c (more d (more (subquery e range resolution mods) ts))))) h = refl
+
+meant_by : (b fifth : Bool) → fifth ≡ true → cond b fifth true ≡ true
+meant_by true fifth h = h
+meant_by false fifth h = refl
+
+pub fifth_meant : (f : Function) (args : Trees) (p : List ℕ) → fifth_text args ≡ p ∷ [] → is_pattern p ≡ true → is_meant_node (call f args) ≡ true
+fifth_meant f args p e h = meant_by (is_label_replace f) (is_fifth_meant args) (fifth_by args (λ q g. same q (sym e ∙ g))) where
+  same : (q : List ℕ) → p ∷ [] ≡ q ∷ [] → is_pattern q ≡ true
+  same q g = let is : p ≡ q = cc in ap is_pattern (sym is) ∙ h
+
+pub no_fifth_meant : (f : Function) (args : Trees) → fifth_text args ≡ [] → is_meant_node (call f args) ≡ true
+no_fifth_meant f args e = meant_by (is_label_replace f) (is_fifth_meant args) (fifth_by args (λ q g. absurd (none_is q (sym e ∙ g)))) where
+  none_is : (q : List ℕ) → [] ≡ q ∷ [] → ⊥
+  none_is q g = cc
+
+pub other_meant : (f : Function) (args : Trees) → is_label_replace f ≡ false → is_meant_node (call f args) ≡ true
+other_meant f args h = ap (λ b. cond b (is_fifth_meant args) true) h

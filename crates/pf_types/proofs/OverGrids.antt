@@ -21,7 +21,7 @@ use Rattle.pf_model.specs.Binding.{patterns_of, selectors_of}
 use Rattle.pf_model.specs.Built.{are_arguments, are_evaluated, are_near, is_distance, is_evaluated, is_lawful_call, is_range, is_range_argument, is_resolution, is_string, is_time, name_labels}
 use Rattle.pf_model.specs.Canonical.{canonical}
 use Rattle.pf_model.specs.Evaluation.{resolution_or_minute}
-use Rattle.pf_model.specs.Queries.{IsQuery, first_empty}
+use Rattle.pf_model.specs.Queries.{IsBindable, IsQuery}
 use Rattle.pf_model.specs.Resolving.{resolved}
 use Rattle.pf_model.specs.Trees as tree
 use Rattle.pf_model.specs.Trees.{Tree, Trees, height}
@@ -156,7 +156,7 @@ same_kind start end (tree.subquery arg range resolution mods) = refl
 -- ---- bound, and put over a grid
 
 pub is_bound : (t : Tree) (matchers : List (List Matcher)) (patterns : List (List ℕ)) (kind : Kind)
-    → HasText t → is_evaluated t ≡ true → height t ≤ 64 → kind ≡ kind_of t → matchers ≡ selectors_of t → patterns ≡ patterns_of t → first_empty t ≡ None
+    → HasText t → is_evaluated t ≡ true → height t ≤ 64 → kind ≡ kind_of t → matchers ≡ selectors_of t → patterns ≡ patterns_of t → IsBindable t
     → IsBound t matchers patterns kind
 is_bound t matchers patterns kind written evaluated low typed selectors replacements selects = record {
   written = written;

@@ -1,12 +1,12 @@
 -- When a query is asked, what is known of a bound query, and what its text asks: this project's own.
-use Rattle.std.specs.Prelude.{◌≡◌, ◌≤◌, ◌<◌, ℕ, Bool, true, false, None, List}
+use Rattle.std.specs.Prelude.{◌≡◌, ◌≤◌, ◌<◌, ℕ, Bool, true, false, List}
 use Rattle.pf_base.specs.GridLists.{GridData}
 use Rattle.pf_journal.specs.Asking.{Asked, asked_over}
 use Rattle.pf_model.specs.declared.expr.Kind.{Kind}
 use Rattle.pf_model.specs.declared.expr.Matcher.{Matcher}
 use Rattle.pf_model.specs.Binding.{patterns_of, selectors_of}
 use Rattle.pf_model.specs.Built.{is_evaluated}
-use Rattle.pf_model.specs.Queries.{IsReading, first_empty, lawful}
+use Rattle.pf_model.specs.Queries.{IsBindable, IsReading, lawful}
 use Rattle.pf_model.specs.Trees.{Tree, height}
 use Rattle.pf_model.specs.Typing.{admits, kind_of, scalar_or_instant}
 use Rattle.pf_print.specs.OwnTexts.{HasText}
@@ -28,7 +28,8 @@ abbrev pub IsWhen : When → Type 0
 IsWhen (when.Range grid) = 0 < grid.step
 IsWhen (when.Instant grid) = grid.step ≡ 0
 
--- a query that some text derives and that is evaluated, whose times are small, with its matchers, its patterns and its kind, without an empty selector
+-- a query that some text derives and that is evaluated, whose times are small, with its matchers, its patterns and its kind, whose
+-- patterns have a meaning, without an empty selector
 pub record IsBound (tree : Tree) (matchers : List (List Matcher)) (patterns : List (List ℕ)) (kind : Kind) : Type 0 where
   pub written : HasText tree
   pub evaluated : is_evaluated tree ≡ true
@@ -38,7 +39,7 @@ pub record IsBound (tree : Tree) (matchers : List (List Matcher)) (patterns : Li
   pub wanted : admits scalar_or_instant kind ≡ true
   pub selectors : matchers ≡ selectors_of tree
   pub replacements : patterns ≡ patterns_of tree
-  pub selects : first_empty tree ≡ None
+  pub selects : IsBindable tree
 
 -- the same with a grid's range put in, without what follows from it
 pub record IsPutIn (tree : Tree) (matchers : List (List Matcher)) (patterns : List (List ℕ)) (kind : Kind) : Type 0 where

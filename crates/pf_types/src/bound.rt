@@ -1,12 +1,13 @@
 //! Queries with the matchers of their selectors and the patterns of their calls.
 
-ghost use Rattle.std.specs.Prelude.{◌≡◌, ◌++◌, ◌∷◌, ◌≤◌, [], IfErr, IfOk, MatchOption, None, OnOk, cond, false, length, map, true};
+ghost use Rattle.std.specs.Prelude.{◌≡◌, ◌++◌, ◌∷◌, ◌≤◌, [], IfErr, IfOk, MatchOption, OnOk, cond, false, length, map, true};
 ghost use Rattle.std.specs.List.{list_any};
 ghost use Rattle.pf_model.specs.Binding.{fifth_text, matchers_in, pattern_of, patterns_in, patterns_of, selectors_of};
-ghost use Rattle.pf_model.specs.Queries.{counted, first_empty, is_empty_selector, is_label_replace};
-ghost use Rattle.pf_model.specs.Selection.{accepts_empty};
+ghost use Rattle.pf_match.specs.Meaning.{is_pattern};
+ghost use Rattle.pf_model.specs.Queries.{IsBindable, are_meant, counted, is_empty_selector, is_label_replace, is_meant_node};
+ghost use Rattle.pf_model.specs.Selection.{accepts_empty, all_meant};
 ghost use Rattle.pf_model.specs.Built.{is_evaluated};
-ghost use Rattle.pf_model.specs.Trees.{Tree, height, instant, size, tree_of, trees_of};
+ghost use Rattle.pf_model.specs.Trees.{Tree, call, height, instant, size, tree_of, trees_of};
 ghost use Rattle.pf_print.specs.OwnTexts.{HasText};
 ghost use Rattle.pf_types.specs.Counted.{IsBindFault, IsCallFault, IsNodeFault, all_counted, text_in};
 
@@ -19,7 +20,8 @@ use std::marker::Model;
 use std::sync::Arc;
 
 /// A query that the evaluator does, the matchers of its selectors and the patterns of its calls of `label_replace`, each in
-/// preorder, and its kind, which is scalar or instant. It has at most 64 levels, and no selector that accepts the empty text.
+/// preorder, and its kind, which is scalar or instant. It has at most 64 levels, no pattern without a meaning, and no selector that
+/// accepts the empty text.
 /// Contracts see it as its tree.
 #[derive(Drop)]
 pub struct BoundQuery {
@@ -164,6 +166,7 @@ fn push_selector(
     selector: &Selector,
 ) -> Result<(), BindError>
     ensures added { OnOk result (found.new.items ≡ found.old.items ++ selector.now ∷ []) }
+    ensures meant { OnOk result (all_meant selector.now ≡ true) }
     ensures selects { OnOk result (accepts_empty selector.now ≡ false) }
     ensures fault { IfErr result (IsNodeFault which (instant selector.now)) }
 {
@@ -185,6 +188,7 @@ fn push_pattern(
     text: &Text,
 ) -> Result<(), BindError>
     ensures added { OnOk result (found.new.items ≡ found.old.items ++ text.now ∷ []) }
+    ensures read { OnOk result (is_pattern text.now ≡ true) }
     ensures fault { IfErr result (IsCallFault which true) }
 {
     match Pattern::build(alloc, text.as_str()) {
@@ -220,7 +224,7 @@ fn fifth_text(args: &[Expr]) -> Option<&Text>
 }
 
 /// Adds the pattern of a call, whose number this is.
-#[tactic(auto, using(crate::proofs::CountedNodes::own_pattern, crate::proofs::CountedNodes::other_pattern))]
+#[tactic(auto, using(crate::proofs::CountedNodes::own_pattern, crate::proofs::CountedNodes::other_pattern, crate::proofs::CountedNodes::other_meant, crate::proofs::CountedNodes::fifth_meant, crate::proofs::CountedNodes::no_fifth_meant))]
 fn push_pattern_of(
     alloc: Global,
     found: &mut Vec<Pattern>,
@@ -229,6 +233,7 @@ fn push_pattern_of(
     args: &[Expr],
 ) -> Result<(), BindError>
     ensures added { OnOk result (found.new.items ≡ found.old.items ++ pattern_of function (trees_of (map tree_of args.now))) }
+    ensures meant { OnOk result (is_meant_node (call function (trees_of (map tree_of args.now))) ≡ true) }
     ensures fault { IfErr result (IsCallFault which (is_label_replace function)) }
 {
     if !is_label_replace(function) {
@@ -250,6 +255,7 @@ fn push_parts(
 ) -> Result<(), BindError>
     ensures selectors { OnOk result (selectors.new.items ≡ selectors.old.items ++ matchers_in (tree_of node.now ∷ [])) }
     ensures patterns { OnOk result (patterns.new.items ≡ patterns.old.items ++ patterns_in (tree_of node.now ∷ [])) }
+    ensures meant { OnOk result (is_meant_node (tree_of node.now) ≡ true) }
     ensures selects { OnOk result (is_empty_selector (tree_of node.now) ≡ false) }
     ensures fault { IfErr result (IsNodeFault which (tree_of node.now)) }
 {
@@ -272,6 +278,7 @@ fn parts_of(alloc: Global, nodes: &[&Expr]) -> Result<Parts, BindError>
     requires { length nodes.now ≤ 4294967295 }
     ensures selectors { IfOk result (λ p. p.selectors.items ≡ matchers_in (map (λ e. tree_of e.now) nodes.now)) }
     ensures patterns { IfOk result (λ p. p.patterns.items ≡ patterns_in (map (λ e. tree_of e.now) nodes.now)) }
+    ensures meant { OnOk result (are_meant (map (λ e. tree_of e.now) nodes.now) ≡ true) }
     ensures select { OnOk result (list_any is_empty_selector (map (λ e. tree_of e.now) nodes.now) ≡ false) }
     ensures fault { IfErr result (λ e. (tree : Tree) → map (λ n. tree_of n.now) nodes.now ≡ counted tree → IsBindFault tree e) }
 {
@@ -287,12 +294,12 @@ fn parts_of(alloc: Global, nodes: &[&Expr]) -> Result<Parts, BindError>
 }
 
 /// What the counted nodes of a query have.
-#[tactic(auto, using(crate::proofs::CountedNodes::counted_size, crate::proofs::CountedNodes::counted_matchers, crate::proofs::CountedNodes::counted_patterns, crate::proofs::BindSteps::none_empty))]
+#[tactic(auto, using(crate::proofs::CountedNodes::counted_size, crate::proofs::CountedNodes::counted_matchers, crate::proofs::CountedNodes::counted_patterns, crate::proofs::BindSteps::bindable))]
 fn query_parts(alloc: Global, expr: &Expr) -> Result<Parts, BindError>
     requires { size (tree_of expr.now) ≤ 4294967295 }
     ensures selectors { IfOk result (λ p. p.selectors.items ≡ selectors_of (tree_of expr.now)) }
     ensures patterns { IfOk result (λ p. p.patterns.items ≡ patterns_of (tree_of expr.now)) }
-    ensures selects { OnOk result (first_empty (tree_of expr.now) ≡ None) }
+    ensures selects { OnOk result (IsBindable (tree_of expr.now)) }
     ensures fault { IfErr result (IsBindFault (tree_of expr.now)) }
 {
     let nodes = counted(alloc, expr)?;
@@ -309,7 +316,7 @@ pub fn bind(alloc: Global, expr: Expr) -> Result<BoundQuery, BindError>
     requires low { height (tree_of expr) ≤ 64 }
     requires evaluated { is_evaluated (tree_of expr) ≡ true }
     ensures bound { IfOk result (λ b. b ≡ tree_of expr) }
-    ensures selects { OnOk result (first_empty (tree_of expr) ≡ None) }
+    ensures selects { OnOk result (IsBindable (tree_of expr)) }
     ensures fault { IfErr result (IsBindFault (tree_of expr)) }
 {
     let Parts {

@@ -1,8 +1,9 @@
-use Rattle.std.proofs.Common.{rules, inl, inr, refl}
+use Rattle.std.proofs.Common.{rules, inl, inr, []}
 use Rattle.pf_script.specs.Lines.{lines_of}
 use Rattle.pf_client.proofs.Reports.{short_script}
 use Rattle.pf_client.proofs.Sending.{begun_short, report_begun, report_written}
 use Rattle.pf_client.proofs.Writing.{grows_none}
+use Rattle.pf_client.specs.Replays.{why_by}
 use Rattle.pf_client.proofs.drive.run_script.Goals as goal
 
 pub returns-in_err-client-clause-begun : goal.returns-in_err-client-clause-begun
@@ -23,20 +24,28 @@ returns-in_err-stopped-clause-begun g c is held are =
 pub returns-in_err-write_rest-clause-broken : goal.returns-in_err-write_rest-clause-broken
 returns-in_err-write_rest-clause-broken g c is held are =
     report_begun c.args.limits c.args.loaded (lines_of c.args.script.now) held are c.requires.can_run.right (short_script c.args.script.now (search rules))
-    c.in_ok-stopped.stopped _ (g.O.Sink.told c.args.out.now) (g.O.Sink.told c.run_lines.new.out) (g.O.Sink.told c.write_rest.new.out) c.run_lines.new.client (search rules) (search rules)
-    (c.in_ok-stopped.ensures.stopped c.args.limits (c.in_ok-client.ensures.going c.args.loaded (lines_of c.args.script.now))) refl
+    c.in_ok-stopped.stopped (g.O.Sink.told c.args.out.now) (g.O.Sink.told c.run_lines.new.out) (g.O.Sink.told c.write_rest.new.out) c.run_lines.new.client (search rules) (search rules)
+    (c.in_ok-stopped.ensures.stopped c.args.limits (c.in_ok-client.ensures.going c.args.loaded (lines_of c.args.script.now)))
     c.in_err-write_rest.ensures.begun
 
 pub returns-in_err-write_rest-clause-begun : goal.returns-in_err-write_rest-clause-begun
 returns-in_err-write_rest-clause-begun g c is held are =
     inr (report_begun c.args.limits c.args.loaded (lines_of c.args.script.now) held are c.requires.can_run.right (short_script c.args.script.now (search rules))
-    c.in_ok-stopped.stopped _ (g.O.Sink.told c.args.out.now) (g.O.Sink.told c.run_lines.new.out) (g.O.Sink.told c.write_rest.new.out) c.run_lines.new.client (search rules) (search rules)
-    (c.in_ok-stopped.ensures.stopped c.args.limits (c.in_ok-client.ensures.going c.args.loaded (lines_of c.args.script.now))) refl
+    c.in_ok-stopped.stopped (g.O.Sink.told c.args.out.now) (g.O.Sink.told c.run_lines.new.out) (g.O.Sink.told c.write_rest.new.out) c.run_lines.new.client (search rules) (search rules)
+    (c.in_ok-stopped.ensures.stopped c.args.limits (c.in_ok-client.ensures.going c.args.loaded (lines_of c.args.script.now)))
     c.in_err-write_rest.ensures.begun)
+
+pub returns-in_err-full-clause-begun : goal.returns-in_err-full-clause-begun
+returns-in_err-full-clause-begun g c is held are =
+    inr (report_begun c.args.limits c.args.loaded (lines_of c.args.script.now) held are c.requires.can_run.right (short_script c.args.script.now (search rules))
+    c.in_ok-stopped.stopped (g.O.Sink.told c.args.out.now) (g.O.Sink.told c.run_lines.new.out) (g.O.Sink.told c.write_rest.new.out) c.run_lines.new.client (search rules) (search rules)
+    (c.in_ok-stopped.ensures.stopped c.args.limits (c.in_ok-client.ensures.going c.args.loaded (lines_of c.args.script.now)))
+    ([], c.in_ok-write_rest.ensures.written))
 
 pub returns-clause-written : goal.returns-clause-written
 returns-clause-written g c held are =
     report_written c.args.limits c.args.loaded (lines_of c.args.script.now) held are c.requires.can_run.right (short_script c.args.script.now (search rules))
-    c.in_ok-stopped.stopped c.is_full.result (g.O.Sink.told c.args.out.now) (g.O.Sink.told c.run_lines.new.out) (g.O.Sink.told c.write_rest.new.out) c.run_lines.new.client (search rules) (search rules)
-    (c.in_ok-stopped.ensures.stopped c.args.limits (c.in_ok-client.ensures.going c.args.loaded (lines_of c.args.script.now))) (search rules)
+    c.in_ok-stopped.stopped (g.O.Sink.told c.args.out.now) (g.O.Sink.told c.run_lines.new.out) (g.O.Sink.told c.write_rest.new.out) c.run_lines.new.client (search rules) (search rules)
+    (c.in_ok-stopped.ensures.stopped c.args.limits (c.in_ok-client.ensures.going c.args.loaded (lines_of c.args.script.now)))
+    (why_by c.in_ok-full.full) c.in_ok-full.ensures.full
     c.in_ok-write_rest.ensures.written
