@@ -1,5 +1,6 @@
 -- How a duration's text is taken apart from the left: this project's own. The private functions of the reader compute
--- these; what the reader answers is said by the grammar of DurationTexts alone.
+-- these; what the reader answers is said by the grammar of DurationTexts. The durations among the program's words are read by these,
+-- which a lemma ties to the grammar.
 use Rattle.std.specs.Prelude.{ℕ, ◌+◌, ◌*◌, ◌&&◌, ◌||◌, Bool, List, [], ◌∷◌, length, cond, nat_eq, nat_lt, Result, Ok, Err}
 use Rattle.std.specs.Str.{bytes_eq}
 use Rattle.std.specs.Char.{is_ascii_digit}

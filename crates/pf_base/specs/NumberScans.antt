@@ -1,5 +1,5 @@
 -- How a number's text is taken apart from the left: this project's own. The private functions of the reader compute these;
--- what the reader answers is said by the grammar of NumberTexts alone.
+-- what the reader answers is said by the grammar of NumberTexts. Of this the claim needs the digits that durations begin with.
 use Rattle.std.specs.Prelude.{ℕ, ℤ, pos, neg_ℤ, ◌+◌, ◌-◌, ◌*◌, ◌^◌, ◌&&◌, ◌||◌, Bool, true, false, min, List, [], ◌∷◌, length, map, take, cond, nat_eq, nat_le, nat_lt, codes, Option, Some, None, Result, Ok, Err}
 use Rattle.std.specs.Str.{bytes_eq}
 use Rattle.std.specs.Char.{to_ascii_lowercase, is_ascii_digit}

@@ -49,8 +49,7 @@ accepts ms labels = list_all (λ m. holds m.sign (value_of labels m.label) m.tex
 abbrev pub accepts_empty : List Matcher → Bool
 accepts_empty ms = list_all (λ m. holds m.sign [] m.text) ms
 
--- the look-back, in milliseconds
--- a row's time lies in (from, to], and in (t - look-back, t]
+-- a row's time lies in (from, to], and in (t - look-back, t], in milliseconds
 abbrev pub is_within : ℤ → ℤ → Row → Bool
 is_within from to r = int_lt from (pos r.time) && int_le (pos r.time) to
 
