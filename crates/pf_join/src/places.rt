@@ -180,7 +180,9 @@ impl KeyPlaces {
     /// The places of a key in their order, and how many places have lesser keys. So many as are told are tried first: those
     /// that were found of the key before are near, where keys come in order.
     pub fn with_key(&self, key: &Labels, near: usize) -> (&[KeyPlace], usize)
-        ensures { result.0.now ≡ places_with key.now self.now }
+        ensures places { result.0.now ≡ places_with key.now self.now }
+        ensures within { result.1 ≤ length self.now }
+        ensures lesser { drop result.1 self.now ≡ filter (λ x. not (is_lt (labels_cmp x.key key.now))) self.now }
     {
         let count = lesser(&self.entries, key, near);
         let entries = behind(&self.entries, count);

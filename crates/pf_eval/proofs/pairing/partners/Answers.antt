@@ -7,4 +7,4 @@ pub returns : goal.returns
 returns c m e =
     let key = c.args.key.now in
     let cs = c.args.columns.now in
-    c.in_ok-found.ensures ∙ ap (those_at cs) (c.with_key-near.ensures ∙ ap (places_with key) e) ∙ partners_found m key cs
+    c.in_ok-found.ensures ∙ ap (those_at cs) (c.with_key-near.ensures.places ∙ ap (places_with key) e) ∙ partners_found m key cs

@@ -6,8 +6,8 @@ use Rattle.pf_join.specs.KeyPlaces.{key_of}
 use Rattle.pf_join.proofs.Finding.{found_is}
 use Rattle.pf_join.proofs.places.KeyPlaces.with_key.Goals as goal
 
-pub returns : goal.returns
-returns c =
+pub returns-clause-places : goal.returns-clause-places
+returns-clause-places c =
     let k = c.args.key.now in
     let all : c.deref.result.now ≡ c.args.self.now = search rules in
     let again : c.deref-2.result.now ≡ c.deref.result.now = search rules in
