@@ -47,7 +47,7 @@ use Rattle.pf_core.specs.Entries.{entry_of}
 use Rattle.pf_core.specs.Divisions.{IsPlannedFirst}
 use Rattle.pf_core.specs.Jobs.{AreDivided, IsForAsk, IsLegsOf, IsRunOf, IsValueOver, QueueHeads, by_tenant, failures_after, legs_asked, planned_heads}
 use Rattle.pf_core.specs.Progress as progress
-use Rattle.pf_core.specs.Progress.{QueryProgress, begun, cancel_in, exhausted, planned, progress_at, tried_in, tried_once, with_progress}
+use Rattle.pf_core.specs.Progress.{GoesWithPlan, QueryProgress, begun, cancel_in, exhausted, planned, progress_at, tried_in, tried_once, with_progress}
 use Rattle.pf_core.specs.States.{AreCounts, IsAhead, IsEntryOf, IsOutstanding, IsState, IsWorkOf, JobStands, KeepsFailures, KeepsHistory, core_of, far_of, heads_in, machine_in, progress_of}
 use Rattle.pf_core.specs.declared.state.State.{State}
 use Rattle.pf_core.proofs.Asked.{asked_open}
@@ -440,7 +440,7 @@ stored_state old new held part h k f t stands is stored =
     (stored_value old held part stored.work a.opened stands is same stored.held_of a.is.work) in
     state_beside old new h k f.results t (counts_as old new f h.counts)
     (outstanding_set l held.head.query (machine_in old).queries a.opened _ (entry_in old.table) (entry_in new.table) h.jobs.outstanding a.there
-    (record { tenant = a.is.tenant; stop = a.is.stop; work = work }) stored.entries)
+    (record { tenant = a.is.tenant; stop = a.is.stop; stopped_when = a.is.stopped_when; work = work }) stored.entries)
     (jobs_with (map entry_of old.journal.items) l held.head.tenant (waiting_of old.table) (waiting_of new.table) (waiting_of old.table held.head.tenant)
     h.jobs.waiting_for stored.queues.waiting (h.jobs.waiting_for held.head.tenant) (λ v d. (stored.queues.others v d).waiting))
     (covered_beside old new h k f stored.tried)
@@ -455,17 +455,31 @@ stop_other (Some first) (Exhausted job) e = refl
 stop_other None Starved e = refl
 stop_other (Some first) Starved e = refl
 
+-- a stop behind another one is the other one, but for a cancel
+goes_after : (stop : Option Stop) (why : Stop) (planned : Bool) → cancel_in (Some why) ≡ None → GoesWithPlan stop planned → GoesWithPlan (Some why) planned
+    → GoesWithPlan (Some (stop_after stop why)) planned
+goes_after stop (Cancelled place) planned e g h = cc
+goes_after None (Exhausted job) planned e g h = h
+goes_after (Some first) (Exhausted job) planned e g h = g
+goes_after None Starved planned e g h = tt
+goes_after (Some first) Starved planned e g h = g
+
 pub stopped_state : (old new : State) (query : ℕ) (why : Stop) (d : EntryData) (hands : List Hand) → IsState old → KeepsHistory old new → new.results ≡ old.results → IsTable new.table
     → AreCounts new.failed.items new.total
-    → entry_in old.table query ≡ Some d → cancel_in (Some why) ≡ None
+    → entry_in old.table query ≡ Some d → cancel_in (Some why) ≡ None → GoesWithPlan (Some why) (is_planned d.work)
     → ((q : ℕ) → entry_in new.table q ≡ cond (nat_eq query q) (Some (stopped why d)) (entry_in old.table q))
     → table.AreLeft old.table d.tenant query hands new.table → AreCovered (core_of new) → IsState new
-stopped_state old new query why d hands h k same t counts there other entries left covered =
+stopped_state old new query why d hands h k same t counts there other when entries left covered =
     let l = old.limits in
     let a = ask_of old query d h there in
     state_beside old new h k same t counts
     (outstanding_set l query (machine_in old).queries a.opened (stopped why d) (entry_in old.table) (entry_in new.table) h.jobs.outstanding a.there
-    (record { tenant = a.is.tenant; stop = stop_other d.stop why other ∙ a.is.stop; work = a.is.work }) entries)
+    (record {
+      tenant = a.is.tenant;
+      stop = stop_other d.stop why other ∙ a.is.stop;
+      stopped_when = goes_after d.stop why (is_planned d.work) other a.is.stopped_when when;
+      work = a.is.work;
+    }) entries)
     (jobs_with (map entry_of old.journal.items) l d.tenant (waiting_of old.table) (waiting_of new.table) _ h.jobs.waiting_for left.waiting
     (each_filter _ (is_other_job query) (waiting_of old.table d.tenant) (h.jobs.waiting_for d.tenant)) (λ v x. (left.others v x).waiting)) covered
 
@@ -596,7 +610,7 @@ pub exhausted_state : (old new : State) (held : Held) (job : ℕ) → IsState ol
     → IsAhead (core_of old) → table.IsExhausted old.table held job new.table → IsState new
 exhausted_state old new held job h k f t ahead e =
     stopped_state old new held.head.query (Exhausted job) _ (without_hand (hand_of held) (hands_of old.table held.head.tenant)) h k f.results t (counts_as old new f h.counts)
-    e.held_of.entry refl e.entries e.queues (covered_once old new held.head.query h k f ahead e.tried)
+    e.held_of.entry refl refl e.entries e.queues (covered_once old new held.head.query h k f ahead e.tried)
 
 pub exhausted_core : (old new : State) (held : Held) (job : ℕ) → IsState old → KeepsHistory old new → KeepsFailures old new → IsTable new.table
     → table.IsExhausted old.table held job new.table → IsTried (core_of old) held (failed.Exhausted job) (core_of new)
@@ -630,7 +644,7 @@ pub lacked_state : (old new : State) (query : ℕ) (entry : Option EntryData) (h
     → MatchOption entry (IsSameTable old.table new.table) (λ d. Stops old.table query Starved d (hands d) new.table) → IsState new
 lacked_state old new query None hands h k f t there s = state_same old new h k f t s
 lacked_state old new query (Some d) hands h k f t there s =
-    stopped_state old new query Starved d (hands d) h k f.results t (counts_as old new f h.counts) there refl s.entries s.queues
+    stopped_state old new query Starved d (hands d) h k f.results t (counts_as old new f h.counts) there refl tt s.entries s.queues
     (covered_beside old new h k f s.tried)
 
 pub lacked_none : (old new : State) (query : ℕ) (hands : EntryData → List Hand) → IsState old → KeepsHistory old new → KeepsFailures old new
@@ -691,7 +705,7 @@ planned_state old new query count legs cached rs offered snap o h k f t there is
     let J = map entry_of old.journal.items in
     state_beside old new h k f.results t (counts_as old new f h.counts)
     (outstanding_set l query (machine_in old).queries o _ (entry_in old.table) (entry_in new.table) h.jobs.outstanding there
-    (record { tenant = entry.tenant; stop = entry.stop; work = work_planned l o legs snap cached rs offered is divided few once }) p.entries)
+    (record { tenant = entry.tenant; stop = entry.stop; stopped_when = tt; work = work_planned l o legs snap cached rs offered is divided few once }) p.entries)
     (jobs_with J l p.tenant (waiting_of old.table) (waiting_of new.table) _ h.jobs.waiting_for p.queues.waiting
     (each_front _ (waiting_of old.table p.tenant) p.jobs (h.jobs.waiting_for p.tenant)
     (jobs_planned J l p.tenant query (as_opened o) legs rs snap 0 p.jobs (asked_open J query o there) (sym entry.tenant)

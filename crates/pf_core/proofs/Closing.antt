@@ -13,7 +13,7 @@ use Rattle.pf_query.specs.declared.stop.Stop.{Stop}
 use Rattle.pf_query.specs.declared.stop.Stop.TheVariants.{Cancelled, Exhausted, Starved}
 use Rattle.pf_core.specs.Calls.{IsAnswerable, IsCodeBy, cached_by, cached_of, evaluated_by, evaluated_of}
 use Rattle.pf_core.specs.Cores.{CoreData, IsOpened, machine_of}
-use Rattle.pf_core.specs.Progress.{QueryProgress, cancel_in, progress_at}
+use Rattle.pf_core.specs.Progress.{GoesWithPlan, QueryProgress, cancel_in, progress_at}
 use Rattle.pf_core.specs.States.{IsEntryOf, IsState, IsWorkOf, core_of, far_of, machine_in}
 use Rattle.pf_core.specs.declared.answers.Opened.{Opened}
 use Rattle.pf_core.specs.declared.state.State.{State}
@@ -32,13 +32,13 @@ code_by l o given (Some (Exhausted job)) code h = inr (inl h)
 code_by l o given (Some Starved) code h = inr (inr h)
 
 -- its steps
-steps_by : (l : Limits) (o : Open) (given planned : Bool) (stop : Option Stop) (code steps cached n : ℕ) → IsCodeBy l o given stop code
+steps_by : (l : Limits) (o : Open) (given planned : Bool) (stop : Option Stop) (code steps cached n : ℕ) → IsCodeBy l o given stop code → GoesWithPlan stop planned
     → (given ≡ true → planned ≡ true) → (planned ≡ false → cached ≡ 0) → cached ≤ steps → n ≡ cond planned (steps - cached) 0 → AreSteps steps code (cached + n)
-steps_by l o given true stop code steps cached n h p none few e = inl (omega (arith, e, few))
-steps_by l o given false None code steps cached n h p none few e = let no = p h.0 in cc
-steps_by l o given false (Some (Cancelled place)) code steps cached n h p none few e = let zero = none refl in inr (omega (arith, e, zero), inr (inl h))
-steps_by l o given false (Some (Exhausted job)) code steps cached n h p none few e = let zero = none refl in inr (omega (arith, e, zero), inl h)
-steps_by l o given false (Some Starved) code steps cached n h p none few e = let zero = none refl in inr (omega (arith, e, zero), inr (inr h))
+steps_by l o given true stop code steps cached n h g p none few e = inl (omega (arith, e, few))
+steps_by l o given false None code steps cached n h g p none few e = let no = p h.0 in cc
+steps_by l o given false (Some (Cancelled place)) code steps cached n h g p none few e = let zero = none refl in inr (omega (arith, e, zero), inl h)
+steps_by l o given false (Some (Exhausted job)) code steps cached n h g p none few e = cc
+steps_by l o given false (Some Starved) code steps cached n h g p none few e = let zero = none refl in inr (omega (arith, e, zero), inr h)
 
 -- parts are handed out of planned queries alone
 given_planned : (query : ℕ) (e : Option EntryData) (n : ℕ) → (far_of query e n).given ≡ true → (far_of query e n).planned ≡ true
@@ -55,6 +55,14 @@ unplanned_none query (Some e) n h = by e.work h where
   by : (w : Option WorkData) → is_planned w ≡ false → cached_steps_of w ≡ 0
   by None h = refl
   by (Some w) h = cc
+
+-- a query that is stopped by a job was planned
+goes_kept : (s : State) (query : ℕ) (o : Open) → IsState s → open_at query (machine_in s).queries ≡ Some o
+    → GoesWithPlan (far_of query (entry_in s.table query) (tried_of s.table query)).stop (far_of query (entry_in s.table query) (tried_of s.table query)).planned
+goes_kept s query o h there =
+    let e = entry_there s.limits (open_at query (machine_in s).queries) (entry_in s.table query) o (h.jobs.outstanding query) there in
+    subst (λ (x : Option EntryData). GoesWithPlan (far_of query x (tried_of s.table query)).stop (far_of query x (tried_of s.table query)).planned) (sym e.there)
+    e.is.stopped_when
 
 -- at most all are
 few_by : (l : Limits) (query : ℕ) (o : Open) (d : EntryData) (n : ℕ) → IsEntryOf l o d
@@ -104,8 +112,11 @@ answers_right s query code evaluated o h may is e =
     ∙ (λ i. cond (sym same_far i).planned (length (points (sym same i).asked.query.grid) - (sym same_far i).cached) 0) in
     let coded : IsCode s.limits m.opened m.opened.cancelled code =
     subst (λ (x : Option ℕ). IsCode s.limits m.opened x code) (sym m.cancelled_at) (code_by s.limits m.opened m.far.given may.stop code may.coded) in
+    let goes : GoesWithPlan may.stop m.far.planned =
+    subst (λ (x : Option Stop). GoesWithPlan x m.far.planned) m.stop_is
+    (subst (λ (x : QueryProgress). GoesWithPlan x.stop x.planned) (sym kept) (goes_kept s query m.opened h m.is_open)) in
     let stepped : AreSteps (length (points m.opened.asked.query.grid)) code (m.far.cached + evaluated) =
-    steps_by s.limits m.opened m.far.given m.far.planned may.stop code (length (points m.opened.asked.query.grid)) m.far.cached evaluated may.coded
+    steps_by s.limits m.opened m.far.given m.far.planned may.stop code (length (points m.opened.asked.query.grid)) m.far.cached evaluated may.coded goes
     (subst (λ (x : QueryProgress). x.given ≡ true → x.planned ≡ true) (sym kept) (given_planned query (entry_in s.table query) (tried_of s.table query)))
     (subst (λ (x : QueryProgress). x.planned ≡ false → x.cached ≡ 0) (sym kept) (unplanned_none query (entry_in s.table query) (tried_of s.table query)))
     (subst (λ (x : QueryProgress). x.cached ≤ length (points m.opened.asked.query.grid)) (sym kept) (few_cached s query m.opened h m.is_open)) all in (

@@ -25,7 +25,7 @@ use Rattle.pf_core.specs.Cores.{in_hand_of, queued_of}
 use Rattle.pf_core.specs.Entries.{entry_of}
 use Rattle.pf_core.specs.Jobs.{AreParts, by_tenant}
 use Rattle.pf_core.specs.Progress as progress
-use Rattle.pf_core.specs.Progress.{planned, with_progress}
+use Rattle.pf_core.specs.Progress.{GoesWithPlan, planned, with_progress}
 use Rattle.pf_core.specs.States.{IsEntryOf, IsState, IsWorkOf, JobStands, KeepsFailures, KeepsHistory, core_of, machine_in, runs_of}
 use Rattle.pf_core.specs.declared.state.State.{State}
 use Rattle.pf_core.proofs.Calling.{HasAsk, ask_of, core_same, covered_beside, gone_by, history_same, open_with, progress_set, state_same}
@@ -120,7 +120,12 @@ gathered_state old new query d w g h k f t there planned is =
     let work = work_of old query d w a.opened h there planned a.is in
     state_beside old new h k f.results t (counts_as old new f h.counts)
     (outstanding_set old.limits query (machine_in old).queries a.opened _ (entry_in old.table) (entry_in new.table) h.jobs.outstanding a.there
-    (record { tenant = a.is.tenant; stop = a.is.stop; work = work_handed old.limits a.opened w work.of }) is.entries)
+    (record {
+      tenant = a.is.tenant;
+      stop = a.is.stop;
+      stopped_when = subst (λ (x : Option WorkData). GoesWithPlan d.stop (is_planned x)) planned a.is.stopped_when;
+      work = work_handed old.limits a.opened w work.of;
+    }) is.entries)
     (λ u. subst (λ (js : List Job). Each (JobStands (map entry_of old.journal.items) old.limits) js) (sym (is.queues.queues u).waiting) (h.jobs.waiting_for u))
     (covered_beside old new h k f is.tried)
 

@@ -22,6 +22,7 @@ use Rattle.pf_query.specs.Tables as table
 use Rattle.pf_query.specs.Tables.{EntryData, IsSameTable, IsTable, Offers, entry_in, is_covered_in, tried_of}
 use Rattle.pf_query.specs.Works as works
 use Rattle.pf_query.specs.Works.{WorkData}
+use Rattle.pf_query.specs.declared.stop.Stop.{Stop}
 use Rattle.pf_query.specs.declared.job.Job.{Job}
 use Rattle.pf_results.specs.Pieces.{AreEvaluated, IsDoneAt, fixed_over, kept_over, key_of}
 use Rattle.pf_results.specs.Truth.{AreTrue, IsAsker, IsEvaluated, Logs}
@@ -33,7 +34,7 @@ use Rattle.pf_core.specs.Divisions.{IsOfferedIf, asker_by, key_by}
 use Rattle.pf_core.specs.Entries.{entry_of}
 use Rattle.pf_core.specs.Jobs.{by_tenant}
 use Rattle.pf_core.specs.Progress as progress
-use Rattle.pf_core.specs.Progress.{QueryProgress, progress_at, with_progress}
+use Rattle.pf_core.specs.Progress.{GoesWithPlan, QueryProgress, progress_at, with_progress}
 use Rattle.pf_core.specs.Seats.{AreTenants}
 use Rattle.pf_core.specs.States.{IsQuery, IsSameButCache, IsState, IsWorkOf, JobStands, KeepsFailures, KeepsHistory, core_of, far_of, kept_in, machine_in, runs_of}
 use Rattle.pf_core.specs.declared.answers.Kept.{Kept}
@@ -206,13 +207,23 @@ offered_progress : (old new : State) (query : ℕ) (d : EntryData) (cells : List
 offered_progress old new query d cells k there covered x =
     progress_set old new query progress.offered (Some d) _ k there x.entries x.tried (far_offered query d cells covered)
 
+-- it is planned as before
+goes_offered : (stop : Option Stop) (work : Option WorkData) → GoesWithPlan stop (is_planned work) → GoesWithPlan stop (is_planned (option_map works.offered work))
+goes_offered stop None h = h
+goes_offered stop (Some w) h = h
+
 offered_state : (old new : State) (query : ℕ) (d : EntryData) (cells : List DoneCells) → IsState old → KeepsHistory old new → KeepsFailures old new → IsTable new.table
     → entry_in old.table query ≡ Some d → is_covered_in (Some d) cells ≡ true → Offers old.table query d new.table → IsState new
 offered_state old new query d cells h k f t there covered x =
     let a = ask_of old query d h there in
     state_beside old new h k f.results t (counts_as old new f h.counts)
     (outstanding_set old.limits query (machine_in old).queries a.opened _ (entry_in old.table) (entry_in new.table) h.jobs.outstanding a.there
-    (record { tenant = a.is.tenant; stop = a.is.stop; work = work_offered old.limits a.opened d.work a.is.work }) x.entries)
+    (record {
+      tenant = a.is.tenant;
+      stop = a.is.stop;
+      stopped_when = goes_offered d.stop d.work a.is.stopped_when;
+      work = work_offered old.limits a.opened d.work a.is.work;
+    }) x.entries)
     (λ u. subst (λ (js : List Job). Each (JobStands (map entry_of old.journal.items) old.limits) js) (sym (x.queues.queues u).waiting) (h.jobs.waiting_for u))
     (covered_beside old new h k f x.tried)
 

@@ -119,7 +119,7 @@ pub outstanding_opened : (l : Limits) (place : ℕ) (qs : List Open) (o : Open) 
 outstanding_opened l place qs o before after h sets below here whole =
     outstanding_with l place qs (qs ++ o ∷ []) before after (Some (record { tenant = o.tenant; stop = None; work = None })) h sets
     (subst (λ (found : Option Open). IsOutstanding l found (Some (record { tenant = o.tenant; stop = None; work = None })))
-    (sym (open_at_pushed qs place o below here)) (record { tenant = refl; stop = sym whole; work = tt }))
+    (sym (open_at_pushed qs place o below here)) (record { tenant = refl; stop = sym whole; stopped_when = tt; work = tt }))
     (λ p t. open_at_pushed_other qs p o (grind (arith, nat_tests, t, here)))
 
 -- what is kept of a planned query doesn't ask whether it was cancelled
@@ -144,7 +144,7 @@ pub outstanding_cancelled : (l : Limits) (query place : ℕ) (qs : List Open) (o
 outstanding_cancelled l query place qs o d before after h found is sets =
     outstanding_with l query qs (cancelled_at place query qs) before after (Some (stopped (Cancelled place) d)) h sets
     (subst (λ (found : Option Open). IsOutstanding l found (Some (stopped (Cancelled place) d))) (sym (open_at_cancelled place query qs o found))
-    (record { tenant = is.tenant; stop = refl; work = work_as l place o d.work is.work }))
+    (record { tenant = is.tenant; stop = refl; stopped_when = tt; work = work_as l place o d.work is.work }))
     (λ p t. open_at_cancelled_other place query p qs t)
 
 -- it is answered

@@ -1,14 +1,15 @@
 -- How far the work on open queries is goes with them, change by change.
-use Rattle.std.proofs.Common.{◌≡◌, ℕ, ◌+◌, ◌<◌, ◌≤◌, inl, inr, true, false, cond, nat_eq, Option, Some, None, List, [], ◌∷◌, ◌++◌, refl, sym, ap, ◌∙◌, arith, subst}
+use Rattle.std.proofs.Common.{◌≡◌, ℕ, ◌+◌, ◌<◌, ◌≤◌, inl, inr, Bool, true, false, cond, nat_eq, Option, Some, None, List, [], ◌∷◌, ◌++◌, refl, sym, ap, ◌∙◌, arith, subst}
 use Rattle.std.specs.Prelude.{IfSome, sum_by}
 use Rattle.std.proofs.lemmas.Bool.Decides.{nat_tests}
 use Rattle.std.proofs.lemmas.List.Sums.{sum_by-cons, sum_by_push}
 use Rattle.pf_base.specs.declared.plain.Limits.{Limits}
 use Rattle.pf_journal.specs.Machine.{Open, cancelled_at, closed, open_at}
 use Rattle.pf_model.specs.Lists.{Each}
+use Rattle.pf_query.specs.Entries.{is_planned}
 use Rattle.pf_query.specs.Tables.{EntryData}
 use Rattle.pf_query.specs.Works.{WorkData}
-use Rattle.pf_core.specs.Progress.{GoesWith, IsProgressOf, QueryProgress, begun, progress_at, tried_in, with_progress, without_progress}
+use Rattle.pf_core.specs.Progress.{GoesWith, GoesWithPlan, IsProgressOf, QueryProgress, begun, progress_at, tried_in, with_progress, without_progress}
 use Rattle.pf_core.specs.States.{Above, IsOutstanding, IsWorkOf, far_of, progress_of}
 use Rattle.pf_core.proofs.Machines.{bool_cases}
 
@@ -52,10 +53,10 @@ each_open least (o ∷ os) h =
 
 progress_by : (l : Limits) (o : Open) (e : Option EntryData) (n : ℕ) → IsOutstanding l (Some o) e → IsProgressOf l o (far_of o.place e n)
 progress_by l o None n h = absurd h
-progress_by l o (Some d) n h = by d.work h.work where
-  by : (w : Option WorkData) → IfSome w (IsWorkOf l o) → IsProgressOf l o (far_of o.place (Some (record d { work = w })) n)
-  by None k = record { place = refl; stop = h.stop; few = omega arith; none = λ p. refl; runs = λ p. cc; alone = λ p once. cc }
-  by (Some w) k = record { place = refl; stop = h.stop; few = k.few; none = λ p. cc; runs = λ p. k.runs; alone = λ p once. k.once once }
+progress_by l o (Some d) n h = by d.work h.work h.stopped_when where
+  by : (w : Option WorkData) → IfSome w (IsWorkOf l o) → GoesWithPlan d.stop (is_planned w) → IsProgressOf l o (far_of o.place (Some (record d { work = w })) n)
+  by None k g = record { place = refl; stop = h.stop; stopped_when = g; few = omega arith; none = λ p. refl; runs = λ p. cc; alone = λ p once. cc }
+  by (Some w) k g = record { place = refl; stop = h.stop; stopped_when = g; few = k.few; none = λ p. cc; runs = λ p. k.runs; alone = λ p once. k.once once }
 
 goes_by : (l : Limits) (qs : List Open) (entries : ℕ → Option EntryData) (tries : ℕ → ℕ) → Each (λ o. IsOutstanding l (Some o) (entries o.place)) qs
     → GoesWith l qs (progress_of qs entries tries)

@@ -67,11 +67,20 @@ cancel_in (Some (Exhausted job)) = None
 cancel_in (Some Starved) = None
 cancel_in None = None
 
--- it is that of an open query: it is stopped by a cancel exactly where that was cancelled, at most all steps were cached, none
--- before its plan, the runs of its jobs are of its other steps, and an instant query is offered by its plan
+-- a query that is stopped by a job was planned, since it has jobs
+abbrev pub GoesWithPlan : Option Stop → (planned : Bool) → Type 0
+GoesWithPlan (Some (Exhausted job)) planned = planned ≡ true
+GoesWithPlan (Some (Cancelled place)) planned = Unit {0}
+GoesWithPlan (Some Starved) planned = Unit {0}
+GoesWithPlan None planned = Unit {0}
+
+-- it is that of an open query: it is stopped by a cancel exactly where that was cancelled, and by a job only once it is planned; at
+-- most all steps were cached, none before its plan, the runs of its jobs are of its other steps, and an instant query is offered by
+-- its plan
 pub record IsProgressOf (l : Limits) (o : Open) (p : QueryProgress) : Type 0 where
   pub place : p.query ≡ o.place
   pub stop : cancel_in p.stop ≡ o.cancelled
+  pub stopped_when : GoesWithPlan p.stop p.planned
   pub few : p.cached ≤ length (points o.asked.query.grid)
   pub none : p.planned ≡ false → p.cached ≡ 0
   pub runs : p.planned ≡ true → AreRunsOf l o p.runs

@@ -31,7 +31,7 @@ use Rattle.pf_store.specs.declared.tenant_log.Deleted.{Deleted}
 use Rattle.pf_core.specs.Cores.{AreLimits, CoreData, Stands}
 use Rattle.pf_core.specs.Entries.{entry_of, what_of}
 use Rattle.pf_core.specs.Jobs.{AreDivided, AreRunsOf, IsForAsk, IsValueOver, QueueHeads, by_tenant, legs_asked}
-use Rattle.pf_core.specs.Progress.{QueryProgress, begun, cancel_in, tried_in}
+use Rattle.pf_core.specs.Progress.{GoesWithPlan, QueryProgress, begun, cancel_in, tried_in}
 use Rattle.pf_core.specs.Seats.{TenantsData, counted_as, settled}
 use Rattle.pf_core.specs.declared.query.Query.{Query}
 use Rattle.pf_core.specs.declared.state.Opening.{Opening}
@@ -174,6 +174,7 @@ pub record IsWorkOf (l : Limits) (o : Open) (w : WorkData) : Type 0 where
 pub record IsEntryOf (l : Limits) (o : Open) (e : EntryData) : Type 0 where
   pub tenant : e.tenant ≡ o.tenant
   pub stop : cancel_in e.stop ≡ o.cancelled
+  pub stopped_when : GoesWithPlan e.stop (is_planned e.work)
   pub work : IfSome e.work (IsWorkOf l o)
 
 -- the table keeps an entry of each open query, and of no other

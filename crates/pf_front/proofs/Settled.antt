@@ -12,7 +12,7 @@ use Rattle.pf_core.specs.Calls as calls
 use Rattle.pf_core.specs.Cores.{AreClosed, AreServed, CoreData, Enters, IsOpened, Stands, machine_of, queue_at, queued_of}
 use Rattle.pf_core.specs.declared.answers.Opened.{Opened}
 use Rattle.pf_core.specs.Jobs.{QueueHeads, heads_with, no_heads}
-use Rattle.pf_core.specs.Progress.{QueryProgress, cancel_in, handed_out, progress_at, stopped}
+use Rattle.pf_core.specs.Progress.{GoesWithPlan, QueryProgress, cancel_in, handed_out, progress_at, stopped}
 use Rattle.pf_front.proofs.Plans.{lacked_works}
 use Rattle.pf_front.proofs.Progress.{at_changed, not_none, progress_of, some_is}
 use Rattle.pf_front.proofs.Tries.{same_sum, works_refl, works_trans}
@@ -25,7 +25,7 @@ use Rattle.pf_front.specs.declared.answering.Reply.{Reply}
 use Rattle.pf_front.specs.declared.outcome.Outcome.{Outcome}
 use Rattle.pf_front.specs.declared.outcome.Outcome.TheVariants as outcome
 use Rattle.pf_journal.specs.Legal.{machine_after}
-use Rattle.pf_journal.specs.Machine.{AreSteps, Entry, IsStopped, Open, answer, answer_of, code_of, open_at, started}
+use Rattle.pf_journal.specs.Machine.{AreSteps, CanBeUnplanned, Entry, Open, answer, answer_of, code_of, open_at, started}
 use Rattle.pf_model.specs.Direct.{Answer, MatrixRow, failed, gathered}
 use Rattle.pf_model.specs.declared.cell.ErrorKind.{ErrorKind}
 use Rattle.pf_query.specs.Entries.{stop_after}
@@ -187,10 +187,23 @@ no_steps c query o far there is s p =
     let evaluated = evaluated_none c query o far there is p in
     omega (arith, none, cached, evaluated)
 
-stopped_steps : (c : CoreData) (query : ℕ) (o : Open) (far : QueryProgress) (code : ℕ) (b : Bool) → far.planned ≡ b → open_at query (machine_of c).queries ≡ Some o
-    → progress_at query c.progress ≡ Some far → Stands c → IsStopped code → AreSteps (length (points o.asked.query.grid)) code (cached_of c query + evaluated_of c query)
-stopped_steps c query o far code true p there is s stop = inl (all_steps c query o far there is s p)
-stopped_steps c query o far code false p there is s stop = inr (no_steps c query o far there is s p, stop)
+-- a query that isn't planned has no job that could stop it
+unplanned_stop : (why : Stop) → GoesWithPlan (Some why) false → CanBeUnplanned (code_in (stopped_as why))
+unplanned_stop (Cancelled place) g = inl refl
+unplanned_stop (Exhausted job) g = absurd cc
+unplanned_stop Starved g = inr refl
+
+stopped_steps : (c : CoreData) (query : ℕ) (o : Open) (far : QueryProgress) (why : Stop) (b : Bool) → far.planned ≡ b → far.stop ≡ Some why
+    → open_at query (machine_of c).queries ≡ Some o → progress_at query c.progress ≡ Some far → Stands c
+    → AreSteps (length (points o.asked.query.grid)) (code_in (stopped_as why)) (cached_of c query + evaluated_of c query)
+stopped_steps c query o far why true p e there is s = inl (all_steps c query o far there is s p)
+stopped_steps c query o far why false p e there is s =
+    let goes = (progress_of c.limits query (machine_of c).queries c.progress o far s.progressing there is).stopped_when in
+    inr (
+      no_steps c query o far there is s p,
+      unplanned_stop why
+          (subst (λ (x : Option Stop). GoesWithPlan x false) e (subst (GoesWithPlan far.stop) p goes)),
+    )
 
 -- a query whose parts were handed out is settled by its answer, with a matrix once it is offered
 pub settled_found : (c : CoreData) (query : ℕ) (f : Outcome) (e : IsEvaluable c query) → Stands c → (code_in f ≡ 200 → e.whole.far.offered ≡ true)
@@ -233,11 +246,6 @@ code_stopped l o given (Cancelled place) = refl
 code_stopped l o given (Exhausted job) = refl
 code_stopped l o given Starved = refl
 
-is_stop : (why : Stop) → IsStopped (code_in (stopped_as why))
-is_stop (Cancelled place) = inr (inl refl)
-is_stop (Exhausted job) = inl refl
-is_stop Starved = inr (inr refl)
-
 pub settled_stopped : (c : CoreData) (query : ℕ) (why : Stop) → Stands c → IsStoppedBy c query why → IsSettled c query (stopped_as why)
 settled_stopped c query why stands s = record {
   opened = s.opened;
@@ -250,7 +258,7 @@ settled_stopped c query why stands s = record {
     coded = code_stopped c.limits s.opened s.far.given why;
     offered = λ h. absurd (never why h);
   };
-  steps = stopped_steps c query s.opened s.far (code_in (stopped_as why)) s.far.planned refl s.is_open s.is_far stands (is_stop why);
+  steps = stopped_steps c query s.opened s.far why s.far.planned refl s.stop_is s.is_open s.is_far stands;
 } where
   never : (why : Stop) → code_in (stopped_as why) ≡ 200 → ⊥
   never (Cancelled place) h = omega (arith, h)

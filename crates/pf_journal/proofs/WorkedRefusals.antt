@@ -105,12 +105,16 @@ full_with_room h = over h.front h.over where
 
 -- ---- answers
 
--- a success has no step
+-- a success has no step, and a job that failed five times neither
 success_without_steps : AreSteps 1 200 0 → ⊥
 success_without_steps (inl h) = differ (nat_eq 0) _ _ refl refl h
 success_without_steps (inr (h, inl k)) = differ (nat_eq 200) _ _ refl refl k
-success_without_steps (inr (h, inr (inl k))) = differ (nat_eq 200) _ _ refl refl k
-success_without_steps (inr (h, inr (inr k))) = differ (nat_eq 200) _ _ refl refl k
+success_without_steps (inr (h, inr k)) = differ (nat_eq 200) _ _ refl refl k
+
+failure_without_steps : AreSteps 1 500 0 → ⊥
+failure_without_steps (inl h) = differ (nat_eq 0) _ _ refl refl h
+failure_without_steps (inr (h, inl k)) = differ (nat_eq 500) _ _ refl refl k
+failure_without_steps (inr (h, inr k)) = differ (nat_eq 500) _ _ refl refl k
 
 -- a success of an error, and an error of a cancelled query
 failing : Option ℕ → Open

@@ -316,7 +316,7 @@ want_is_a_session = (
     (
       record { allowed = record { tenant = record { next = lit≤ tt; most = lit< tt }; below = lit< tt; pinned = refl; aged = refl; floored = refl }; room = lit≤ tt; named = lit≤ tt },
       (
-        record { allowed = record { coded = inr (inr refl); stepped = inr (refl, inr (inr refl)) }; room = lit≤ tt; named = lit≤ tt },
+        record { allowed = record { coded = inr (inr refl); stepped = inr (refl, inr refl) }; room = lit≤ tt; named = lit≤ tt },
         tt,
       ),
     ),

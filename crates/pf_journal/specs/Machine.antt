@@ -162,13 +162,13 @@ abbrev pub IsCode : Limits → Open → Option ℕ → ℕ → Type 0
 IsCode l o None code = (code ≡ code_of (answer_of l o)) ⊎ ((code ≡ 500) ⊎ (code ≡ 507))
 IsCode l o (Some place) code = code ≡ 503
 
--- the code of a query that was stopped
-abbrev pub IsStopped : ℕ → Type 0
-IsStopped code = (code ≡ 500) ⊎ ((code ≡ 503) ⊎ (code ≡ 507))
+-- the code of a query that may be stopped before it is planned, and so has no job: by a cancel, or for want of memory
+abbrev pub CanBeUnplanned : ℕ → Type 0
+CanBeUnplanned code = (code ≡ 503) ⊎ (code ≡ 507)
 
 -- each step was cached or evaluated, or the query was stopped before it was planned
 abbrev pub AreSteps : (steps code counted : ℕ) → Type 0
-AreSteps steps code counted = (counted ≡ steps) ⊎ ((counted ≡ 0) × IsStopped code)
+AreSteps steps code counted = (counted ≡ steps) ⊎ ((counted ≡ 0) × CanBeUnplanned code)
 
 pub record AnswersRight (l : Limits) (o : Open) (code cached evaluated : ℕ) : Type 0 where
   pub coded : IsCode l o o.cancelled code
