@@ -17,6 +17,7 @@ use crate::labels::packed::PackedPairs;
 use crate::memory::OutOfMemory;
 use crate::text::Text;
 pub use build::is_label_name;
+pub use shard::shard_of_hash;
 use std::alloc::AllocError;
 use std::cmp::Ordering;
 use std::hash::{Hash, Hasher};

@@ -24,7 +24,7 @@ mod value;
 
 pub use duration::{DurationError, read_duration};
 pub use grid::{Grid, GridError, MAXT};
-pub use labels::{Labels, LabelsError, is_label_name};
+pub use labels::{Labels, LabelsError, is_label_name, shard_of_hash};
 pub use memory::OutOfMemory;
 pub use number::{BadNumber, Read, push_value, read_value};
 pub use number_text::{write_number, write_value};

@@ -16,7 +16,7 @@ use Rattle.pf_base.specs.LabelOrder.{labels_cmp, labels_exact, labels_total}
 use Rattle.pf_base.specs.Sorting.{ins, isort}
 use Rattle.pf_base.proofs.Sorted.{is_sorted, sort_moves}
 use Rattle.pf_base.proofs.Sorting.{ascends_isort, sorted_is}
-use Rattle.pf_block.specs.Indexes.{AreRanked}
+use Rattle.pf_block.specs.Indexes.{AreRanked, hashes_of}
 use Rattle.pf_block.specs.LabelOrders.{by_label, ids_by_label, numbered_from}
 
 -- ---- sorts
@@ -114,10 +114,10 @@ ids_there ls id h =
     (c.0, omega (arith, c.1, n), get_or-map (λ (e : Entry). e.1) es c.0 e 0 c.1 ∙ ap (λ (x : Entry). x.1) c.2)
 
 -- what the places of these ids are
-pub ranks_placed : (ls : List Pairs) (ids ranks : List ℕ) → ids ≡ ids_by_label ls → length ranks ≡ length ids
+pub ranks_placed : (ls : List Pairs) (ids ranks hashes : List ℕ) → ids ≡ ids_by_label ls → length ranks ≡ length ids
     → ((k : ℕ) → k < length ids → get_or ranks (get_or ids k 0) 0 < length ids)
-    → ((k : ℕ) → k < length ids → get_or ids (get_or ranks (get_or ids k 0) 0) 0 ≡ get_or ids k 0) → AreRanked ls ids ranks
-ranks_placed ls ids ranks e n w p =
+    → ((k : ℕ) → k < length ids → get_or ids (get_or ranks (get_or ids k 0) 0) 0 ≡ get_or ids k 0) → hashes ≡ hashes_of ls → AreRanked ls ids ranks hashes
+ranks_placed ls ids ranks hashes e n w p h =
     let m : length ids ≡ length ls = ap length e ∙ length_ids ls in
     record {
       order = e;
@@ -130,4 +130,5 @@ ranks_placed ls ids ranks e n w p =
           let t = ids_there ls id h in
           let q : get_or ids t.0 0 ≡ id = ap (λ xs. get_or xs t.0 0) e ∙ t.2 in
           subst (λ i. get_or ids (get_or ranks i 0) 0 ≡ i) q (p t.0 (subst (λ i. t.0 < i) (sym m) t.1));
+      hashed = h;
     }

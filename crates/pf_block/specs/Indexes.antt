@@ -1,13 +1,15 @@
--- What an index keeps beside the labels of the series: the id of each label set, the ids that have a pair, and the series in
--- label order. This project's own.
-use Rattle.std.specs.Prelude.{◌≡◌, ℕ, ◌<◌, ◌^◌, true, Option, None, Some, List, [], length, slice_index_or}
+-- What an index keeps beside the labels of the series: the id of each label set, the ids that have a pair, the series in
+-- label order, and the hashes that give their shards. This project's own.
+use Rattle.std.specs.Prelude.{◌≡◌, ℕ, ◌<◌, ◌^◌, true, Option, None, Some, List, [], length, map, slice_index_or}
 use Rattle.std.specs.BTreeMap.{BTreeMap, get, get_by_text}
 use Rattle.std.specs.declared.string.String.{String}
 use Rattle.std.specs.declared.vec.Vec.{Vec}
 use Rattle.std.specs.declared.alloc.Global.{Global}
 use Rattle.std.specs.List.{All}
+use Rattle.pf_base.specs.LabelChanges.{metric_name, others}
 use Rattle.pf_base.specs.LabelSets.{IsLabels, Pairs}
 use Rattle.pf_base.specs.LabelOrder.{labels_cmp}
+use Rattle.pf_base.specs.ShardHash.{labels_hash}
 use Rattle.pf_base.specs.Sorting.{isort}
 use Rattle.pf_block.specs.LabelOrders.{by_label, ids_by_label, numbered_from}
 use Rattle.pf_block.specs.SeriesIds.{id_of, ids_with}
@@ -39,9 +41,14 @@ pub record IsIndex (labels : List Pairs) (ids : BTreeMap Pairs ℕ) (names : Nam
   pub lawful : All IsLabels labels
   pub placed : ids.entries ≡ isort by_label (numbered_from 0 labels)
 
--- the series in label order, and each one's place there
-pub record AreRanked (labels : List Pairs) (ids ranks : List ℕ) : Type 0 where
+-- the hash of each series that gives its shard
+abbrev pub hashes_of : List Pairs → List ℕ
+hashes_of = map (λ l. labels_hash (others metric_name l))
+
+-- the series in label order, each one's place there, and each one's hash
+pub record AreRanked (labels : List Pairs) (ids ranks hashes : List ℕ) : Type 0 where
   pub order : ids ≡ ids_by_label labels
   pub count : length ranks ≡ length labels
   pub within : (id : ℕ) → id < length labels → slice_index_or ranks id 0 < length labels
   pub placed : (id : ℕ) → id < length labels → slice_index_or ids (slice_index_or ranks id 0) 0 ≡ id
+  pub hashed : hashes ≡ hashes_of labels

@@ -6,8 +6,9 @@
 //!
 //! The code keeps the samples in blocks that are shared, each sorted by series and time and built of at least twice the
 //! samples of the next; beside each block, what deletions left of the series that they touched there; and an index that is
-//! shared as long as no series is new: a map from label sets to ids, a list of ids for each pair of a name and a value, and
-//! the ids in label order with the place of each. Windows and look-ups search by halves and take no memory.
+//! shared as long as no series is new: a map from label sets to ids, a list of ids for each pair of a name and a value, the
+//! ids in label order with the place of each, and by id the hash that gives each one's shard. Windows and look-ups search by
+//! halves and take no memory.
 #![tactic(auto)]
 
 mod block;

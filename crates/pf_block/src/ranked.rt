@@ -1,23 +1,27 @@
 //! Series by their places in label order.
 
-ghost use Rattle.std.specs.Prelude.{◌≡◌, ℕ, ◌<◌, ◌^◌, IfOk, length, vec_len, slice_index_or};
+ghost use Rattle.std.specs.Prelude.{◌≡◌, ℕ, ◌<◌, ◌≤◌, ◌^◌, [], IfOk, length, vec_len, slice_index_or};
 ghost use Rattle.std.specs.List.{All};
 ghost use Rattle.pf_base.specs.LabelSets.{IsLabels};
+ghost use Rattle.pf_base.specs.ShardHash.{shard_of};
+ghost use Rattle.pf_block.specs.Indexes.{hashes_of};
 ghost use Rattle.pf_block.specs.LabelOrders.{ids_by_label};
 ghost use Rattle.pf_block.specs.SeriesIds.{id_of, ids_with};
 ghost use Rattle.pf_block.specs.Snaps.{are_apart};
 
 use crate::index::Index;
-use pf_base::{Labels, OutOfMemory};
+use pf_base::{Labels, OutOfMemory, shard_of_hash};
 use std::alloc::Global;
 use std::marker::Model;
 
-/// An index, the ids of its series in label order, and the place of each there.
+/// An index, the ids of its series in label order, the place of each there, and by id the hash of each that gives its
+/// shard.
 #[derive(Drop)]
 pub struct Ranked {
     index: Index,
     by_label: Vec<u32>,
     ranks: Vec<u32>,
+    hashes: Vec<u64>,
 }
 
 impl Model for Ranked {
@@ -30,7 +34,7 @@ impl Model for Ranked {
 
     ghost view = { λ r. r.index };
 
-    ghost invariant = { λ r. AreRanked r.index r.by_label.items r.ranks.items };
+    ghost invariant = { λ r. AreRanked r.index r.by_label.items r.ranks.items r.hashes.items };
 }
 
 /// The place of each id in a list of ids. Of one that stands there twice it is the last place.
@@ -49,6 +53,17 @@ fn places(alloc: Global, ids: &[u32]) -> Result<Vec<u32>, OutOfMemory>
     Ok(places)
 }
 
+/// The hash of each series that gives its shard, by id.
+fn hashes(alloc: Global, index: &Index) -> Result<Vec<u64>, OutOfMemory>
+    ensures { IfOk result (λ v. v.items ≡ hashes_of index.now) }
+{
+    let mut hashes = Vec::with_capacity(alloc, index.count() as usize)?;
+    for id in 0..index.count() {
+        hashes.push(index.labels(id).shard_hash())?;
+    }
+    Ok(hashes)
+}
+
 impl Ranked {
     /// An index with its series in label order.
     pub fn of(alloc: Global, index: Index) -> Result<Ranked, OutOfMemory>
@@ -57,10 +72,12 @@ impl Ranked {
         let _count = index.count();
         let by_label = index.by_label()?;
         let ranks = places(alloc, &by_label)?;
+        let hashes = hashes(alloc, &index)?;
         Ok(Ranked {
             index,
             by_label,
             ranks,
+            hashes,
         })
     }
 
@@ -85,5 +102,14 @@ impl Ranked {
         ensures place { slice_index_or (ids_by_label self.now) result 0 ≡ id }
     {
         self.ranks[id as usize]
+    }
+
+    /// The shard of a series among n.
+    pub fn shard(&self, id: u32, n: u32) -> u32
+        requires within { id < length self.now }
+        requires some { 1 ≤ n }
+        ensures { result ≡ shard_of (slice_index_or self.now id []) n }
+    {
+        shard_of_hash(self.hashes[id as usize], n)
     }
 }

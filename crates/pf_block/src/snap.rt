@@ -7,6 +7,7 @@ ghost use Rattle.pf_block.specs.Blocks.{entries_of, entry_of, labels_with, noted
 ghost use Rattle.pf_block.specs.Samples.{window_of, last_of};
 ghost use Rattle.pf_base.specs.LabelSets.{IsLabels};
 ghost use Rattle.pf_base.specs.Limits.{greatest_time};
+ghost use Rattle.pf_base.specs.ShardHash.{shard_of};
 ghost use Rattle.pf_block.specs.LabelOrders.{ids_by_label};
 ghost use Rattle.pf_block.specs.SeriesIds.{id_of, ids_with};
 ghost use Rattle.pf_block.specs.Stacks.{HasSizes, doubles, total};
@@ -211,6 +212,15 @@ impl Snap {
         ensures place { slice_index_or (ids_by_label self.now.labels) result 0 ≡ id }
     {
         self.index.rank(id)
+    }
+
+    /// The shard of a series among n, found without its labels.
+    pub fn shard(&self, id: u32, n: u32) -> u32
+        requires within { id < length self.now.labels }
+        requires some { 1 ≤ n }
+        ensures { result ≡ shard_of (labels_of self.now id) n }
+    {
+        self.index.shard(id, n)
     }
 
     /// The labels of a series.

@@ -1,8 +1,8 @@
 //! The shard of a label set.
 
-ghost use Rattle.std.specs.Prelude.{◌≡◌, ◌∷◌, ◌≤◌, []};
+ghost use Rattle.std.specs.Prelude.{◌≡◌, ◌∷◌, ◌≤◌, ◌%◌, []};
 ghost use Rattle.pf_base.specs.LabelChanges.{metric_name, others};
-ghost use Rattle.pf_base.specs.ShardHash.{hash_step, hash_onto, label_bytes, labels_onto, shard_of};
+ghost use Rattle.pf_base.specs.ShardHash.{hash_step, hash_onto, label_bytes, labels_hash, labels_onto, shard_of};
 
 use crate::labels::{Labels, METRIC_NAME};
 
@@ -52,13 +52,28 @@ pub fn hash_with(hash: u64, name: &str, value: &str) -> u64
     }
 }
 
+/// The shard among n of a label set with this hash.
+pub fn shard_of_hash(hash: u64, n: u32) -> u32
+    requires { 1 ≤ n }
+    ensures { result ≡ hash % n }
+{
+    (hash % n as u64) as u32
+}
+
 impl Labels {
+    /// The hash that gives this label set's shard: FNV-1a with 64 bits of all pairs but the metric name's.
+    pub fn shard_hash(&self) -> u64
+        ensures { result ≡ labels_hash (others metric_name self.now) }
+    {
+        self.pairs.hash()
+    }
+
     /// The shard of this label set among n. The metric name takes no part, so that label sets which differ in it alone
     /// have one shard.
     pub fn shard(&self, n: u32) -> u32
         requires { 1 ≤ n }
         ensures { result ≡ shard_of self.now n }
     {
-        (self.pairs.hash() % n as u64) as u32
+        shard_of_hash(self.shard_hash(), n)
     }
 }

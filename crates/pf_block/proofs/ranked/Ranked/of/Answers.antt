@@ -19,5 +19,5 @@ places-requires-clause-within c =
 
 pub invariant_of-result : goal.invariant_of-result
 invariant_of-result c =
-    let r = ranks_placed c.args.index c.deref.result.now c.in_ok-ranks.ranks.items (c.deref.ensures.value ∙ c.in_ok-by_label.ensures) c.in_ok-ranks.ensures.count c.in_ok-ranks.ensures.within c.in_ok-ranks.ensures.placed in
-    subst (λ ids. AreRanked c.args.index ids c.in_ok-ranks.ranks.items) c.deref.ensures.value r
+    let r = ranks_placed c.args.index c.deref.result.now c.in_ok-ranks.ranks.items c.in_ok-hashes.hashes.items (c.deref.ensures.value ∙ c.in_ok-by_label.ensures) c.in_ok-ranks.ensures.count c.in_ok-ranks.ensures.within c.in_ok-ranks.ensures.placed c.in_ok-hashes.ensures in
+    subst (λ ids. AreRanked c.args.index ids c.in_ok-ranks.ranks.items c.in_ok-hashes.hashes.items) c.deref.ensures.value r
