@@ -10,6 +10,7 @@ pub mod Below
 pub mod SortedColumns
 pub mod Fusing
 pub mod GroupKeys
+pub mod NumberedKeys
 pub mod GroupedCells
 pub mod GroupColumns
 pub mod Sums

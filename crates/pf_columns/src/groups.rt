@@ -1,9 +1,10 @@
 //! The groups of columns, found once for all steps.
 
-ghost use Rattle.std.specs.Prelude.{◌≡◌, true, map, None, IfOk};
+ghost use Rattle.std.specs.Prelude.{◌≡◌, ◌<◌, [], List, true, length, map, slice_index_or, None, IfOk};
 ghost use Rattle.std.specs.List.{All, list_any};
 ghost use Rattle.std.specs.Option.{option_copied};
 ghost use Rattle.pf_base.specs.LabelOrder.{labels_cmp};
+ghost use Rattle.pf_base.specs.LabelSets.{Pairs};
 ghost use Rattle.pf_base.specs.Sorting.{isort};
 ghost use Rattle.pf_model.specs.Aggregation.{group_key};
 ghost use Rattle.pf_model.specs.Cells.{distinct};
@@ -57,9 +58,9 @@ fn has_key(grouping: &Grouping, labels: &Labels, key: &Labels) -> bool
     }
 }
 
-/// The key of a column. Where it is that of the column before, it is shared, so that few lie in memory where many columns have
-/// one key.
-fn key_behind(
+/// The key of a label set: the labels that `by` keeps, or that `without` leaves. Where it is that of `last`, it is shared, so
+/// that few lie in memory where many label sets have one key.
+pub fn key_behind(
     last: Option<&Labels>,
     grouping: &Grouping,
     labels: &Labels,
@@ -204,6 +205,18 @@ fn groups_of(alloc: Global, all: Vec<Labels>) -> Result<GroupIds, OutOfMemory>
     Ok(GroupIds { keys, of })
 }
 
+/// The places that stand at these numbers.
+fn places_by(alloc: Global, places: &[usize], numbers: &[usize]) -> Result<Vec<usize>, OutOfMemory>
+    requires { All (λ n. n < length places.now) numbers.now }
+    ensures { IfOk result (λ v. v.items ≡ map (λ n. slice_index_or places.now n 0) numbers.now) }
+{
+    let mut found = Vec::with_capacity(alloc, numbers.len())?;
+    for number in numbers {
+        found.push(places[*number])?;
+    }
+    Ok(found)
+}
+
 impl GroupIds {
     /// The groups of columns by their keys: the labels that `by` keeps, or that `without` leaves.
     pub fn by(
@@ -215,5 +228,25 @@ impl GroupIds {
     {
         let all = keys_of(alloc, grouping, columns)?;
         groups_of(alloc, all)
+    }
+
+    /// The groups of keys that are given by numbers: `numbers` has for each of all keys its place in `keys`, where each of
+    /// them stands at least once.
+    pub fn of_numbered(
+        alloc: Global,
+        keys: Vec<Labels>,
+        numbers: &[usize],
+    ) -> Result<GroupIds, OutOfMemory>
+        requires within { All (λ n. n < length keys.items) numbers.now }
+        ensures { IfOk result (λ g. (all : List Pairs) → map (λ n. slice_index_or keys.items n []) numbers.now ≡ all
+            → ((l : Pairs) → list_any (same_labels l) keys.items ≡ list_any (same_labels l) all)
+            → g ≡ record { keys = distinct all; of = map (place_in (distinct all)) all }) }
+    {
+        let places = groups_of(alloc, keys)?;
+        let of = places_by(alloc, &places.of, numbers)?;
+        Ok(GroupIds {
+            keys: places.keys,
+            of,
+        })
     }
 }

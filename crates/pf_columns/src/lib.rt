@@ -9,8 +9,9 @@
 //! - `Cells` are the cells of consecutive steps without errors. A copy and a `part` share all elements, and so does a `cut`
 //!   but where it keeps few of them. `gather` makes the matrix over a grid.
 //! - `gather_steps` makes the matrix of several runs, one after another, and `join_cells` the cells.
-//! - `GroupIds` are the groups of columns, found once for all steps, `aggregated` the aggregations that have one value for
-//!   each group and no parameter, and `aggregated_by` those with one.
+//! - `GroupIds` are the groups of columns, found once for all steps, or those of keys that are given by numbers, and
+//!   `key_behind` makes a key. `aggregated` are the aggregations that have one value for each group and no parameter, and
+//!   `aggregated_by` those with one.
 //!
 //! A node that drops the metric name goes so:
 //!
@@ -42,7 +43,7 @@ mod values;
 pub use aggregate::{GroupOp, aggregated, aggregated_by, group_value};
 pub use cells::Cells;
 pub use column::Column;
-pub use groups::GroupIds;
+pub use groups::{GroupIds, key_behind};
 pub use joining::join_cells;
 pub use runs::gather_steps;
 pub use steps::{BadStep, StepCells, normalised};

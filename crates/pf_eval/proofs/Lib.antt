@@ -20,6 +20,7 @@ pub mod OneArgument
 pub mod PlainParts
 pub mod ReadTimes
 pub mod RunAnswers
+pub mod SeriesKnown
 pub mod ShardLists
 pub mod ShardedNodes
 pub mod SplitArguments

@@ -93,7 +93,7 @@ pub(crate) struct InstantSelector<'a> {
 }
 
 /// The instant selector that a query is, if it is one.
-fn instant_selector(expr: &Expr) -> Option<InstantSelector>
+pub(crate) fn instant_selector(expr: &Expr) -> Option<InstantSelector>
     ensures { MatchOption result (is_instant_selector (tree_of expr.now) ≡ false) (λ s. tree_of expr.now ≡ select s.selector.now None s.mods) }
 {
     match expr {

@@ -19,9 +19,11 @@ ghost use Rattle.pf_shard.specs.Lawful.{IsLawful, leg_count, legs_data};
 ghost use Rattle.pf_shard.specs.LegParts.{FitsNodes, part_at};
 
 use crate::bound::steps_over;
+use crate::called::instant_selector;
 use crate::numbered::numbered;
 use crate::plain::plain_steps;
 use crate::sharding::all_by_shard;
+use crate::summed::selected_groups;
 use pf_base::{Grid, OutOfMemory};
 use pf_block::Snap;
 use pf_columns::StepCells;
@@ -115,7 +117,12 @@ fn node_groups(
     let Expr::Aggregate { grouping, args, .. } = node else {
         unreachable!()
     };
-    let steps = plain_steps(alloc, snap, &args[0], ids, run)?;
+    let arg = &args[0];
+    if let Some(read) = instant_selector(arg) {
+        let groups = selected_groups(alloc, grouping, read.mods, snap, ids, run)?;
+        return Ok(groups);
+    }
+    let steps = plain_steps(alloc, snap, arg, ids, run)?;
     let groups = partials_over(alloc, grouping, steps, run.len())?;
     Ok(groups)
 }

@@ -26,6 +26,7 @@ mod reading;
 mod runs;
 mod sharding;
 mod subquery;
+mod summed;
 
 pub use bound::{EvalError, eval_bound};
 pub use built::is_evaluated;

@@ -44,7 +44,7 @@ fn by_shard(
     let mut lists = empty_lists(alloc, shards)?;
     for i in 0..ids.len() {
         let id = ids[i];
-        let shard = snap.labels(id).shard(shards);
+        let shard = snap.shard(id, shards);
         put_id(&mut lists, shard as usize, id)?;
     }
     Ok(lists)

@@ -1,7 +1,9 @@
 mod LastHeld
 mod MomentErrors
 mod MomentSamples
-mod PassingSeries
+mod NumberedSeries
+mod OneLabel
+pub mod PassingSeries
 mod Places
 mod RangeCells
 mod RankedSeries

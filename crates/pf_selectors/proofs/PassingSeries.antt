@@ -28,7 +28,7 @@ use Rattle.pf_model.specs.Selection.{same_labels}
 use Rattle.pf_model.proofs.KeySets.{same_is}
 use Rattle.pf_store.specs.Standing.{StandsFor}
 use Rattle.pf_selectors.specs.Passing.{ids_passing, rows_passing}
-use Rattle.pf_selectors.specs.SeriesColumns.{labels_read, range_column, read_at, read_column, unless_present, unless_some, value_read, window_at}
+use Rattle.pf_selectors.specs.SeriesColumns.{labels_read, range_column, read_at, read_column, series_column, unless_present, unless_some, value_read, window_at}
 use Rattle.pf_selectors.specs.Times.{time_at}
 use Rattle.pf_selectors.specs.declared.instant.Reading.{Reading}
 use Rattle.pf_selectors.specs.declared.instant.Reading.TheVariants as reading
@@ -171,6 +171,10 @@ module _ (P : Pairs → Bool) where
           read_same reading.Value
           ∙ columns_are reading.Value (kept s) ms times ids_in k h (snap_kept s snap) refl
           ∙ sym (selected_is (kept s) (rows_passing P samples) ms (snap_kept s snap) (stands_kept s samples stands) (time_at times k))
+
+      -- the same, where the series are read one by one
+      pub series_passing : cell_at (map (series_column s times) ids) k ≡ selected (rows_passing P samples) ms (time_at times k)
+      series_passing = values_passing
 
       pub times_passing : cell_at (map (read_column reading.Time s times) ids) k ≡ each_value Some (selected (map timed (rows_passing P samples)) ms (time_at times k))
       times_passing =

@@ -1,3 +1,4 @@
+pub mod Grouping
 pub mod Passing
 pub mod SeriesColumns
 pub mod Subqueries

@@ -38,6 +38,11 @@ values_read r samples times = below (λ k. option_map (value_read r) (read_at sa
 abbrev pub read_column : Reading → SnapData → Times → ℕ → ColumnData
 read_column r s times id = record { labels = labels_read r (labels_of s id); values = values_read r (samples_of s id) times }
 
+-- the values of a series at each step, as an instant selector reads them
+abbrev pub series_column : SnapData → Times → ℕ → ColumnData
+series_column s times id =
+    record { labels = labels_of s id; values = below (λ k. option_map (λ x. x.value) (read_at (samples_of s id) (time_at times k))) times.len }
+
 -- the window of so many milliseconds before a step, and a function of it
 abbrev pub window_at : ℕ → List Sample → Times → ℕ → List Sample
 window_at range samples times k = window_of samples (time_at times k -ℤ pos range) (time_at times k)

@@ -1,11 +1,11 @@
 //! Instant selectors over a whole run.
 
-ghost use Rattle.std.specs.Prelude.{◌≡◌, ◌<◌, ◌≤◌, ℕ, int_le, Bool, true, None, Some, List, IfOk, length, map, option_map};
+ghost use Rattle.std.specs.Prelude.{◌≡◌, ◌<◌, ◌≤◌, ℕ, int_le, Bool, true, None, Some, List, IfOk, OnOk, length, map, option_map};
 ghost use Rattle.std.specs.List.{All};
 ghost use Rattle.pf_base.specs.declared.plain.Row.{Row};
 ghost use Rattle.pf_base.specs.LabelSets.{Pairs};
 ghost use Rattle.pf_block.specs.Samples.{rises, until};
-ghost use Rattle.pf_block.specs.Snaps.{IsSnap, labels_of};
+ghost use Rattle.pf_block.specs.Snaps.{IsSnap, labels_of, samples_of};
 ghost use Rattle.pf_columns.specs.Columns.{cell_at, columns_labels};
 ghost use Rattle.pf_columns.specs.Steps.{rise_above, step_at};
 ghost use Rattle.pf_model.specs.declared.cell.StepCell.TheVariants.{Good};
@@ -18,7 +18,7 @@ ghost use Rattle.pf_model.specs.Micros.{seconds};
 ghost use Rattle.pf_range.specs.Windows.{IsTime};
 ghost use Rattle.pf_store.specs.Standing.{StandsFor};
 ghost use Rattle.pf_selectors.specs.Passing.{ids_passing, rows_passing};
-ghost use Rattle.pf_selectors.specs.SeriesColumns.{labels_read, read_at, read_column, value_read, values_read};
+ghost use Rattle.pf_selectors.specs.SeriesColumns.{labels_read, read_at, read_column, series_column, value_read, values_read};
 ghost use Rattle.pf_selectors.specs.Times.{AreTimes, time_at};
 ghost use Rattle.pf_selectors.specs.declared.times.Times.{Times};
 
@@ -76,24 +76,49 @@ fn read_at(samples: &[Sample], count: usize, time: i64) -> Option<Sample>
     newest(samples, count, time - LOOKBACK)
 }
 
-fn values_read(
-    alloc: Global,
+/// Puts what is read of samples at each step in place of what `found` holds.
+fn put_values(
     reading: Reading,
     samples: &[Sample],
     times: &Times,
-) -> Result<Vec<Option<Value>>, OutOfMemory>
+    found: &mut Vec<Option<Value>>,
+) -> Result<(), OutOfMemory>
     requires rises { rises samples.now ≡ true }
     requires times { AreTimes times.now }
-    ensures { IfOk result (λ v. v.items ≡ values_read reading samples.now times.now) }
+    ensures { OnOk result (found.new.items ≡ values_read reading samples.now times.now) }
 {
-    let mut found = Vec::with_capacity(alloc, times.len as usize)?;
+    found.clear();
     let mut count = 0;
     for i in 0..times.len {
         let time = times.at(i);
         count = moved(samples, count, time);
         found.push(value_read(reading, read_at(samples, count, time)))?;
     }
-    Ok(found)
+    Ok(())
+}
+
+/// Puts what is read of a series at each step in place of what `values` holds, where the times are within a span. `samples` is
+/// overwritten.
+fn read_steps(
+    reading: Reading,
+    snap: &Snap,
+    id: u32,
+    times: &Times,
+    span: Span,
+    samples: &mut Vec<Sample>,
+    values: &mut Vec<Option<Value>>,
+) -> Result<(), OutOfMemory>
+    requires inside { id < length snap.now.labels }
+    requires times { AreTimes times.now }
+    requires first { IsTime span.first }
+    requires last { IsTime span.last }
+    requires low { (k : ℕ) → k < times.now.len → int_le span.first (time_at times.now k) ≡ true }
+    requires high { (k : ℕ) → k < times.now.len → int_le (time_at times.now k) span.last ≡ true }
+    ensures { OnOk result (values.new.items ≡ values_read reading (samples_of snap.now id) times.now) }
+{
+    read(snap, id, span.first - LOOKBACK, span.last, samples)?;
+    put_values(reading, samples, times, values)?;
+    Ok(())
 }
 
 /// The column of a series, whose times are within a span. `samples` is overwritten.
@@ -114,11 +139,10 @@ fn read_column(
     requires high { (k : ℕ) → k < times.now.len → int_le (time_at times.now k) span.last ≡ true }
     ensures { IfOk result (λ c. c ≡ read_column reading snap.now times.now id) }
 {
-    read(snap, id, span.first - LOOKBACK, span.last, samples)?;
-    Ok(Column {
-        labels: labels_read(reading, snap.labels(id))?,
-        values: values_read(alloc, reading, samples, times)?,
-    })
+    let labels = labels_read(reading, snap.labels(id))?;
+    let mut values = Vec::with_capacity(alloc, times.len as usize)?;
+    read_steps(reading, snap, id, times, span, samples, &mut values)?;
+    Ok(Column { labels, values })
 }
 
 fn read_columns(
@@ -140,6 +164,28 @@ fn read_columns(
         columns.push(read_column(alloc, reading, snap, *id, times, span, &mut samples)?)?;
     }
     Ok(columns)
+}
+
+/// Reads the values of an instant selector for one series at each step, in place of those that `values` holds, where `span` has
+/// all times of the run. `samples` is overwritten.
+pub fn read_values(
+    snap: &Snap,
+    id: u32,
+    times: &Times,
+    span: Span,
+    samples: &mut Vec<Sample>,
+    values: &mut Vec<Option<Value>>,
+) -> Result<(), OutOfMemory>
+    requires inside { id < length snap.now.labels }
+    requires times { AreTimes times.now }
+    requires first { IsTime span.first }
+    requires last { IsTime span.last }
+    requires low { (k : ℕ) → k < times.now.len → int_le span.first (time_at times.now k) ≡ true }
+    requires high { (k : ℕ) → k < times.now.len → int_le (time_at times.now k) span.last ≡ true }
+    ensures { OnOk result (values.new.items ≡ (series_column snap.now times.now id).values) }
+{
+    read_steps(Reading::Value, snap, id, times, span, samples, values)?;
+    Ok(())
 }
 
 /// Whether some series stand in label order, each once.

@@ -14,11 +14,11 @@ pub struct Times<'a> {
     pub list: &'a [i64],
 }
 
-/// From the least of some times to the greatest.
+/// From the least of some times to the greatest, in milliseconds.
 #[derive(Clone, Copy)]
-pub(crate) struct Span {
-    pub(crate) first: i64,
-    pub(crate) last: i64,
+pub struct Span {
+    pub first: i64,
+    pub last: i64,
 }
 
 /// The time of a step, unless it is too large.
@@ -159,7 +159,7 @@ impl<'a> Times<'a> {
     }
 
     /// The least and the greatest time of a run of at least one step.
-    pub(crate) fn span(&self) -> Span
+    pub fn span(&self) -> Span
         requires times { AreTimes self.now }
         requires some { 0 < self.now.len }
         ensures low { (k : ℕ) → k < self.now.len → int_le result.first (time_at self.now k) ≡ true }

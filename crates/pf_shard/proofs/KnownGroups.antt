@@ -115,6 +115,11 @@ module _ (key : Pairs → Pairs) (cs : List ColumnData) (n : ℕ) where
       ∙ keyed os 0 (distinct all_keys)
       (λ j l. sym (from_start j) ∙ those_members key (distinct all_keys) (distinct_rising all_keys) j l cs (each_stands all_keys))
 
+  -- the same, where the places and the number of the keys have names of their own
+  pub found_known : (os : List ℕ) (ls : List Pairs) (count : ℕ) (pss : List (List (Option Partial))) → os ≡ map (place_in (distinct all_keys)) all_keys → ls ≡ distinct all_keys
+      → count ≡ length ls → pss ≡ below (λ g. known_over n (those_of g os cs)) count → with_keys ls pss ≡ group_columns key cs n
+  found_known os ls count pss o e m h = columns_known ls pss e (h ∙ (λ i. below (λ g. known_over n (those_of g (o i) cs)) (m i)))
+
   keys_are : (ls : List Pairs) → keys_in (map column ls) ≡ ls
   keys_are [] = refl
   keys_are (l ∷ ls) = ap (λ ms. l ∷ ms) (keys_are ls)
@@ -182,3 +187,9 @@ pub keyed_within : (most : ℕ) (ls : List Pairs) (pss : List (List (Option Part
 keyed_within most [] pss h = tt
 keyed_within most (l ∷ ls) [] h = tt
 keyed_within most (l ∷ ls) (ps ∷ pss) h = (h.0, keyed_within most ls pss h.1)
+
+-- keys that are put to as many lists stay as they are
+pub keys_of_keyed : (ls : List Pairs) (pss : List (List (Option Partial))) → length pss ≡ length ls → keys_in (with_keys ls pss) ≡ ls
+keys_of_keyed [] pss e = refl
+keys_of_keyed (l ∷ ls) [] e = absurd (omega (arith, e))
+keys_of_keyed (l ∷ ls) (ps ∷ pss) e = ap (λ ms. l ∷ ms) (keys_of_keyed ls pss (omega (arith, e)))

@@ -154,13 +154,12 @@ pub each_unmap : {X Y : Type 0} (P : Y → Type 0) (f : X → Y) (xs : List X) �
 each_unmap P f [] h = tt
 each_unmap P f (x ∷ xs) h = (h.0, each_unmap P f xs h.1)
 
-pub each_map : {X Y : Type 0} (P : Y → Type 0) (f : X → Y) (xs : List X) → Each (λ x. P (f x)) xs → Each P (map f xs)
-each_map P f [] h = tt
-each_map P f (x ∷ xs) h = (h.0, each_map P f xs h.1)
-
 pub each_wider : {X : Type 0} (P Q : X → Type 0) → ((x : X) → P x → Q x) → (xs : List X) → Each P xs → Each Q xs
 each_wider P Q f [] h = tt
 each_wider P Q f (x ∷ xs) h = (f x h.0, each_wider P Q f xs h.1)
+
+pub lists_wider : (m n : ℕ) (pss : List (List (Option Partial))) → m ≤ n → Each (λ ps. Each (IsWithin m) ps) pss → Each (λ ps. Each (IsWithin n) ps) pss
+lists_wider m n pss h = each_wider (λ ps. Each (IsWithin m) ps) (λ ps. Each (IsWithin n) ps) (λ ps. all_wider m n ps h) pss
 
 pub take_drop : {X : Type 0} (i : ℕ) (xs : List X) → take i xs ++ drop i xs ≡ xs
 take_drop zero xs = refl

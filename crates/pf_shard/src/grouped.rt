@@ -6,6 +6,7 @@ ghost use Rattle.pf_model.specs.Aggregation.{group_key};
 ghost use Rattle.pf_model.specs.Legs.{grouped_part, partial_of};
 ghost use Rattle.pf_model.specs.Lists.{Each};
 ghost use Rattle.pf_model.specs.Merging.{below};
+ghost use Rattle.pf_columns.specs.Columns.{AreRising};
 ghost use Rattle.pf_columns.specs.Groups.{those_of};
 ghost use Rattle.pf_columns.specs.Steps.{step_at};
 ghost use Rattle.pf_shard.specs.Groups.{AreWithin, IsWithin, both, group_columns, groups_at, known_one, known_over, with_keys, with_values};
@@ -16,6 +17,7 @@ use pf_base::{Labels, OutOfMemory, Partial, Value};
 use pf_columns::{Column, GroupIds, StepCells};
 use pf_model::Grouping;
 use std::alloc::Global;
+use std::marker::Model;
 
 /// What is known of a group twice, together.
 pub(crate) fn both(a: Option<Partial>, b: Option<Partial>) -> Option<Partial>
@@ -67,17 +69,6 @@ fn add_values(known: &mut Vec<Option<Partial>>, values: &[Option<Value>])
     }
 }
 
-/// Adds the values of a column to what is known of its group.
-fn add_column(known: &mut Vec<Vec<Option<Partial>>>, place: usize, values: &[Option<Value>])
-    requires place { place < length known.old.items }
-    requires within { Each (λ v. Each (IsWithin 4294967295) v.items) known.old.items }
-    ensures values { map (λ v. v.items) known.new.items
-        ≡ slice_set (map (λ v. v.items) known.old.items) place (with_values (slice_index_or (map (λ v. v.items) known.old.items) place []) values.now) }
-    ensures within { (n : ℕ) → Each (λ v. Each (IsWithin n) v.items) known.old.items → Each (λ v. Each (IsWithin (n + 1)) v.items) known.new.items }
-{
-    add_values(&mut known[place], values);
-}
-
 /// Nothing, at each of so many steps.
 fn nothing_at(alloc: Global, len: u32) -> Result<Vec<Option<Partial>>, OutOfMemory>
     ensures { IfOk result (λ v. v.items ≡ known_over len []) }
@@ -89,19 +80,57 @@ fn nothing_at(alloc: Global, len: u32) -> Result<Vec<Option<Partial>>, OutOfMemo
     Ok(found)
 }
 
-/// Nothing of each of so many groups.
-fn nothing_of(
-    alloc: Global,
-    count: usize,
-    len: u32,
-) -> Result<Vec<Vec<Option<Partial>>>, OutOfMemory>
-    ensures { IfOk result (λ v. map (λ v. v.items) v.items ≡ below (λ g. known_over len []) count) }
-{
-    let mut found = Vec::with_capacity(alloc, count)?;
-    for _ in 0..count {
-        found.push(nothing_at(alloc, len)?)?;
+/// What is known of each of some groups at each step of a run, while the values of columns are added one after another.
+#[derive(Debug, Drop)]
+pub struct Known {
+    lists: Vec<Vec<Option<Partial>>>,
+}
+
+impl Model for Known {
+    ghost use Rattle.std.specs.Prelude.{List, Option, map};
+    ghost use Rattle.pf_base.specs.declared.plain.Partial.{Partial};
+
+    ghost Value = { List (List (Option Partial)) };
+
+    ghost view = { λ k. map (λ v. v.items) k.lists.items };
+}
+
+impl Known {
+    /// Nothing of so many groups at each of so many steps.
+    pub fn new(alloc: Global, count: usize, len: u32) -> Result<Known, OutOfMemory>
+        ensures known { IfOk result (λ k. k ≡ below (λ g. known_over len []) count) }
+        ensures within { IfOk result (λ k. Each (λ ps. Each (IsWithin 0) ps) k) }
+    {
+        let mut lists = Vec::with_capacity(alloc, count)?;
+        for _ in 0..count {
+            lists.push(nothing_at(alloc, len)?)?;
+        }
+        Ok(Known { lists })
     }
-    Ok(found)
+
+    /// Adds the values of a column to what is known of a group.
+    pub fn add(&mut self, place: usize, values: &[Option<Value>])
+        requires place { place < length self.old }
+        requires within { Each (λ ps. Each (IsWithin 4294967295) ps) self.old }
+        ensures values { self.new ≡ slice_set self.old place (with_values (slice_index_or self.old place []) values.now) }
+        ensures within { (n : ℕ) → Each (λ ps. Each (IsWithin n) ps) self.old → Each (λ ps. Each (IsWithin (n + 1)) ps) self.new }
+    {
+        add_values(&mut self.lists[place], values);
+    }
+
+    /// What a shard knows of groups with these keys at each step, without errors.
+    pub fn steps(self, alloc: Global, keys: Vec<Labels>) -> Result<GroupSteps, OutOfMemory>
+        requires alike { length self ≡ length keys.items }
+        requires rising { AreRising keys.items }
+        requires within { Each (λ ps. Each (IsWithin 4294967295) ps) self }
+        ensures { IfOk result (λ g. (g.columns ≡ with_keys keys.items self) × (g.bads ≡ [])) }
+    {
+        let columns = with_keys(alloc, keys, self)?;
+        Ok(GroupSteps {
+            columns,
+            bads: Vec::new(alloc),
+        })
+    }
 }
 
 /// What is known of each group at each step, by the places of the columns' keys.
@@ -111,17 +140,17 @@ fn known_by_place(
     columns: &[Column],
     count: usize,
     len: u32,
-) -> Result<Vec<Vec<Option<Partial>>>, OutOfMemory>
+) -> Result<Known, OutOfMemory>
     requires alike { length places.now ≡ length columns.now }
     requires inside { All (λ o. o < count) places.now }
     requires few { length columns.now ≤ 4294967295 }
-    ensures known { IfOk result (λ v. map (λ v. v.items) v.items ≡ below (λ g. known_over len (those_of g places.now columns.now)) count) }
-    ensures within { IfOk result (λ v. Each (λ v. Each (IsWithin 4294967295) v.items) v.items) }
+    ensures known { IfOk result (λ k. k ≡ below (λ g. known_over len (those_of g places.now columns.now)) count) }
+    ensures within { IfOk result (λ k. Each (λ ps. Each (IsWithin 4294967295) ps) k) }
 {
-    let mut found = nothing_of(alloc, count, len)?;
+    let mut found = Known::new(alloc, count, len)?;
     for i in 0..columns.len() {
         let column = &columns[i];
-        add_column(&mut found, places[i], &column.values);
+        found.add(places[i], &column.values);
     }
     Ok(found)
 }
@@ -130,13 +159,14 @@ fn known_by_place(
 fn with_keys(
     alloc: Global,
     keys: Vec<Labels>,
-    known: Vec<Vec<Option<Partial>>>,
+    known: Known,
 ) -> Result<Vec<GroupColumn>, OutOfMemory>
-    requires { length known.items ≡ length keys.items }
-    ensures { IfOk result (λ v. v.items ≡ with_keys keys.items (map (λ v. v.items) known.items)) }
+    requires { length known ≡ length keys.items }
+    ensures { IfOk result (λ v. v.items ≡ with_keys keys.items known) }
 {
     let mut found = Vec::with_capacity(alloc, keys.len())?;
-    let mut rest = known.into_iter();
+    let Known { lists } = known;
+    let mut rest = lists.into_iter();
     for key in keys {
         let Some(partials) = rest.next() else {
             unreachable!()

@@ -5,6 +5,7 @@
 //! - `Resolved` is a query over a snapshot, and `Legs` its parts that are evaluated one by one: `rewrite` makes them, and
 //!   `leg_count` tells how many there are. A `Part` is what one of them is over a run: the whole query at each step, or
 //!   `GroupSteps`, what one shard knows there of the groups of an aggregation.
+//! - `Known` is what is known of groups while columns are added one by one.
 //! - `partials_over` gives what a shard knows over a run, and `merge_shards` the aggregation from all shards. `add_partials` merges
 //!   what is known of groups at one step.
 #![tactic(auto)]
@@ -18,7 +19,7 @@ mod partials;
 mod parts;
 mod shared;
 
-pub use grouped::partials_over;
+pub use grouped::{Known, partials_over};
 pub use groups::GroupSteps;
 pub use legs::{Legs, Resolved, leg_count, rewrite};
 pub use merging::merge_shards;

@@ -1,22 +1,13 @@
-use Rattle.std.proofs.Common.{rules, ◌≡◌, ◌<◌, List, map, length, Option, Vec, Global, subst, ap, sym, ◌∙◌}
+use Rattle.std.proofs.Common.{rules, ◌≡◌, ◌<◌, map, length, subst, ap, sym, ◌∙◌}
 use Rattle.std.specs.List.{All}
-use Rattle.std.proofs.lemmas.List.{length-map}
-use Rattle.pf_base.specs.declared.plain.Partial.{Partial}
 use Rattle.pf_model.specs.Aggregation.{group_key}
 use Rattle.pf_model.specs.Cells.{distinct}
-use Rattle.pf_model.specs.Lists.{Each}
-use Rattle.pf_model.specs.Merging.{below}
 use Rattle.pf_columns.specs.Columns.{columns_labels}
-use Rattle.pf_columns.specs.Groups.{those_of}
 use Rattle.pf_columns.proofs.Below.{length_below}
 use Rattle.pf_columns.proofs.GroupColumns.{ids_below}
-use Rattle.pf_shard.specs.Groups.{AreWithin, IsWithin, known_over}
-use Rattle.pf_shard.proofs.KnownGroups.{columns_known, keyed_within}
-use Rattle.pf_shard.proofs.KnownValues.{each_map}
+use Rattle.pf_shard.specs.Groups.{AreWithin}
+use Rattle.pf_shard.proofs.KnownGroups.{found_known, keyed_within}
 use Rattle.pf_shard.proofs.grouped.known_columns.Goals as goal
-
-abbrev items : Vec (Option Partial) Global → List (Option Partial)
-items v = v.items
 
 pub known_by_place-requires-clause-inside : goal.known_by_place-requires-clause-inside
 known_by_place-requires-clause-inside c =
@@ -30,7 +21,7 @@ known_by_place-requires-clause-inside c =
 pub with_keys-requires : goal.with_keys-requires
 with_keys-requires c =
     let own : c.len.result ≡ length c.ids.inside.keys.items = search rules in
-    sym (length-map c.in_ok-known.known.items items) ∙ ap length c.in_ok-known.ensures.known ∙ length_below _ c.len.result ∙ own
+    ap length c.in_ok-known.ensures.known ∙ length_below _ c.len.result ∙ own
 
 pub returns-clause-known : goal.returns-clause-known
 returns-clause-known c =
@@ -40,11 +31,9 @@ returns-clause-known c =
     let keys = ap (λ g. g.keys) (c.ids.view_is ∙ c.in_ok-ids.ensures) in
     let places = c.deref.ensures.value ∙ ap (λ g. g.of) (c.ids.view_is ∙ c.in_ok-ids.ensures) in
     c.in_ok-found.ensures
-    ∙ columns_known key cs c.args.len c.ids.inside.keys.items (map items c.in_ok-known.known.items) keys
-    (c.in_ok-known.ensures.known ∙ (λ i. below (λ g. known_over c.args.len (those_of g (places i) cs)) (own i)))
+    ∙ found_known key cs c.args.len c.deref.result.now c.ids.inside.keys.items c.len.result c.in_ok-known.known places keys own c.in_ok-known.ensures.known
 
 pub returns-clause-within : goal.returns-clause-within
 returns-clause-within c =
     subst (AreWithin 4294967295) (sym c.in_ok-found.ensures)
-    (keyed_within 4294967295 c.ids.inside.keys.items (map items c.in_ok-known.known.items)
-    (each_map (λ ps. Each (IsWithin 4294967295) ps) items c.in_ok-known.known.items c.in_ok-known.ensures.within))
+    (keyed_within 4294967295 c.ids.inside.keys.items c.in_ok-known.known c.in_ok-known.ensures.within)
