@@ -14,7 +14,7 @@ use Rattle.pf_model.specs.Lists.{joined}
 use Rattle.pf_model.specs.Merging.{below}
 use Rattle.pf_columns.specs.Columns.{AreRising, ColumnData, cell_at, columns_labels, value_in}
 use Rattle.pf_columns.specs.Groups.{members, place_in, those_of}
-use Rattle.pf_columns.specs.Ranks.{buckets_by, entries_at, entry, first_columns, is_marked, marks_at, marks_by, no_column, order_of, places_of, ranked, value_at, wanted}
+use Rattle.pf_columns.specs.Ranks.{buckets_by, entries_at, entry, first_by_place, first_columns, is_marked, marks_at, marks_by, no_column, order_of, places_of, ranked, value_at, wanted}
 use Rattle.pf_columns.specs.declared.ranked.Rank.{Rank}
 use Rattle.pf_columns.proofs.Apart.{all_apart, buckets_apart, each_apart}
 use Rattle.pf_columns.proofs.Below.{first_below, in_below}
@@ -56,7 +56,7 @@ module _ (r : Rank) (cs : List ColumnData) (k : ℕ) where
 
 -- ---- lists that are joined
 
-joined_alike : {X Y : Type 0} (f g : X → List Y) (xs : List X) → ((x : X) → f x ≡ g x) → joined f xs ≡ joined g xs
+pub joined_alike : {X Y : Type 0} (f g : X → List Y) (xs : List X) → ((x : X) → f x ≡ g x) → joined f xs ≡ joined g xs
 joined_alike f g [] e = refl
 joined_alike f g (x ∷ xs) e = λ i. e x i ++ joined_alike f g xs e i
 
@@ -78,7 +78,7 @@ module _ {X Y : Type 0} (f : X → List Y) (p : X → Bool) (none : (x : X) → 
   joined_filter [] = refl
   joined_filter (x ∷ xs) = filter_by x xs (p x) refl (joined_filter xs)
 
-joined_below : {X Y Z : Type 0} (f : X → List Y) (h : Z → List Y) (g : ℕ → X) (d : Z) (zs : List Z) → ((j : ℕ) → j < length zs → f (g j) ≡ h (get_or zs j d))
+pub joined_below : {X Y Z : Type 0} (f : X → List Y) (h : Z → List Y) (g : ℕ → X) (d : Z) (zs : List Z) → ((j : ℕ) → j < length zs → f (g j) ≡ h (get_or zs j d))
     → joined f (below g (length zs)) ≡ joined h zs
 joined_below f h g d [] e = refl
 joined_below f h g d (z ∷ zs) e =
@@ -92,14 +92,14 @@ no_values : (es : List Element) → is_full (values_of es) ≡ false → es ≡ 
 no_values [] h = refl
 no_values (e ∷ es) h = let no : ◌≡◌ {A = Bool} true false = h in cc
 
-first_so_many : (order : Element → Element → Ordering) (param : Option ℤ) (gs : List ElementGroup)
+pub first_so_many : (order : Element → Element → Ordering) (param : Option ℤ) (gs : List ElementGroup)
     → first_of_each order param gs ≡ in_label_order (joined (λ g. take (wanted param) (isort order g.elements)) gs)
 first_so_many order None gs = ap in_label_order (sym (joined_none (λ (g : ElementGroup). take 0 (isort order g.elements)) gs (λ g. refl)))
 first_so_many order (Some v) gs = refl
 
 module _ (key : Pairs → Pairs) (order : Element → Element → Ordering) (n : ℕ) (cs : List ColumnData) (k : ℕ) where
   -- the first elements of a group
-  abbrev of_members : Pairs → List Element
+  abbrev pub of_members : Pairs → List Element
   of_members l = take n (isort order (cell_at (members key l cs) k))
 
   none_of : (l : Pairs) → is_full (values_of (cell_at (members key l cs) k)) ≡ false → of_members l ≡ []
@@ -116,6 +116,19 @@ module _ (key : Pairs → Pairs) (order : Element → Element → Ordering) (n :
       ∙ joined_filter of_members (λ l. is_full (values_of (cell_at (members key l cs) k))) none_of all
 
 -- ---- the columns
+
+-- what is kept of groups that are known by their numbers
+pub marked_cell : (r : Rank) (params : List (Option ℤ)) (cs : List ColumnData) (n : ℕ) → AreRising (columns_labels cs) → (os : List ℕ) (m k : ℕ) → k < n
+    → cell_at (first_by_place r params cs os m n) k ≡ isort element_cmp (map (element_of r cs k) (joined (ranked r (wanted (value_in params k)) cs k) (buckets_by os m)))
+marked_cell r params cs n rises os m k h =
+    let most = wanted (value_in params k) in
+    let buckets = buckets_by os m in
+    let rows = marks_by r params cs buckets n in
+    let row : slice_index_or rows k [] ≡ marks_at r most cs buckets k = in_below (λ j. marks_at r (wanted (value_in params j)) cs buckets j) n k [] h in
+    kept_cell k rows 0 cs
+    ∙ passing_alike k (λ j. is_marked rows k (0 + j)) (stand (joined (ranked r most cs k) buckets)) cs
+    (λ j l. ap (is_marked rows k) (from_none j) ∙ ap (λ ms. slice_index_or ms j false) row ∙ marks_are r cs k most buckets j l)
+    ∙ kept_sorted r cs k rises most buckets (all_apart r cs k most buckets (each_apart os m) (buckets_apart os m))
 
 module _ (r : Rank) (key : Pairs → Pairs) (params : List (Option ℤ)) (cs : List ColumnData) (n : ℕ) (rises : AreRising (columns_labels cs)) where
   abbrev all_keys : List Pairs
@@ -142,12 +155,7 @@ module _ (r : Rank) (key : Pairs → Pairs) (params : List (Option ℤ)) (cs : L
   pub first_cell : (k : ℕ) → k < n → cell_at (first_columns r key params cs n) k ≡ first_of_each (order_of r) (value_in params k) (groups key (cell_at cs k))
   first_cell k h =
       let most = wanted (value_in params k) in
-      let rows = marks_by r params cs buckets n in
-      let row : slice_index_or rows k [] ≡ marks_at r most cs buckets k = in_below (λ m. marks_at r (wanted (value_in params m)) cs buckets m) n k [] h in
-      kept_cell k rows 0 cs
-      ∙ passing_alike k (λ j. is_marked rows k (0 + j)) (stand (joined (ranked r most cs k) buckets)) cs
-      (λ j l. ap (is_marked rows k) (from_none j) ∙ ap (λ ms. slice_index_or ms j false) row ∙ marks_are r cs k most buckets j l)
-      ∙ kept_sorted r cs k rises most buckets (all_apart r cs k most buckets (each_apart places (length all_keys)) (buckets_apart places (length all_keys)))
+      marked_cell r params cs n rises places (length all_keys) k h
       ∙ ap (isort element_cmp) (ranked_groups most k ∙ sym (all_groups key (order_of r) most cs k))
       ∙ sym (first_so_many (order_of r) (value_in params k) (groups key (cell_at cs k)))
 

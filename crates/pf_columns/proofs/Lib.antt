@@ -21,6 +21,8 @@ pub mod Marking
 pub mod Apart
 pub mod RankedEntries
 pub mod FirstOfGroups
+pub mod SortedParts
+pub mod EachGroup
 pub mod WithParameter
 pub mod PlaceBuckets
 pub mod EntryOrder

@@ -155,7 +155,7 @@ equal_isort (e ∷ es) = equal_ins e (isort element_cmp es) ∙ λ i. any_isort 
 
 -- ---- the cell
 
-cell_of_sorted : (es : List Element) → cell_of (isort element_cmp es) ≡ cell_of es
+pub cell_of_sorted : (es : List Element) → cell_of (isort element_cmp es) ≡ cell_of es
 cell_of_sorted es =
     λ i. cond (equal_isort es i) (Bad DoubleLabels) (Good (stays element_cmp (isort element_cmp es) (ascends_isort element_cmp element_total es) i))
 

@@ -1,5 +1,5 @@
 -- Which elements of a group `topk` and `bottomk` keep at a step, by the places of their columns: this project's own.
-use Rattle.std.specs.Prelude.{ℕ, ◌+◌, ℤ, neg_ℤ, Bool, true, false, cond, Option, Some, None, List, [], ◌∷◌, length, map, take, nat_eq, replicate, slice_index_or, slice_set}
+use Rattle.std.specs.Prelude.{ℕ, ◌+◌, ℤ, neg_ℤ, Bool, true, false, cond, Option, Some, None, List, [], ◌∷◌, ◌++◌, length, map, take, nat_eq, replicate, slice_index_or, slice_set}
 use Rattle.std.specs.declared.cmp.Ordering.{Ordering}
 use Rattle.std.specs.Ordering.{int_cmp, nat_cmp, ordering_then}
 use Rattle.pf_base.specs.LabelSets.{Pairs}
@@ -10,7 +10,7 @@ use Rattle.pf_model.specs.declared.functions.AggOp.TheVariants.{Topk, Bottomk}
 use Rattle.pf_model.specs.Aggregation.{falling, rising, whole_units}
 use Rattle.pf_model.specs.Lists.{joined}
 use Rattle.pf_model.specs.Merging.{below}
-use Rattle.pf_columns.specs.Columns.{ColumnData, columns_labels, value_in}
+use Rattle.pf_columns.specs.Columns.{ColumnData, columns_labels, has_value, value_in}
 use Rattle.pf_columns.specs.Groups.{group_column, groups_by, keys_by, quantile_of}
 use Rattle.pf_columns.specs.declared.ranked.Rank.{Rank}
 use Rattle.pf_columns.specs.declared.ranked.Rank.TheVariants as rank
@@ -97,10 +97,37 @@ kept_columns rows i (c ∷ cs) = record { labels = c.labels; values = kept_value
 abbrev pub marks_by : Rank → List (Option ℤ) → List ColumnData → List (List ℕ) → ℕ → List (List Bool)
 marks_by r params cs bs n = below (λ k. marks_at r (wanted (value_in params k)) cs bs k) n
 
+-- the first elements of each group, where each column's group is known by its number
+abbrev pub first_by_place : Rank → List (Option ℤ) → List ColumnData → List ℕ → ℕ → ℕ → List ColumnData
+first_by_place r params cs os m n = kept_columns (marks_by r params cs (buckets_by os m) n) 0 cs
+
 abbrev pub first_columns : Rank → (Pairs → Pairs) → List (Option ℤ) → List ColumnData → ℕ → List ColumnData
 first_columns r key params cs n =
     let ids = groups_by key (columns_labels cs) in
-    kept_columns (marks_by r params cs (buckets_by ids.of (length ids.keys)) n) 0 cs
+    first_by_place r params cs ids.of (length ids.keys) n
+
+-- a column that has a value at some step
+abbrev pub valued : ColumnData → List ColumnData
+valued c = cond (has_value c.values) (c ∷ []) []
+
+-- the columns of which something is kept, where all are of one group
+abbrev pub first_of_group : Rank → List (Option ℤ) → List ColumnData → ℕ → List ColumnData
+first_of_group r params cs n = joined valued (first_by_place r params cs (replicate (length cs) 0) 1 n)
+
+-- a column whose labels are not read yet
+abbrev pub bare : ColumnData → ColumnData
+bare c = record { labels = []; values = c.values }
+
+-- columns with the labels of each, of those that have a value at some step
+abbrev pub labelled : List Pairs → List ColumnData → List ColumnData
+labelled ls [] = []
+labelled [] (c ∷ cs) = []
+labelled (l ∷ ls) (c ∷ cs) = valued (record { labels = l; values = c.values }) ++ labelled ls cs
+
+-- the aggregation that keeps elements in an order
+abbrev pub ranking : Rank → AggOp
+ranking rank.Falling = Topk
+ranking rank.Rising = Bottomk
 
 -- the columns of an aggregation with a parameter: what stands here for the others is not used
 abbrev pub columns_by : AggOp → (Pairs → Pairs) → List (Option ℤ) → List ColumnData → ℕ → List ColumnData

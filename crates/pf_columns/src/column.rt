@@ -73,7 +73,7 @@ fn copy_of(
 }
 
 /// Whether some step has a value.
-fn has_value(values: &[Option<Value>]) -> bool
+pub fn has_value(values: &[Option<Value>]) -> bool
     ensures { result ≡ has_value values.now }
 {
     for value in values {

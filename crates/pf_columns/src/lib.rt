@@ -12,6 +12,8 @@
 //! - `GroupIds` are the groups of columns, found once for all steps, or those of keys that are given by numbers, and
 //!   `key_behind` makes a key. `aggregated` are the aggregations that have one value for each group and no parameter, and
 //!   `aggregated_by` those with one.
+//! - `buckets_by` are the places of each group, and `first_of_group` is `topk` or `bottomk` of one group alone, for a caller that goes
+//!   group by group.
 //!
 //! A node that drops the metric name goes so:
 //!
@@ -42,9 +44,10 @@ mod values;
 
 pub use aggregate::{GroupOp, aggregated, aggregated_by, group_value};
 pub use cells::Cells;
-pub use column::Column;
+pub use column::{Column, has_value};
 pub use groups::{GroupIds, key_behind};
 pub use joining::join_cells;
+pub use ranked::{Rank, buckets_by, first_of_group};
 pub use runs::gather_steps;
 pub use steps::{BadStep, StepCells, normalised};
 pub use values::quantile;

@@ -1,17 +1,17 @@
 //! The elements of each group that `topk` and `bottomk` keep. The groups are found once for all steps, and no label set is
 //! compared at a step: label order is the order of the columns.
 
-ghost use Rattle.std.specs.Prelude.{◌≡◌, ◌++◌, ◌∷◌, ◌<◌, [], false, map, length, replicate, slice_index_or, slice_set, take, IfOk, OnOk};
+ghost use Rattle.std.specs.Prelude.{◌≡◌, ◌++◌, ◌∷◌, ◌<◌, [], false, map, length, replicate, slice_index_or, slice_set, take, IfOk, IfSome, OnOk};
 ghost use Rattle.std.specs.List.{All};
 ghost use Rattle.pf_base.specs.Sorting.{isort};
 ghost use Rattle.pf_model.specs.Aggregation.{group_key, whole_units};
 ghost use Rattle.pf_model.specs.Merging.{below};
-ghost use Rattle.pf_columns.specs.Ranks.{buckets_by, entries_at, entry_cmp, first_columns, group_marks, height_of, is_marked, kept_columns, kept_value, kept_values, marked, marks_at, marks_by, places_of, value_at, wanted};
+ghost use Rattle.pf_columns.specs.Ranks.{buckets_by, entries_at, entry_cmp, first_by_place, first_columns, group_marks, height_of, is_marked, kept_columns, kept_value, kept_values, marked, marks_at, marks_by, places_of, ranking, value_at, wanted};
 
 use crate::column::{Column, value_of};
 use crate::groups::GroupIds;
 use pf_base::{OutOfMemory, Value};
-use pf_model::Grouping;
+use pf_model::{AggOp, Grouping};
 use std::alloc::Global;
 
 /// The order in which `topk` and `bottomk` keep the elements of a group: by value, and label order among equal values.
@@ -19,6 +19,19 @@ use std::alloc::Global;
 pub enum Rank {
     Falling,
     Rising,
+}
+
+impl Rank {
+    /// The order in which an aggregation keeps elements, if it is `topk` or `bottomk`.
+    pub fn of(op: AggOp) -> Option<Rank>
+        ensures { IfSome result (λ rank. ranking rank ≡ op) }
+    {
+        match op {
+            AggOp::Topk => Some(Rank::Falling),
+            AggOp::Bottomk => Some(Rank::Rising),
+            _ => None,
+        }
+    }
 }
 
 /// An element of a group at a step: what its value is ordered by, and the place of its column.
@@ -76,8 +89,8 @@ fn empty_buckets(alloc: Global, count: usize) -> Result<Vec<Vec<usize>>, OutOfMe
     Ok(found)
 }
 
-/// The places of each group's columns, in their order.
-fn buckets_by(alloc: Global, of: &[usize], count: usize) -> Result<Vec<Vec<usize>>, OutOfMemory>
+/// The places of each of `count` groups, in their order, where `of` has for each place the number of its group.
+pub fn buckets_by(alloc: Global, of: &[usize], count: usize) -> Result<Vec<Vec<usize>>, OutOfMemory>
     requires { All (λ o. o < count) of.now }
     ensures { IfOk result (λ v. map (λ b. b.items) v.items ≡ buckets_by of.now count) }
 {
@@ -98,15 +111,15 @@ fn value_at(columns: &[Column], place: usize, step: u32) -> Option<Value>
     }
 }
 
-/// The entries of some columns at a step. They take the room of earlier ones.
+/// Puts the entries of some columns at a step in place of those that `entries` holds.
 fn entries_at(
-    mut entries: Vec<Entry>,
     rank: Rank,
     columns: &[Column],
     step: u32,
     places: &[usize],
-) -> Result<Vec<Entry>, OutOfMemory>
-    ensures { IfOk result (λ v. v.items ≡ entries_at rank columns.now step places.now) }
+    entries: &mut Vec<Entry>,
+) -> Result<(), OutOfMemory>
+    ensures { OnOk result (entries.new.items ≡ entries_at rank columns.now step places.now) }
 {
     entries.clear();
     for &place in places {
@@ -115,7 +128,7 @@ fn entries_at(
             entries.push(Entry { height, place })?;
         }
     }
-    Ok(entries)
+    Ok(())
 }
 
 /// Marks the places of entries; one behind the last mark is passed over.
@@ -149,7 +162,7 @@ fn no_marks(alloc: Global, count: usize) -> Result<Vec<bool>, OutOfMemory>
     Ok(Vec::from_elem(alloc, false, count)?)
 }
 
-/// Marks the columns that have one of the first so many elements of their group at a step.
+/// Marks the columns that have one of the first so many elements of their group at a step. `entries` is overwritten.
 fn marks_at(
     alloc: Global,
     rank: Rank,
@@ -157,14 +170,14 @@ fn marks_at(
     columns: &[Column],
     buckets: &[Vec<usize>],
     step: u32,
+    entries: &mut Vec<Entry>,
 ) -> Result<Vec<bool>, OutOfMemory>
     ensures { IfOk result (λ v. v.items ≡ marks_at rank wanted columns.now (map (λ b. b.items) buckets.now) step) }
 {
     let mut marks = no_marks(alloc, columns.len())?;
-    let mut entries = Vec::new(alloc);
     for places in buckets {
-        entries = entries_at(entries, rank, columns, step, places)?;
-        mark_first(&mut marks, wanted, &mut entries);
+        entries_at(rank, columns, step, places, entries)?;
+        mark_first(&mut marks, wanted, entries);
     }
     Ok(marks)
 }
@@ -180,10 +193,12 @@ fn marks_by(
 ) -> Result<Vec<Vec<bool>>, OutOfMemory>
     ensures { IfOk result (λ v. map (λ r. r.items) v.items ≡ marks_by rank params.now columns.now (map (λ b. b.items) buckets.now) len) }
 {
-    let mut found = Vec::new(alloc);
+    let mut found = Vec::with_capacity(alloc, len as usize)?;
+    let mut entries = Vec::new(alloc);
     for i in 0..len {
         let wanted = wanted(value_of(params, i));
-        found.push(marks_at(alloc, rank, wanted, columns, buckets, i)?)?;
+        let marks = marks_at(alloc, rank, wanted, columns, buckets, i, &mut entries)?;
+        found.push(marks)?;
     }
     Ok(found)
 }
@@ -239,8 +254,28 @@ fn kept_columns(
     Ok(found)
 }
 
-/// Columns with the values of those elements that are, at each step, among the first so many of their group. A step takes
-/// time linear in the number of columns on average, however many elements are wanted.
+/// Columns with the values of those elements that are, at each step, among the first so many of their group, where `of` has
+/// the number of each column's group.
+fn first_by_place(
+    alloc: Global,
+    rank: Rank,
+    params: &[Option<Value>],
+    columns: Vec<Column>,
+    of: &[usize],
+    count: usize,
+    len: u32,
+) -> Result<Vec<Column>, OutOfMemory>
+    requires { All (λ o. o < count) of.now }
+    ensures { IfOk result (λ v. v.items ≡ first_by_place rank params.now columns.items of.now count len) }
+{
+    let buckets = buckets_by(alloc, of, count)?;
+    let rows = marks_by(alloc, rank, params, &columns, &buckets, len)?;
+    let found = kept_columns(alloc, &rows, columns)?;
+    Ok(found)
+}
+
+/// The same, with the groups by their keys. A step takes time linear in the number of columns on average, however many elements
+/// are wanted.
 pub(crate) fn first_columns(
     alloc: Global,
     rank: Rank,
@@ -252,8 +287,21 @@ pub(crate) fn first_columns(
     ensures { IfOk result (λ v. v.items ≡ first_columns rank (group_key grouping.now.without grouping.now.labels) params.now columns.items len) }
 {
     let ids = GroupIds::by(alloc, grouping, &columns)?;
-    let buckets = buckets_by(alloc, &ids.of, ids.keys.len())?;
-    let rows = marks_by(alloc, rank, params, &columns, &buckets, len)?;
-    let found = kept_columns(alloc, &rows, columns)?;
+    let found = first_by_place(alloc, rank, params, columns, &ids.of, ids.keys.len(), len)?;
+    Ok(found)
+}
+
+/// The same, where all columns are of one group.
+pub fn first_of_group(
+    alloc: Global,
+    rank: Rank,
+    params: &[Option<Value>],
+    columns: Vec<Column>,
+    len: u32,
+) -> Result<Vec<Column>, OutOfMemory>
+    ensures { IfOk result (λ v. v.items ≡ first_by_place rank params.now columns.items (replicate (length columns.items) 0) 1 len) }
+{
+    let of = vec![in alloc; 0; columns.len()]?;
+    let found = first_by_place(alloc, rank, params, columns, &of, 1, len)?;
     Ok(found)
 }

@@ -9,10 +9,11 @@ use Rattle.pf_model.specs.declared.expr.Expr.{Expr}
 use Rattle.pf_model.specs.declared.expr.Function.TheVariants as called
 use Rattle.pf_model.specs.declared.expr.Matcher.{Matcher}
 use Rattle.pf_model.specs.declared.expr.Mods.{Mods}
+use Rattle.pf_model.specs.declared.functions.AggOp.{AggOp}
 use Rattle.pf_model.specs.declared.functions.InstantFn.TheVariants.{Timestamp}
 use Rattle.pf_model.specs.Binding.{accepted_ids}
 use Rattle.pf_model.specs.Built.{are_near, is_distance, is_evaluated, is_range, name_labels}
-use Rattle.pf_model.specs.Clauses.{Matched}
+use Rattle.pf_model.specs.Clauses.{Grouped, Matched}
 use Rattle.pf_model.specs.Evaluation.{outcome, outcomes}
 use Rattle.pf_model.specs.Outcomes.{Outcome, text}
 use Rattle.pf_model.specs.Trees as tree
@@ -61,6 +62,13 @@ timed_tree ms mods = tree.call (called.Instant Timestamp) (tree.more (tree.selec
 pub timed_near : (t : Tree) (ms : List Matcher) (mods : Mods) → t ≡ timed_tree ms mods → is_evaluated t ≡ true → are_near mods ≡ true
 timed_near t ms mods is h = (two_true (are_near mods) true (ap is_evaluated (sym is) ∙ h)).0
 
+-- the selector of which `topk` or `bottomk` keeps a number of elements
+abbrev pub ranked_tree : AggOp → Grouped → ℤ → List Matcher → Mods → Tree
+ranked_tree op g v ms mods = tree.aggregate op g (tree.more (tree.number v) (tree.more (tree.select ms None mods) tree.none))
+
+pub ranked_near : (t : Tree) (op : AggOp) (g : Grouped) (v : ℤ) (ms : List Matcher) (mods : Mods) → t ≡ ranked_tree op g v ms mods → is_evaluated t ≡ true → are_near mods ≡ true
+ranked_near t op g v ms mods is h = (two_true (are_near mods) true (ap is_evaluated (sym is) ∙ h)).0
+
 module _ (ls : List Pairs) (ms : List Matcher) (t : Tree) (is : series_in t ls ≡ accepted_ids ms ls ∷ []) (lists : List (List ℕ)) (h : Begins (series_in t ls) lists) where
   begins_here : Begins (accepted_ids ms ls ∷ []) lists
   begins_here = subst (λ xs. Begins xs lists) is h
@@ -88,6 +96,10 @@ select_series ls t ms range mods is = ap (λ q. series_in q ls) is
 
 pub timed_series : (ls : List Pairs) (t : Tree) (ms : List Matcher) (mods : Mods) → t ≡ timed_tree ms mods → series_in t ls ≡ accepted_ids ms ls ∷ []
 timed_series ls t ms mods is = ap (λ q. series_in q ls) is
+
+pub ranked_series : (ls : List Pairs) (t : Tree) (op : AggOp) (g : Grouped) (v : ℤ) (ms : List Matcher) (mods : Mods) → t ≡ ranked_tree op g v ms mods
+    → series_in t ls ≡ accepted_ids ms ls ∷ []
+ranked_series ls t op g v ms mods is = ap (λ q. series_in q ls) is
 
 -- ---- arguments one after another
 

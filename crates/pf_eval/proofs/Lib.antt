@@ -18,6 +18,7 @@ pub mod NodeTexts
 pub mod NumberedNodes
 pub mod OneArgument
 pub mod PlainParts
+pub mod RankedSeries
 pub mod ReadTimes
 pub mod RunAnswers
 pub mod SeriesKnown

@@ -4,6 +4,7 @@ pub mod Calls
 pub mod Merged
 pub mod Nodes
 pub mod Plain
+pub mod Ranked
 pub mod RunValues
 pub mod Strings
 pub mod Zipped

@@ -12,8 +12,9 @@ ghost use Rattle.pf_model.specs.Direct.{answered, evaluated, failed, gathered};
 ghost use Rattle.pf_model.specs.Evaluation.{eval};
 ghost use Rattle.pf_model.specs.Log.{AreApart};
 ghost use Rattle.pf_model.specs.Outcomes.{step_cell};
-ghost use Rattle.pf_model.specs.Trees.{call, height, more, none, select, tree_of, trees_of};
+ghost use Rattle.pf_model.specs.Trees.{aggregate, call, height, more, none, number, select, tree_of, trees_of};
 ghost use Rattle.pf_store.specs.Standing.{StandsFor};
+ghost use Rattle.pf_columns.specs.Ranks.{ranking};
 ghost use Rattle.pf_columns.specs.Steps.{step_at};
 ghost use Rattle.pf_selectors.specs.Times.{time_at};
 ghost use Rattle.pf_eval.specs.Bound.{AreGiven, Begins, HasRoom, IsGiven, all_series_in, behind, series_in};
@@ -30,6 +31,7 @@ use crate::given::{
 };
 use crate::node::{Node, no_labels, number};
 use crate::operation::operation;
+use crate::ranked::{RankedSelector, ranked_selection, ranked_selector};
 use crate::reading::{over_range, selection, timestamps};
 use crate::subquery::{inner_run, over_subquery};
 use pf_base::{Grid, OutOfMemory};
@@ -37,7 +39,7 @@ use pf_block::Snap;
 use pf_columns::{Column, StepCells};
 use pf_match::Pattern;
 use pf_matrix::Matrix;
-use pf_model::{ErrorKind, Expr, Function, InstantFn, Mods, RangeFn, Selector};
+use pf_model::{ErrorKind, Expr, Function, Grouping, InstantFn, Mods, RangeFn, Selector};
 use pf_selectors::Times;
 use std::alloc::Global;
 
@@ -167,6 +169,42 @@ fn timed<'a>(
 {
     let list = take_first(series);
     let node = timestamps(alloc, snap, list.ids, mods, times)?;
+    Ok(Found {
+        node,
+        rest: list.rest,
+    })
+}
+
+/// What `topk` or `bottomk` of an instant selector is.
+fn ranked<'a>(
+    alloc: Global,
+    query: &Expr,
+    asked: RankedSelector,
+    grouping: &Grouping,
+    snap: &Snap,
+    series: &'a [Vec<u32>],
+    times: &Times,
+) -> Result<Found<'a>, OutOfMemory>
+    requires tree { tree_of query.now ≡ aggregate (ranking asked.rank) grouping.now (more (number asked.param) (more (select asked.selector.now None asked.mods) none)) }
+    requires evaluated { is_evaluated (tree_of query.now) ≡ true }
+    requires bound { Begins (series_in (tree_of query.now) snap.now.labels) (map (λ v. v.items) series.now) }
+    requires room { HasRoom (height (tree_of query.now)) times.now }
+    ensures rest { IfOk result (λ f. map (λ v. v.items) f.rest.now ≡ behind (series_in (tree_of query.now) snap.now.labels) (map (λ v. v.items) series.now)) }
+    ensures kind { IfOk result (λ f. is_text f.node ≡ false) }
+    ensures node { IfOk result (λ f. (samples : List Row) → StandsFor snap.now samples → AreApart samples → (k : ℕ) → k < times.now.len
+        → node_at f.node k ≡ meant samples (tree_of query.now) (time_at times.now k)) }
+{
+    let list = take_first(series);
+    let node = ranked_selection(
+        alloc,
+        asked.rank,
+        asked.param,
+        grouping,
+        snap,
+        list.ids,
+        asked.mods,
+        times,
+    )?;
     Ok(Found {
         node,
         rest: list.rest,
@@ -325,6 +363,10 @@ fn node_of<'a>(
         Expr::Aggregate { op, grouping, args } => {
             let args: &[Expr] = args;
             asks_aggregated(query, *op, grouping, args, snap, series, patterns, times);
+            if let Some(asked) = ranked_selector(*op, args) {
+                let found = ranked(alloc, query, asked, grouping, snap, series, times)?;
+                return Ok(found);
+            }
             let found = nodes_of(alloc, snap, patterns, args, series, times)?;
             let node = aggregation(alloc, *op, grouping, found.nodes, times.len)?;
             Ok(Found {

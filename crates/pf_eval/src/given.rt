@@ -88,6 +88,7 @@ pub(crate) fn asks_aggregated(
     requires tree { tree_of query.now ≡ aggregate op grouping.now (trees_of (map tree_of args.now)) }
     requires evaluated { is_evaluated (tree_of query.now) ≡ true }
     requires given { IsGiven (tree_of query.now) snap.now.labels (map (λ v. v.items) series.now) patterns.now times.now }
+    ensures tree { tree_of query.now ≡ aggregate op grouping.now (trees_of (map tree_of args.now)) }
     ensures evaluated { are_arguments (trees_of (map tree_of args.now)) ≡ true }
     ensures given { AreGiven (trees_of (map tree_of args.now)) snap.now.labels (map (λ v. v.items) series.now) patterns.now times.now }
 {}

@@ -22,6 +22,7 @@ mod numbered;
 mod operation;
 mod pairing;
 mod plain;
+mod ranked;
 mod reading;
 mod runs;
 mod sharding;

@@ -1,3 +1,4 @@
+pub mod AcceptedSeries
 mod LastHeld
 mod MomentErrors
 mod MomentSamples

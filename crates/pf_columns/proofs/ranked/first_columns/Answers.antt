@@ -1,21 +1,15 @@
-use Rattle.std.proofs.Common.{◌<◌, Bool, ℕ, List, Vec, Global, length, map, subst, ap, sym, ◌∙◌}
+use Rattle.std.proofs.Common.{◌<◌, length, map, subst, ap, sym, ◌∙◌}
 use Rattle.std.specs.List.{All}
 use Rattle.pf_model.specs.Aggregation.{group_key}
 use Rattle.pf_model.specs.Cells.{distinct}
 use Rattle.pf_columns.specs.Columns.{columns_labels}
 use Rattle.pf_columns.specs.Groups.{groups_by}
-use Rattle.pf_columns.specs.Ranks.{buckets_by, kept_columns, marks_by}
+use Rattle.pf_columns.specs.Ranks.{first_by_place}
 use Rattle.pf_columns.proofs.GroupColumns.{ids_below}
 use Rattle.pf_columns.proofs.ranked.first_columns.Goals as goal
 
-abbrev row : Vec Bool Global → List Bool
-row r = r.items
-
-abbrev bucket : Vec ℕ Global → List ℕ
-bucket b = b.items
-
-pub buckets_by-requires : goal.buckets_by-requires
-buckets_by-requires c =
+pub first_by_place-requires : goal.first_by_place-requires
+first_by_place-requires c =
     let ks = map (group_key c.args.grouping.now.without c.args.grouping.now.labels) (columns_labels c.deref.result.now) in
     let keys = c.len.ensures ∙ c.ids.inside.keys.ok.0 ∙ ap (λ g. length g.keys) (c.ids.view_is ∙ c.in_ok-ids.ensures) in
     let places = c.deref-2.ensures.value ∙ ap (λ g. g.of) (c.ids.view_is ∙ c.in_ok-ids.ensures) in
@@ -31,7 +25,4 @@ returns c =
     let ids = c.ids.view_is ∙ c.in_ok-ids.ensures ∙ ap (λ ds. groups_by key (columns_labels ds)) c.deref.ensures.value in
     let keys = c.len.ensures ∙ c.ids.inside.keys.ok.0 ∙ ap (λ g. length g.keys) ids in
     let places = c.deref-2.ensures.value ∙ ap (λ g. g.of) ids in
-    let buckets = ap (map bucket) c.deref-4.ensures.value ∙ c.in_ok-buckets.ensures ∙ (λ i. buckets_by (places i) (keys i)) in
-    c.in_ok-found.ensures
-    ∙ ap (λ rows. kept_columns rows 0 cs)
-    (ap (map row) c.deref-5.ensures.value ∙ c.in_ok-rows.ensures ∙ (λ i. marks_by r params (c.deref-3.ensures.value i) (buckets i) n))
+    c.in_ok-found.ensures ∙ (λ i. first_by_place r params cs (places i) (keys i) n)
