@@ -21,6 +21,16 @@ const ACTORS: usize = 32;
 /// The status of want of memory.
 const OUT_OF_MEMORY: u8 = 6;
 
+/// The bytes of a block that moves the thresholds of glibc's `malloc`.
+const LARGE: usize = 4_194_304;
+
+/// Takes a large block, into which nothing is written, and lets it go. From then on glibc's `malloc` takes smaller blocks from its heap,
+/// and gives the heap's end back to the kernel only where twice as much is free. Else the kernel would clear the pages of each long
+/// answer anew. Where such a block isn't there, all stays as it was.
+fn raise_thresholds(alloc: Global) {
+    drop(Vec::<u8>::with_capacity(alloc, LARGE));
+}
+
 /// The program's words, without its name. A word that is not UTF-8 makes the list empty, which is no form of words.
 fn words(rt: HostRuntime) -> io::Result<Vec<Text>> {
     let mut words = Vec::new(rt.alloc());
@@ -47,6 +57,7 @@ fn hops(alloc: Global) -> Result<Vec<SteadyHop>, AllocError>
 
 fn main(rt: HostRuntime) -> ExitCode {
     let alloc = rt.alloc();
+    raise_thresholds(alloc);
     let (Ok(words), Ok(hops)) = (words(rt), hops(alloc)) else {
         return ExitCode::from(OUT_OF_MEMORY);
     };
