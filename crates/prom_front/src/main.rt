@@ -22,7 +22,7 @@ const ACTORS: usize = 32;
 const OUT_OF_MEMORY: u8 = 6;
 
 /// The bytes of a block that moves the thresholds of glibc's `malloc`.
-const LARGE: usize = 4_194_304;
+const LARGE: usize = 16_777_216;
 
 /// Takes a large block, into which nothing is written, and lets it go. From then on glibc's `malloc` takes smaller blocks from its heap,
 /// and gives the heap's end back to the kernel only where twice as much is free. Else the kernel would clear the pages of each long
