@@ -1,5 +1,5 @@
 //! `topk` and `bottomk` of an instant selector, group by group: the values of one group's series are read, and columns are made of
-//! those that are kept, before the next group is read. The labels of other series aren't read.
+//! those that are kept, before the next group is read. No label set of another series is copied.
 
 ghost use Rattle.std.specs.Prelude.{◌≡◌, ◌<◌, ◌++◌, ℕ, Some, None, false, true, List, length, map, IfOk, IfSome, OnOk};
 ghost use Rattle.std.specs.List.{All};
