@@ -2,7 +2,7 @@
 use Rattle.std.proofs.Common.{ℕ, true, Option, Some, None, refl, sym, ap}
 use Rattle.pf_query.specs.Jobs.{hand_of, has_hand, without_hand}
 use Rattle.pf_query.specs.Tables as table
-use Rattle.pf_query.specs.Tables.{EntryData, IsSameTable, IsTable, Stops, entry_in, hands_of}
+use Rattle.pf_query.specs.Tables.{IsTable, entry_in, hands_of}
 use Rattle.pf_query.specs.declared.answers.FailedTry.{FailedTry}
 use Rattle.pf_query.specs.declared.answers.FailedTry.TheVariants as failed
 use Rattle.pf_query.specs.declared.answers.Finished.{Finished}

@@ -4,7 +4,7 @@ use Rattle.std.specs.Prelude.{MatchOption}
 use Rattle.pf_query.specs.Jobs.{hand_of, without_hand}
 use Rattle.pf_shard.specs.declared.parts.Part.{Part}
 use Rattle.pf_query.specs.Tables as table
-use Rattle.pf_query.specs.Tables.{EntryData, IsHeldOf, IsSameTable, IsTable, Stops, entry_in, hands_of, hands_with, jobs_in, ring_of, stopped, waiting_of}
+use Rattle.pf_query.specs.Tables.{EntryData, IsSameTable, IsTable, Stops, entry_in, hands_of}
 use Rattle.pf_query.specs.declared.answers.Collected.{Collected}
 use Rattle.pf_query.specs.declared.answers.Collected.TheVariants as collected
 use Rattle.pf_query.specs.declared.answers.FailedTry.{FailedTry}

@@ -1,22 +1,21 @@
 -- What the nodes of a query are merged from, one after another.
-use Rattle.std.proofs.Common.{◌≡◌, ◌<◌, ◌≤◌, ◌+◌, ℕ, zero, suc, ℤ, Bool, true, false, cond, not, ◌&&◌, ◌||◌, None, List, [], ◌∷◌, ◌++◌, drop, length, map, take, Some, refl, sym, ap, ◌∙◌, subst, arith}
+use Rattle.std.proofs.Common.{◌≡◌, ◌<◌, ◌≤◌, ◌+◌, ℕ, ℤ, Bool, true, false, cond, not, ◌&&◌, ◌||◌, List, [], ◌∷◌, ◌++◌, drop, length, map, take, Some, refl, sym, ap, ◌∙◌, subst}
 use Rattle.std.specs.List.{filter}
 use Rattle.std.proofs.lemmas.List.Elements.{filter-append}
 use Rattle.pf_base.specs.declared.plain.Row.{Row}
 use Rattle.pf_model.specs.declared.expr.BinaryOp.{BinaryOp}
-use Rattle.pf_model.specs.declared.expr.Function.{Function}
 use Rattle.pf_model.specs.declared.expr.Function.TheVariants as called
 use Rattle.pf_model.specs.declared.functions.AggOp.{AggOp}
 use Rattle.pf_model.specs.declared.functions.InstantFn.{InstantFn}
 use Rattle.pf_model.specs.declared.functions.InstantFn.TheVariants as instant
 use Rattle.pf_model.specs.Binding.{pattern_of, patterns_in}
-use Rattle.pf_model.specs.Built.{are_arguments, is_evaluated, is_lawful_call, is_string}
+use Rattle.pf_model.specs.Built.{is_string}
 use Rattle.pf_model.specs.Clauses.{Grouped, Matched}
 use Rattle.pf_model.specs.Evaluation.{beside, instant_outcome, outcome, outcomes}
-use Rattle.pf_model.specs.Legs.{PartData, node_part, of_shard}
+use Rattle.pf_model.specs.Legs.{node_part, of_shard}
 use Rattle.pf_model.specs.Merging.{below, merged_cell}
-use Rattle.pf_model.specs.Outcomes.{Outcome, aggregation, scalar, elements, ranges, text, bad, first_bad, instant_call, of_cell, operation, step_cell}
-use Rattle.pf_model.specs.Sharding.{are_covered, are_literals, is_covered, is_elementwise, is_first_plain, is_literal, is_mergeable, is_one_plain, is_over_series, is_plain, is_range_selector, is_sharded}
+use Rattle.pf_model.specs.Outcomes.{Outcome, aggregation, text, instant_call, of_cell, operation}
+use Rattle.pf_model.specs.Sharding.{are_covered, are_literals, is_covered, is_elementwise, is_literal, is_mergeable, is_one_plain, is_over_series, is_plain, is_range_selector, is_sharded}
 use Rattle.pf_model.specs.Trees as tree
 use Rattle.pf_model.specs.Trees.{Tree, Trees, all_preorder, preorder}
 use Rattle.pf_model.specs.Words.{is_set_operator}
@@ -28,7 +27,7 @@ use Rattle.pf_eval.specs.Bound.{AreThere}
 use Rattle.pf_eval.specs.Merged.{AreMerged, AreOfShards, Holds, IsMerged, all_sharded_in, behind_shards, sharded_in}
 use Rattle.pf_eval.proofs.BoundLists.{two_true}
 use Rattle.pf_eval.proofs.BoundNodes.{left_evaluated, right_evaluated}
-use Rattle.pf_eval.proofs.GivenParts.{aggregated_evaluated, argument_evaluated, arguments_evaluated, called_evaluated, called_lawful, first_there, second_there, there_left, there_right}
+use Rattle.pf_eval.proofs.GivenParts.{aggregated_evaluated, argument_evaluated, arguments_evaluated, called_evaluated, first_there, second_there, there_left, there_right}
 use Rattle.pf_model.proofs.MergeQuery.{first_again}
 
 abbrev Parts : Type 0

@@ -1,7 +1,6 @@
 -- The node and the series of a leg, where a query is evaluated shard by shard.
-use Rattle.std.proofs.Common.{◌≡◌, ◌<◌, ◌≤◌, ◌+◌, ◌*◌, ◌/◌, ◌%◌, inl, inr, ℕ, zero, suc, ℤ, true, All, Some, None, Option, List, [], ◌∷◌, ◌++◌, length, map, get_or, refl, sym, ap, ◌∙◌, subst, arith, mod-lt}
+use Rattle.std.proofs.Common.{◌≡◌, ◌<◌, ◌≤◌, ◌+◌, ◌*◌, ◌/◌, ◌%◌, inl, inr, ℕ, zero, suc, ℤ, true, All, Some, Option, List, [], ◌∷◌, length, get_or, refl, sym, ap, ◌∙◌, subst, arith, mod-lt}
 use Rattle.std.proofs.Math.Nat.{div-lt_iff_lt-mul}
-use Rattle.std.proofs.lemmas.List.{get_or-map, length-map}
 use Rattle.std.proofs.lemmas.List.Elements.{All-filter}
 use Rattle.std.proofs.lemmas.Nat.{div-add-mod'}
 use Rattle.pf_base.specs.declared.plain.Row.{Row}
@@ -10,12 +9,11 @@ use Rattle.pf_index.proofs.Entries.{ids_within}
 use Rattle.pf_model.specs.declared.expr.Matcher.{Matcher}
 use Rattle.pf_model.specs.Binding.{accepted_ids}
 use Rattle.pf_model.specs.Built.{is_evaluated}
-use Rattle.pf_model.specs.Legs.{LegsData, leg_part, node_part, numbered, of_shard}
+use Rattle.pf_model.specs.Legs.{leg_part, node_part, numbered, of_shard}
 use Rattle.pf_model.specs.Lists.{at}
-use Rattle.pf_model.specs.Merging.{below}
-use Rattle.pf_model.specs.Sharding.{is_sharded, sharded_nodes}
+use Rattle.pf_model.specs.Sharding.{is_sharded}
 use Rattle.pf_model.specs.Trees.{Tree, height, preorder}
-use Rattle.pf_shard.specs.Bound.{AreBoundOver, leg_series, node_matchers, shard_ids}
+use Rattle.pf_shard.specs.Bound.{AreBoundOver, node_matchers, shard_ids}
 use Rattle.pf_shard.specs.Lawful.{AreSharded, IsLawful, ResolvedLegs, leg_count, legs_data}
 use Rattle.pf_eval.proofs.ShardLists.{get_joined, length_joined}
 use Rattle.pf_eval.proofs.ShardedNodes.{IsNode, IsReady, node_ready}

@@ -1,10 +1,10 @@
 -- A node by its number, sought in a node's own list and then in its children's.
-use Rattle.std.proofs.Common.{◌≡◌, ◌+◌, ℕ, zero, suc, Option, Some, None, List, [], ◌∷◌, ◌++◌, length, map, drop, get_or, ◌<◌, refl, sym, ap, ◌∙◌, subst, arith, length-append}
+use Rattle.std.proofs.Common.{◌≡◌, ◌+◌, ℕ, zero, suc, Some, None, List, [], ◌∷◌, ◌++◌, length, map, drop, get_or, ◌<◌, refl, sym, ap, ◌∙◌, arith, length-append}
 use Rattle.std.proofs.lemmas.List.{drop_more}
 use Rattle.pf_model.specs.declared.expr.Expr.{Expr}
 use Rattle.pf_model.specs.Lists.{at}
 use Rattle.pf_model.specs.Trees as tree
-use Rattle.pf_model.specs.Trees.{Tree, Trees, all_preorder, preorder, tree_of, trees_of}
+use Rattle.pf_model.specs.Trees.{Tree, all_preorder, preorder, tree_of, trees_of}
 use Rattle.pf_eval.specs.Plain.{IsSoughtIn}
 use Rattle.pf_eval.specs.declared.numbered.Search.{Search}
 use Rattle.pf_eval.specs.declared.numbered.Search.TheVariants.{Found, Behind}

@@ -8,7 +8,7 @@ use Rattle.pf_model.specs.declared.expr.Function.TheVariants as called
 use Rattle.pf_model.specs.declared.functions.RangeFn.{RangeFn}
 use Rattle.pf_model.specs.Built.{is_evaluated, is_one, is_range_argument}
 use Rattle.pf_model.specs.Trees as tree
-use Rattle.pf_model.specs.Trees.{Tree, Trees, tree_of, trees_of}
+use Rattle.pf_model.specs.Trees.{tree_of, trees_of}
 use Rattle.pf_model.proofs.TreeOf.{call_tree}
 
 pub one_counted : (es : List Expr) → nat_eq (length es) 1 ≡ is_one (trees_of (map tree_of es))

@@ -1,5 +1,5 @@
 -- Lists of ids divided by shard, and the list of a leg among those of all.
-use Rattle.std.proofs.Common.{◌≡◌, ◌<◌, ◌≤◌, ◌+◌, ◌*◌, inl, inr, ℕ, zero, suc, Bool, true, cond, nat_eq, ◌&&◌, All, Some, List, [], ◌∷◌, ◌++◌, length, map, take, drop, get_or, refl, sym, ap, ◌∙◌, subst, arith, append_assoc, mod-lt, zero-mul}
+use Rattle.std.proofs.Common.{◌≡◌, ◌<◌, ◌≤◌, ◌+◌, ◌*◌, inl, inr, ℕ, zero, suc, Bool, true, cond, nat_eq, All, Some, List, [], ◌∷◌, ◌++◌, length, map, take, drop, get_or, refl, sym, ap, ◌∙◌, subst, arith, append_assoc, mod-lt, zero-mul}
 use Rattle.std.specs.Prelude.{slice_set}
 use Rattle.std.specs.List.{filter, list_any}
 use Rattle.std.proofs.Math.ListN.{get_or-append}
@@ -14,7 +14,7 @@ use Rattle.pf_columns.proofs.GroupColumns.{below_alike, put_is}
 use Rattle.pf_index.proofs.Entries.{ids_within}
 use Rattle.pf_model.specs.declared.expr.Matcher.{Matcher}
 use Rattle.pf_model.specs.Binding.{accepted_ids, bound_series, selectors_of}
-use Rattle.pf_model.specs.Legs.{LegsData, numbered}
+use Rattle.pf_model.specs.Legs.{LegsData}
 use Rattle.pf_model.specs.Lists.{at, joined}
 use Rattle.pf_model.specs.Merging.{below}
 use Rattle.pf_model.specs.Sharding.{is_covered, is_selector, is_shardable, sharded_nodes}

@@ -1,13 +1,12 @@
 -- The nodes of a query that are evaluated shard by shard: each is evaluated, and has one selector; these are all the query's.
-use Rattle.std.proofs.Common.{◌≡◌, ◌<◌, ◌≤◌, ◌+◌, max, ℕ, zero, suc, Bool, true, false, cond, ◌&&◌, ◌||◌, not, is_none, Option, Some, None, List, [], ◌∷◌, ◌++◌, map, refl, sym, ap, ◌∙◌, subst, append-nil, arith}
+use Rattle.std.proofs.Common.{◌≡◌, ◌≤◌, ◌+◌, ℕ, zero, suc, Bool, true, false, cond, ◌&&◌, ◌||◌, not, Some, None, List, [], ◌∷◌, ◌++◌, map, refl, sym, ap, ◌∙◌, append-nil, arith}
 use Rattle.pf_model.specs.declared.expr.BinaryOp.{BinaryOp}
 use Rattle.pf_model.specs.declared.expr.Function.TheVariants as called
 use Rattle.pf_model.specs.declared.expr.Matcher.{Matcher}
 use Rattle.pf_model.specs.declared.functions.AggOp.{AggOp}
-use Rattle.pf_model.specs.declared.functions.InstantFn.{InstantFn}
 use Rattle.pf_model.specs.declared.functions.RangeFn.{RangeFn}
 use Rattle.pf_model.specs.Binding.{matchers_in, selectors_of}
-use Rattle.pf_model.specs.Built.{are_arguments, are_evaluated, is_evaluated, is_lawful_call, is_range, is_range_argument, is_string}
+use Rattle.pf_model.specs.Built.{are_arguments, is_evaluated, is_lawful_call, is_range, is_range_argument, is_string}
 use Rattle.pf_model.specs.Clauses.{Grouped}
 use Rattle.pf_model.specs.Lists.{Each, at}
 use Rattle.pf_model.specs.Sharding.{are_covered, are_literals, is_covered, is_elementwise, is_literal, is_mergeable, is_one_plain, is_over_series, is_plain, is_range_selector, is_sharded, sharded_from, sharded_nodes}

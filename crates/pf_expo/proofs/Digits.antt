@@ -1,13 +1,12 @@
 -- Numbers that digits write.
-use Rattle.std.proofs.Common.{◌≡◌, ℕ, zero, suc, ◌+◌, ◌-◌, ◌*◌, ◌<◌, ◌≤◌, true, min, List, [], ◌∷◌, ◌++◌, length, get_or, take, refl, ap, ◌∙◌, arith}
+use Rattle.std.proofs.Common.{◌≡◌, ℕ, zero, suc, ◌+◌, ◌-◌, ◌*◌, ◌<◌, ◌≤◌, true, min, List, [], ◌∷◌, length, get_or, take, arith}
 use Rattle.std.specs.List.{list_all}
 use Rattle.std.specs.Char.{is_ascii_digit}
 use Rattle.std.proofs.lemmas.Bool.{and_parts}
-use Rattle.std.proofs.lemmas.List.{take_more}
 use Rattle.std.proofs.lemmas.Bool.Decides.{nat_tests}
 use Rattle.pf_base.specs.NumberTexts.{number_after}
 use Rattle.pf_expo.specs.Scans.{capped}
-use Rattle.pf_base.proofs.Digits.{number_more, number_append}
+use Rattle.pf_base.proofs.Digits.{number_more}
 
 in_range : (b : ℕ) → is_ascii_digit b ≡ true → (48 ≤ b) × (b ≤ 57)
 in_range b h = grind (arith, nat_tests)

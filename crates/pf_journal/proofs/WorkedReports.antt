@@ -12,7 +12,6 @@ use Rattle.pf_journal.specs.Files as files
 use Rattle.pf_journal.specs.Machine.{Entry, append, delete, ask, answer}
 use Rattle.pf_journal.specs.Report.{report}
 use Rattle.pf_journal.specs.Rest.{nothing, refused_file}
-use Rattle.pf_journal.specs.Scripts.{Numbered}
 use Rattle.pf_journal.specs.Scripts as script
 
 empty_report : report (known_of (limits_of 100 4000000) []) [] ([] ∷ []) (one_client []) ≡ codes "client 0\njournal 0\n"

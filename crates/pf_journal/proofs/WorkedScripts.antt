@@ -4,7 +4,7 @@ use Rattle.std.specs.Str.{is_utf8}
 use Rattle.std.proofs.lemmas.Str.{is_utf8-from_IsUtf8}
 use Rattle.json.proofs.Printed.Utf8.{IsUtf8-are_ascii, are_ascii}
 use Rattle.pf_journal.specs.Scripts as script
-use Rattle.pf_journal.specs.Scripts.{Issued, Line, Numbered, answer_of, ask_of, behind_word, cancel_of, delete_of, done_of, file_at, ingest_at, ingest_of, instant_of, is_passed, issued_after, keep_of, line_of, line_with, lines_from, most_bytes, next_word, number_of, plan_of, read_line, script_of, take_of, trimmed_text, unanswered_of, with_line, worker_of}
+use Rattle.pf_journal.specs.Scripts.{Issued, Line, Numbered, answer_of, ask_of, behind_word, cancel_of, delete_of, done_of, file_at, ingest_at, ingest_of, instant_of, is_passed, issued_after, keep_of, line_of, line_with, lines_from, most_bytes, next_word, number_of, plan_of, script_of, take_of, trimmed_text, unanswered_of, with_line, worker_of}
 
 abbrev line : ℕ → Line → Numbered
 line n l = record { number = n; line = l }

@@ -23,7 +23,7 @@ use Rattle.pf_model.specs.declared.functions.Sign.TheVariants as operator
 use Rattle.pf_model.specs.Canonical.{is_one}
 use Rattle.pf_model.specs.Clauses.{Grouped, Matched}
 use Rattle.pf_model.specs.Grammar as written
-use Rattle.pf_model.specs.Grammar.{Arguments, FitAll, Fits, Terminal, Written, bool_terminals, commas_before, has_colon, is_nil, keys_terminals, labels_terminals, listed, matcher_terminals, modifiers_terminals, at_modifier_terminals, offset_terminals, operator_terminal, range_terminals, terminals_of, all_terminals, more_terminals, these, without_terminals}
+use Rattle.pf_model.specs.Grammar.{FitAll, Fits, Terminal, bool_terminals, commas_before, has_colon, is_nil, keys_terminals, labels_terminals, listed, matcher_terminals, modifiers_terminals, at_modifier_terminals, offset_terminals, operator_terminal, range_terminals, terminals_of, all_terminals, more_terminals, these, without_terminals}
 use Rattle.pf_model.specs.Tokens.{Sort, duration, sign, word}
 use Rattle.pf_model.specs.Trees as tree
 use Rattle.pf_model.specs.Trees.{Tree, Trees}

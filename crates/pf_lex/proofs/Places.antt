@@ -14,7 +14,7 @@ use Rattle.pf_lex.proofs.Low.{form_low, is_low, last_is}
 use Rattle.std.proofs.lemmas.List.Elements.{All-push}
 use Rattle.pf_model.specs.Tokens as definition
 use Rattle.pf_model.specs.TokenScans.{AreNext, form, lawful, longest, token_at}
-use Rattle.pf_model.specs.Tokens.{Sort, AreTokens, IsBadToken, end_of, inside_after, inside_behind, may_precede, next_at, separators, sign}
+use Rattle.pf_model.specs.Tokens.{Sort, AreTokens, IsBadToken, end_of, inside_after, inside_behind, may_precede, next_at, sign}
 use Rattle.pf_model.specs.FirstBytes.{begins_mark, begins_quantity, begins_string, begins_word, first_passes}
 use Rattle.pf_lex.specs.Scans.{BeginsAt, IsInFront}
 use Rattle.pf_lex.specs.Seen.{IsExact, IsTokenOf, mark_text, sort_of, text_of, token_of}

@@ -9,7 +9,7 @@ use Rattle.pf_base.specs.NumberTexts as front
 use Rattle.pf_base.proofs.Readings.{bool_cases}
 use Rattle.pf_model.specs.declared.expr.Matcher.{Matcher}
 use Rattle.pf_model.specs.Grammar as g
-use Rattle.pf_model.specs.Grammar.{Arguments, Braces, Clause, FitAll, Fits, Group, Keys, Labels, Modifiers, AtModifier, Offset, Selected, Terminal, Written, both, braces_matchers, braces_terminals, commas_before, comma_if, front_terminals, group_terminals, grouped_of, has_colon, include_of, keys_terminals, labels_of, labels_terminals, listed, matched_of, matcher_terminals, meaning, meanings, metric_matcher, millis_of, minus_if, mods_of, modifiers_terminals, at_of, at_modifier_terminals, more_terminals, offset_of, offset_terminals, operator_terminal, range_terminals, bool_terminals, selected_terminals, terminals_of, all_terminals, these, without_terminals, before_terminals, behind_terminals}
+use Rattle.pf_model.specs.Grammar.{Arguments, Braces, Clause, FitAll, Fits, Group, Keys, Labels, Modifiers, AtModifier, Offset, Terminal, Written, both, braces_matchers, braces_terminals, commas_before, comma_if, group_terminals, grouped_of, has_colon, include_of, keys_terminals, labels_of, labels_terminals, listed, matched_of, matcher_terminals, meaning, meanings, metric_matcher, millis_of, minus_if, mods_of, modifiers_terminals, at_of, at_modifier_terminals, more_terminals, offset_of, offset_terminals, operator_terminal, range_terminals, bool_terminals, selected_terminals, terminals_of, all_terminals, these, without_terminals, before_terminals, behind_terminals}
 use Rattle.pf_model.specs.Parsing.{is_behind_at, is_too_large, sorts, too_large_at}
 use Rattle.pf_model.specs.Tokens.{Sort, Token, duration, number, sign, string, word}
 use Rattle.pf_model.specs.Trees as tree

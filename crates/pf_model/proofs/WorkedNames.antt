@@ -2,7 +2,6 @@
 use Rattle.std.proofs.Common.{pos, [], ◌∷◌, refl, codes, arith, Some, None, true, false}
 use Rattle.pf_base.specs.Arithmetic.{clamp}
 use Rattle.pf_base.specs.NumberTexts as front
-use Rattle.pf_base.specs.NumberTexts.{without_end_zeros}
 use Rattle.pf_model.specs.declared.functions.AggOp.TheVariants as aggregation
 use Rattle.pf_model.specs.declared.functions.Sign.TheVariants as operator
 use Rattle.pf_model.specs.Grammar.{number, call, aggregate, binary, select, subquery, none, more, absent, time}

@@ -1,6 +1,6 @@
 -- Texts of queries that are refused, each with its refusal and its place.
 use Rattle.std.proofs.Common.{◌≡◌, ℕ, zero, suc, ◌+◌, pos, List, [], ◌∷◌, ◌++◌, refl, ap, codes, arith, Some, None, Option, true, false}
-use Rattle.pf_model.specs.Grammar.{Terminal, Fits, FitAll, Written, number, text, brackets, call, aggregate, unary, binary, select, subquery, Arguments, none, more, IsLawful, terminals_of, IsDerived, Begins, IsUnexpected, Selected, Braces}
+use Rattle.pf_model.specs.Grammar.{Terminal, Fits, FitAll, Written, number, text, brackets, call, aggregate, unary, binary, select, subquery, none, more, IsLawful, terminals_of, Braces}
 use Rattle.pf_model.specs.Grammar as grammar
 use Rattle.pf_model.specs.Parsing.{Refuses, unexpected, too_deep_at}
 use Rattle.pf_model.specs.Tokens.{Token}

@@ -11,7 +11,6 @@ use Rattle.pf_model.specs.declared.functions.RangeFn.TheVariants as ranged
 use Rattle.pf_model.specs.declared.functions.Sign.TheVariants as operator
 use Rattle.pf_model.specs.ErrorTexts.{fault_text}
 use Rattle.pf_model.specs.Trees as tree
-use Rattle.pf_model.specs.Trees.{Tree}
 use Rattle.pf_model.specs.Typing.{typing, arg_count, wrong, bad_name, bool_needed, bad_matching, subquery_too_fine}
 
 -- `clamp(up, 1)`

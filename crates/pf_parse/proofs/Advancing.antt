@@ -1,23 +1,20 @@
 -- A token leads from a draft to a draft, wherever it leads from a state to a state.
 use Rattle.std.proofs.Common.{◌≡◌, ◌∙◌, sym, refl, ap, subst, ℕ, ◌≤◌, Bool, true, false, not, cond, ◌&&◌, List, [], ◌∷◌, ◌++◌, map, Option, Some, None, codes, arith}
 use Rattle.std.proofs.lemmas.List.{append_assoc, map-append}
-use Rattle.std.specs.List.{list_any}
-use Rattle.std.specs.Option.{is_some, is_none, option_and_then}
-use Rattle.std.specs.Str.{bytes_eq}
 use Rattle.pf_lex.specs.declared.token.Mark.TheVariants as mark
 use Rattle.pf_model.proofs.Levels.{level_positive}
 use Rattle.pf_model.specs.declared.expr.BinaryOp.{BinaryOp}
 use Rattle.pf_model.specs.declared.functions.AggOp.{AggOp}
 use Rattle.pf_model.specs.declared.functions.Sign.{Sign}
-use Rattle.pf_model.specs.Grammar.{Terminal, Fits, Written, terminals_of, all_terminals, level, IsLawful, AreLawful, IsClause, AreLabels, AreKeys, AreModifiers, IsAtModifier, millis_of, AreSelected, AreBraces, Labels, labels_terminals, Braces, braces_terminals, Selected, selected_terminals, Offset, offset_terminals, AtModifier, at_modifier_terminals, Modifiers, modifiers_terminals, these, IsPositive, is_named, is_nil, has_colon, operator_terminal, begins_with_bracket, without_terminals, matcher_terminals, comma_if, listed, Keys, keys_terminals}
+use Rattle.pf_model.specs.Grammar.{Terminal, Fits, Written, terminals_of, all_terminals, level, IsLawful, AreLawful, IsClause, AreLabels, Labels, labels_terminals, is_nil, has_colon, operator_terminal, without_terminals, comma_if, listed, Keys, keys_terminals}
 use Rattle.pf_model.specs.Grammar as grammar
 use Rattle.pf_model.specs.Words.{function_of, level_of, is_comparison, aggregation_word}
 use Rattle.pf_parse.specs.declared.keyword.Keyword.TheVariants as keyword
 use Rattle.pf_parse.specs.Held.{held_aggregate, held_call}
-use Rattle.pf_parse.specs.Lexemes.{Lexeme, within_limit, match_mark, mark_text, follow_of, Follow, operates, opens_square, separates, closes, stops}
+use Rattle.pf_parse.specs.Lexemes.{follow_of}
 use Rattle.pf_parse.specs.Lexemes as lexeme
 use Rattle.pf_parse.specs.Reading as mode
-use Rattle.pf_parse.proofs.Drafts.{Draft, Frame, Mode, Goal, Given, Stand, Purpose, Chosen, ClauseBefore, Callee, signed, left, bracket, calling, function, aggregation, selects, over, bare, offset_given, at_given, both_given, selection, operand, groups_next, groups, matches, includes, at_mode, image, images, text, stack_text, IsDraft, AreFrames, IsMode, Room, Fronted, tops_group, Operation, goal_image, goal_text, goal_written, IsGoal, modifiers, read_of_given, chosen_text, chosen_matchers, IsChosen, IsChoice, stand_image, stand_text, IsStand, end_word, end_at, purpose_text, purpose_image, IsPurpose, fronts, arguments, held_all, aggregated_text, operated_text, only_keys, group_keys, without_key}
+use Rattle.pf_parse.proofs.Drafts.{Draft, Frame, Mode, Purpose, ClauseBefore, signed, left, bracket, calling, function, aggregation, operand, groups_next, groups, matches, includes, at_mode, image, images, text, stack_text, IsDraft, AreFrames, IsMode, Room, tops_group, Operation, IsStand, purpose_text, purpose_image, IsPurpose, fronts, arguments, held_all, aggregated_text, operated_text, only_keys, group_keys, without_key}
 use Rattle.pf_parse.proofs.Drafts as draft
 use Rattle.pf_parse.proofs.Labels.{label_texts, labels_onto}
 use Rattle.pf_parse.proofs.ReadOf.{read_of}

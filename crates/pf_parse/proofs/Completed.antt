@@ -4,13 +4,13 @@ use Rattle.pf_base.specs.NumberTexts as front
 use Rattle.pf_model.specs.Clauses.{Grouped}
 use Rattle.pf_model.specs.declared.functions.AggOp.{AggOp}
 use Rattle.pf_model.specs.declared.expr.MatchSign.TheVariants as match
-use Rattle.pf_model.specs.Grammar.{Terminal, FitAll, Modifiers}
+use Rattle.pf_model.specs.Grammar.{Terminal}
 use Rattle.pf_model.specs.Grammar as grammar
 use Rattle.pf_model.specs.Tokens.{Sort, number, duration, string, sign}
 use Rattle.pf_model.specs.Trees.{Tree}
 use Rattle.pf_model.specs.Trees as tree
 use Rattle.pf_parse.specs.Held.{Held, Target, selector, Read, nothing_read, held_target, held_unary, held_binary, held_aggregate, with_argument, over, over_by}
-use Rattle.pf_parse.specs.Reading.{Mode, Frame, State, signed, left, bracket, calling, Callee, function, aggregation, Purpose, groups_next, groups, matches, includes, Base, matchers, operand, metric, by_none, labels_read, range_end_step}
+use Rattle.pf_parse.specs.Reading.{Mode, Frame, State, signed, left, bracket, calling, function, aggregation, Purpose, groups_next, groups, matches, includes, Base, matchers, operand, metric, by_none, labels_read}
 use Rattle.pf_parse.specs.Reading as mode
 use Rattle.pf_parse.proofs.Behind.{Tail, nothing, closing, terminals, May, signed_alike, left_alike, modified_alike, aggregated_alike, named_alike}
 use Rattle.pf_parse.proofs.Goes.{Fit, value, lexemes, on}

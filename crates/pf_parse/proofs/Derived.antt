@@ -10,7 +10,7 @@ use Rattle.pf_model.specs.declared.expr.BinaryOp.{BinaryOp}
 use Rattle.pf_model.specs.declared.expr.Matcher.{Matcher}
 use Rattle.pf_model.specs.declared.functions.AggOp.{AggOp}
 use Rattle.pf_model.specs.declared.functions.Sign.{Sign}
-use Rattle.pf_model.specs.Grammar.{Terminal, Fits, FitAll, Written, Arguments, number, text, brackets, call, aggregate, unary, binary, select, subquery, none, more, absent, before, behind, terminals_of, all_terminals, more_terminals, these, Keys, keys_terminals, Group, group_terminals, bool_terminals, Labels, labels_terminals, without_terminals, before_terminals, behind_terminals, Clause, operator_terminal, level, IsLawful, AreLawful, IsClause, AreKeys, AreLabels, ends_with_group, begins_with_bracket, matched_of, grouped_of, side_of, include_of, labels_of, Modifiers, modifiers_terminals, AreModifiers, Selected, selected_terminals, AreSelected, Braces, braces_terminals, range_terminals, IsPositive, metric_matcher, braces_matchers, listed, comma_if, matcher_terminals, is_named}
+use Rattle.pf_model.specs.Grammar.{Terminal, FitAll, Written, Arguments, number, text, brackets, call, aggregate, unary, binary, select, subquery, none, more, absent, before, behind, terminals_of, all_terminals, more_terminals, these, Keys, keys_terminals, Group, group_terminals, bool_terminals, Labels, labels_terminals, without_terminals, before_terminals, behind_terminals, Clause, operator_terminal, level, IsLawful, AreLawful, IsClause, AreKeys, AreLabels, ends_with_group, begins_with_bracket, matched_of, grouped_of, side_of, include_of, labels_of, Modifiers, modifiers_terminals, AreModifiers, selected_terminals, AreSelected, Braces, range_terminals, IsPositive}
 use Rattle.pf_model.specs.Grammar as grammar
 use Rattle.pf_model.specs.Tokens as token
 use Rattle.pf_model.specs.Trees.{Tree}

@@ -9,7 +9,7 @@ use Rattle.pf_model.specs.declared.expr.BinaryOp.{BinaryOp}
 use Rattle.pf_model.specs.declared.expr.Matcher.{Matcher}
 use Rattle.pf_model.specs.declared.expr.MatchSign.{MatchSign}
 use Rattle.pf_model.specs.declared.functions.AggOp.{AggOp}
-use Rattle.pf_model.specs.Grammar.{Terminal, key, name, label, exactly, sign, duration, Written, Arguments, none, more, terminals_of, all_terminals, more_terminals, these, comma_if, commas_before, listed, Labels, labels_terminals, Selected, selected_terminals, Braces, braces_terminals, matcher_terminals, Offset, offset_terminals, AtModifier, at_modifier_terminals, front_terminals, Modifiers, modifiers_terminals, range_terminals, without_terminals, operator_terminal, bool_terminals, Keys, keys_terminals, Clause, level, is_nil, IsLawful, AreLawful, AreLabels, AreKeys, IsClause, AreSelected, is_named, AreModifiers, IsAtModifier, IsPositive, ends_with_group, begins_with_bracket, metric_matcher, matched_of}
+use Rattle.pf_model.specs.Grammar.{Terminal, key, name, label, exactly, sign, duration, Written, Arguments, none, more, terminals_of, these, Labels, Selected, selected_terminals, matcher_terminals, Offset, offset_terminals, AtModifier, at_modifier_terminals, front_terminals, Modifiers, modifiers_terminals, range_terminals, without_terminals, operator_terminal, bool_terminals, Keys, keys_terminals, level, IsLawful, AreLawful, AreLabels, AreKeys, AreSelected, is_named, AreModifiers, IsAtModifier, IsPositive, ends_with_group, begins_with_bracket, metric_matcher, matched_of}
 use Rattle.pf_model.specs.Grammar as grammar
 use Rattle.pf_model.specs.Trees.{Tree}
 use Rattle.pf_model.specs.declared.expr.At.{At}

@@ -7,7 +7,7 @@ use Rattle.pf_model.specs.declared.expr.BinaryOp.{BinaryOp}
 use Rattle.pf_model.specs.declared.expr.Function.{Function}
 use Rattle.pf_model.specs.declared.functions.AggOp.{AggOp}
 use Rattle.pf_model.specs.declared.functions.AggOp.TheVariants as aggregation
-use Rattle.pf_model.specs.Grammar.{Terminal, Fits, Written, Arguments, number, text, brackets, call, aggregate, unary, binary, select, subquery, none, more, terminals_of, IsLawful, begins_with_bracket, Selected, Braces, selected_terminals, AreSelected}
+use Rattle.pf_model.specs.Grammar.{Terminal, Fits, Written, number, text, brackets, call, aggregate, unary, binary, select, subquery, terminals_of, IsLawful, begins_with_bracket, Braces, selected_terminals, AreSelected}
 use Rattle.pf_model.specs.Grammar as grammar
 use Rattle.pf_model.specs.Tokens as token
 use Rattle.pf_model.specs.Words.{aggregation_word}

@@ -2,7 +2,7 @@
 use Rattle.std.proofs.Common.{◌≡◌, ◌∙◌, sym, refl, ap, subst, ℕ, Bool, true, false, not, ◌&&◌, List, [], ◌∷◌, ◌++◌, map, Some, codes}
 use Rattle.std.proofs.lemmas.List.{append_assoc, append-nil}
 use Rattle.pf_lex.specs.declared.token.Mark.TheVariants as mark
-use Rattle.pf_model.specs.Grammar.{Terminal, Labels, labels_terminals, Braces, braces_terminals, matcher_terminals, listed, commas_before, comma_if, label, has_colon, is_nil, IsCommaLawful, is_named}
+use Rattle.pf_model.specs.Grammar.{Terminal, Labels, labels_terminals, listed, commas_before, comma_if, label, has_colon, IsCommaLawful}
 use Rattle.pf_model.specs.Grammar as grammar
 use Rattle.pf_model.specs.Tokens as token
 use Rattle.pf_parse.specs.Lexemes.{Lexeme}

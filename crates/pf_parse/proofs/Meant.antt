@@ -12,7 +12,7 @@ use Rattle.pf_model.specs.declared.expr.BinaryOp.{BinaryOp}
 use Rattle.pf_model.specs.declared.expr.Function.{Function}
 use Rattle.pf_model.specs.declared.expr.Matcher.{Matcher}
 use Rattle.pf_model.specs.declared.functions.AggOp.{AggOp}
-use Rattle.pf_model.specs.Grammar.{Terminal, Written, Arguments, terminals_of, all_terminals, more_terminals, none, more, call, aggregate, unary, binary, select, subquery, brackets, meaning, meanings, both, operator_terminal, Modifiers, modifiers_terminals, Offset, offset_terminals, AtModifier, at_modifier_terminals, these, bool_terminals, keys_terminals, selected_terminals, range_terminals, before_terminals, behind_terminals, mods_of, at_of, millis_of, grouped_of, matched_of, minus_if, front_terminals}
+use Rattle.pf_model.specs.Grammar.{Terminal, Written, Arguments, terminals_of, all_terminals, more_terminals, none, more, call, aggregate, unary, binary, select, subquery, brackets, meaning, meanings, both, operator_terminal, Modifiers, modifiers_terminals, Offset, offset_terminals, AtModifier, at_modifier_terminals, these, bool_terminals, keys_terminals, selected_terminals, range_terminals, before_terminals, behind_terminals, mods_of, at_of, millis_of, grouped_of, matched_of}
 use Rattle.pf_model.specs.Grammar as grammar
 use Rattle.pf_model.specs.Trees.{Tree, Trees, height, heights, trees_of}
 use Rattle.pf_model.specs.Trees as tree

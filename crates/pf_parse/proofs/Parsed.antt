@@ -9,7 +9,6 @@ use Rattle.pf_lex.specs.declared.token.Token.{Token}
 use Rattle.pf_lex.specs.declared.token.TokenSort.{TokenSort}
 use Rattle.pf_lex.specs.declared.token.TokenSort.TheVariants as sort
 use Rattle.pf_lex.specs.Seen.{sort_of, text_of, token_of, IsTokenOf, IsExact, millis_of}
-use Rattle.pf_model.specs.Grammar.{Written, IsDerived}
 use Rattle.pf_model.specs.Parsing as parsing
 use Rattle.pf_model.specs.Parsing.{sorts, IsCut, IsShallow, IsWritten, IsKnown, IsTree, Parses, Refuses, too_deep_at, unknown_at, too_large_at, place_of, too_deep, unexpected, unknown_name, time_too_large, too_tall}
 use Rattle.pf_model.specs.Tokens as definition

@@ -10,7 +10,7 @@ use Rattle.pf_model.specs.declared.expr.MatchSign.{MatchSign}
 use Rattle.pf_model.specs.declared.expr.MatchSign.TheVariants as match
 use Rattle.pf_model.specs.declared.functions.Sign.{Sign}
 use Rattle.pf_model.specs.declared.functions.Sign.TheVariants as operator
-use Rattle.pf_model.specs.Grammar.{Terminal, Fits, FitAll, key, name, label, exactly, Written, Arguments, terminals_of, all_terminals, more_terminals, none, more, call, aggregate, unary, binary, select, subquery, brackets, meaning, meanings, both, begins_with_bracket, operator_terminal, Labels, labels_terminals, Braces, braces_terminals, Keys, keys_terminals, Modifiers, modifiers_terminals, Offset, offset_terminals, AtModifier, at_modifier_terminals, these, bool_terminals, selected_terminals, range_terminals, before_terminals, behind_terminals, without_terminals, Clause, listed, commas_before, comma_if, minus_if, front_terminals, Group, group_terminals, Selected, matcher_terminals}
+use Rattle.pf_model.specs.Grammar.{Terminal, Fits, FitAll, key, name, label, exactly, Written, Arguments, terminals_of, all_terminals, more_terminals, none, more, call, aggregate, unary, binary, select, subquery, brackets, begins_with_bracket, operator_terminal, Labels, labels_terminals, Braces, braces_terminals, Keys, keys_terminals, modifiers_terminals, Offset, offset_terminals, AtModifier, at_modifier_terminals, these, bool_terminals, selected_terminals, range_terminals, before_terminals, behind_terminals, without_terminals, Clause, listed, commas_before, comma_if, minus_if, Group, group_terminals, matcher_terminals}
 use Rattle.pf_model.specs.Grammar as grammar
 use Rattle.pf_model.specs.Parsing as parsing
 use Rattle.pf_model.specs.Parsing.{sorts, is_the_sign, unknown_at, too_large_at, is_unknown, is_too_large, is_behind_at}

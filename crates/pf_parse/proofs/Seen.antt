@@ -4,7 +4,7 @@ use Rattle.std.specs.List.{list_any}
 use Rattle.std.specs.Str.{bytes_eq, str_to_ascii_lowercase}
 use Rattle.pf_lex.specs.declared.token.Mark.{Mark}
 use Rattle.pf_lex.specs.declared.token.Mark.TheVariants as mark
-use Rattle.pf_model.specs.Grammar.{Terminal, Fits, key, name, label, exactly, has_colon}
+use Rattle.pf_model.specs.Grammar.{Fits, key, name, label, exactly, has_colon}
 use Rattle.pf_model.specs.Grammar as grammar
 use Rattle.pf_model.specs.Tokens as token
 use Rattle.pf_model.specs.Words.{is_keyword}

@@ -10,7 +10,7 @@ use Rattle.pf_model.specs.declared.expr.At.TheVariants as at
 use Rattle.pf_model.specs.declared.expr.Matcher.{Matcher}
 use Rattle.pf_model.specs.declared.expr.MatchSign.{MatchSign}
 use Rattle.pf_model.specs.declared.expr.MatchSign.TheVariants as match
-use Rattle.pf_model.specs.Grammar.{Terminal, Fits, Braces, braces_terminals, AreBraces, matcher_terminals, listed, commas_before, comma_if, label, has_colon, is_nil, IsCommaLawful, is_named, Offset, offset_terminals, minus_if, AtModifier, at_modifier_terminals, front_terminals, IsAtModifier, millis_of, Modifiers, modifiers_terminals, these, AreModifiers, range_terminals, IsPositive}
+use Rattle.pf_model.specs.Grammar.{Terminal, Braces, braces_terminals, AreBraces, matcher_terminals, listed, commas_before, comma_if, label, has_colon, IsCommaLawful, is_named, Offset, offset_terminals, minus_if, AtModifier, at_modifier_terminals, front_terminals, IsAtModifier, millis_of, Modifiers, modifiers_terminals, these, AreModifiers}
 use Rattle.pf_model.specs.Grammar as grammar
 use Rattle.pf_model.specs.Tokens as token
 use Rattle.pf_model.specs.Words.{match_text}

@@ -12,19 +12,19 @@ use Rattle.pf_model.specs.declared.expr.At.TheVariants as at
 use Rattle.pf_model.specs.declared.expr.Matcher.{Matcher}
 use Rattle.pf_model.specs.declared.expr.MatchSign.{MatchSign}
 use Rattle.pf_model.specs.declared.expr.MatchSign.TheVariants as match
-use Rattle.pf_model.specs.Grammar.{Terminal, Fits, Written, terminals_of, all_terminals, level, IsLawful, AreLawful, IsClause, AreLabels, AreKeys, AreModifiers, IsAtModifier, millis_of, AreSelected, AreBraces, Labels, labels_terminals, Braces, braces_terminals, Selected, selected_terminals, Offset, offset_terminals, AtModifier, at_modifier_terminals, Modifiers, modifiers_terminals, these, IsPositive, is_named, is_nil, has_colon, operator_terminal, begins_with_bracket, without_terminals, matcher_terminals, comma_if, listed, Keys, keys_terminals}
+use Rattle.pf_model.specs.Grammar.{Terminal, Fits, Written, terminals_of, AreModifiers, IsAtModifier, millis_of, AreSelected, AreBraces, Braces, braces_terminals, selected_terminals, Offset, offset_terminals, AtModifier, at_modifier_terminals, Modifiers, modifiers_terminals, these, IsPositive, is_named, is_nil, has_colon, matcher_terminals, comma_if, listed}
 use Rattle.pf_model.specs.Grammar as grammar
 use Rattle.pf_parse.specs.declared.keyword.Keyword.TheVariants as keyword
-use Rattle.pf_parse.specs.Held.{Held, Read, Target, held_target, held_aggregate, held_call, with_argument, selector, ranged, nothing_read}
+use Rattle.pf_parse.specs.Held.{Held, Read, held_target, selector, ranged, nothing_read}
 use Rattle.pf_parse.specs.Lexemes.{within_limit}
 use Rattle.pf_parse.specs.Reading as mode
-use Rattle.pf_parse.proofs.Drafts.{Draft, Frame, Mode, Goal, Given, Stand, Purpose, Chosen, ClauseBefore, Callee, signed, left, bracket, calling, function, aggregation, selects, over, bare, offset_given, at_given, both_given, selection, operand, groups_next, groups, matches, includes, at_mode, image, images, text, stack_text, IsDraft, AreFrames, IsMode, Room, Fronted, tops_group, Operation, goal_image, goal_text, goal_written, IsGoal, modifiers, read_of_given, chosen_text, chosen_matchers, IsChosen, IsChoice, stand_image, stand_text, IsStand, end_word, end_at, purpose_text, purpose_image, IsPurpose, fronts, arguments, held_all, aggregated_text, operated_text, only_keys, group_keys, without_key}
+use Rattle.pf_parse.proofs.Drafts.{Draft, Frame, Mode, Goal, Given, Stand, Chosen, selects, over, bare, offset_given, at_given, both_given, selection, operand, at_mode, image, images, text, stack_text, AreFrames, IsMode, Fronted, tops_group, goal_image, goal_text, goal_written, IsGoal, modifiers, read_of_given, chosen_matchers, IsChosen, IsChoice, stand_image, stand_text, IsStand, end_at, fronts}
 use Rattle.pf_parse.proofs.Drafts as draft
 use Rattle.pf_parse.proofs.ReadOf.{read_of, selected_matchers}
 use Rattle.pf_parse.proofs.Rows.{ended, with_last, with_next}
 use Rattle.pf_parse.proofs.Selecting.{braces_onto, read_modifiers, read_moment, read_offset}
 use Rattle.pf_parse.proofs.Settling.{and_no, fronted_onto}
-use Rattle.pf_parse.proofs.Toks.{Tok, sort, seen, Followed, operation, square, comma, close, nothing, followed_of}
+use Rattle.pf_parse.proofs.Toks.{Tok, sort, seen, comma}
 use Rattle.pf_parse.proofs.Toks as tok
 use Rattle.pf_parse.proofs.Advancing.{Advanced, Advance, respelled, moved, as_image, tested, advance_due, advance_first, advance_whole, advance_operated, advance_keyed, advance_grouped, advance_clause, advance_arguments, advance_aggregated, advance_labels_due, advance_labels, advance_labelled}
 

@@ -4,7 +4,7 @@ use Rattle.std.proofs.lemmas.Bool.{leb-true, leb-false}
 use Rattle.std.proofs.lemmas.List.{append_assoc}
 use Rattle.pf_model.proofs.Levels.{level_positive}
 use Rattle.pf_model.specs.declared.expr.BinaryOp.{BinaryOp}
-use Rattle.pf_model.specs.Grammar.{Terminal, Written, terminals_of, level, IsLawful, Keys, AreKeys, begins_with_bracket, unary, binary, operator_terminal, bool_terminals, these, keys_terminals, ends_with_group}
+use Rattle.pf_model.specs.Grammar.{Terminal, Written, terminals_of, level, IsLawful, Keys, begins_with_bracket, unary, binary, operator_terminal, bool_terminals, these, keys_terminals}
 use Rattle.pf_model.specs.Words.{level_of}
 use Rattle.pf_parse.specs.Reading as mode
 use Rattle.pf_parse.specs.Held.{held_binary}

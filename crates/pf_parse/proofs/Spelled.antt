@@ -2,14 +2,14 @@
 use Rattle.std.proofs.Common.{◌≡◌, ◌∙◌, sym, refl, ap, subst, List, [], ◌∷◌, ◌++◌, Option, Some, None, arith}
 use Rattle.std.proofs.lemmas.List.{append-nil}
 use Rattle.std.specs.Option.{option_and_then}
-use Rattle.pf_model.specs.Grammar.{Terminal, Written, terminals_of, FitAll, IsLawful, select}
+use Rattle.pf_model.specs.Grammar.{Terminal, Written, terminals_of, FitAll, IsLawful}
 use Rattle.pf_model.specs.Grammar as grammar
 use Rattle.pf_model.specs.Tokens as token
 use Rattle.pf_parse.specs.Held.{Held, held_target}
 use Rattle.pf_parse.specs.Reading as mode
 use Rattle.pf_parse.proofs.Advancing.{Advanced, Advance, settled_at, plain_text, aggregate_lawful}
 use Rattle.pf_parse.proofs.Selections.{advance, goal_onto, goal_stands, goal_read}
-use Rattle.pf_parse.proofs.Drafts.{Draft, Frame, Mode, signed, left, bracket, calling, selects, bare, operand, at_mode, image, images, text, stack_text, IsDraft, AreFrames, IsMode, IsStand, modifiers, goal_written, goal_image, arguments, held_all, tops_group}
+use Rattle.pf_parse.proofs.Drafts.{Draft, Frame, Mode, selects, bare, operand, at_mode, image, images, text, stack_text, IsDraft, AreFrames, IsMode, IsStand, modifiers, goal_written, goal_image, arguments, tops_group}
 use Rattle.pf_parse.proofs.Drafts as draft
 use Rattle.pf_parse.proofs.Goes.{value, lexemes}
 use Rattle.pf_parse.proofs.ReadOf.{read_of}

@@ -8,13 +8,13 @@ use Rattle.pf_lex.specs.declared.token.Mark.{Mark}
 use Rattle.pf_lex.specs.declared.token.Mark.TheVariants as mark
 use Rattle.pf_model.specs.declared.functions.Sign.{Sign}
 use Rattle.pf_model.specs.declared.functions.Sign.TheVariants as operator
-use Rattle.pf_model.specs.Grammar.{Fits, operator_terminal}
+use Rattle.pf_model.specs.Grammar.{Fits}
 use Rattle.pf_model.specs.Grammar as grammar
 use Rattle.pf_model.specs.Tokens as token
 use Rattle.pf_model.specs.Words.{is_keyword, is_set_operator, operator_text}
 use Rattle.pf_parse.specs.declared.keyword.Keyword.{Keyword}
 use Rattle.pf_parse.specs.declared.keyword.Keyword.TheVariants as keyword
-use Rattle.pf_parse.specs.Lexemes.{Lexeme, word, keyword_text, all_keywords, keyword_among, keyword_of, mark_text, all_marks, mark_among, mark_of, within_limit, lexeme_of, Follow, operates, opens_square, separates, closes, stops, follow_of}
+use Rattle.pf_parse.specs.Lexemes.{Lexeme, word, keyword_text, all_keywords, keyword_among, keyword_of, mark_text, all_marks, mark_among, mark_of, within_limit, lexeme_of, operates, opens_square, separates, closes, stops, follow_of}
 use Rattle.pf_parse.specs.Lexemes as lexeme
 
 pub data Tok : Type 0 where

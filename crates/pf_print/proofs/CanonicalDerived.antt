@@ -15,7 +15,7 @@ use Rattle.pf_model.specs.declared.expr.Side.{Side}
 use Rattle.pf_model.specs.declared.expr.Side.TheVariants as side
 use Rattle.pf_model.specs.declared.functions.InstantFn.TheVariants as instant
 use Rattle.pf_model.specs.declared.functions.RangeFn.TheVariants as ranged
-use Rattle.pf_model.specs.Grammar.{Written, Arguments, IsLawful, AreLawful, AreKeys, AreModifiers, IsPositive, Derives, IsDerived, Keys, Group, meaning, meanings, both, matched_of, grouped_of, mods_of, side_of, include_of, ends_with_group, terminals_of, begins_with_bracket, is_nil}
+use Rattle.pf_model.specs.Grammar.{Written, Arguments, IsLawful, AreLawful, AreKeys, IsPositive, Derives, Keys, Group, meaning, meanings, both, matched_of, grouped_of, mods_of, side_of, include_of, ends_with_group, is_nil}
 use Rattle.pf_model.specs.Grammar as grammar
 use Rattle.pf_lex.specs.CanonicalTokens.{HasTree, IsPrintable}
 use Rattle.pf_model.specs.Trees.{Tree, Trees}

@@ -29,7 +29,7 @@ use Rattle.pf_model.specs.declared.functions.Sign.{Sign}
 use Rattle.pf_model.specs.declared.functions.Sign.TheVariants as operator
 use Rattle.pf_model.proofs.OneAnswer.{tokens_are_one}
 use Rattle.pf_model.specs.Grammar.{Derives, is_nil}
-use Rattle.pf_model.specs.Parsing.{sorts, opens, closes, open_behind, is_the_sign, is_too_large, is_behind_at, is_unknown, too_deep_at, unknown_at, too_large_at, Parses}
+use Rattle.pf_model.specs.Parsing.{sorts, opens, open_behind, is_the_sign, is_too_large, is_behind_at, is_unknown, too_deep_at, unknown_at, too_large_at, Parses}
 use Rattle.pf_model.specs.Parsing as parsing
 use Rattle.pf_model.specs.Tokens.{Sort, Token, word, number, duration, string, sign}
 use Rattle.pf_model.specs.Trees.{Tree, Trees, height, heights}

@@ -4,7 +4,7 @@ use Rattle.std.specs.Option.{option_map}
 use Rattle.std.specs.Prelude.{IfSome, MatchOption}
 use Rattle.pf_base.specs.declared.plain.JobHead.{JobHead}
 use Rattle.pf_model.specs.Lists.{Each}
-use Rattle.pf_query.specs.Entries.{Gathers, GathersAt, GathersFrom, back_entry, given_entry, is_given_out, is_planned, one_more, state_of, stop_after, stopped_entry, stored_entry, taken_entry, tried_entry, with_change}
+use Rattle.pf_query.specs.Entries.{Gathers, GathersAt, GathersFrom, back_entry, given_entry, is_given_out, one_more, state_of, stop_after, stopped_entry, stored_entry, taken_entry, tried_entry, with_change}
 use Rattle.pf_query.specs.Jobs.{hand_of, has_hand, is_other_job, job_of_held, without_hand}
 use Rattle.pf_shard.specs.declared.parts.Part.{Part}
 use Rattle.pf_query.specs.Queueing.{AreNotWaiting, AreQueues, AreSame, AreWith, IsPutBack, IsReleased, IsTaken, hands_in, ring_in, tries_left, waiting_in}

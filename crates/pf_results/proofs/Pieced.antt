@@ -3,7 +3,7 @@ use Rattle.std.proofs.Common.{◌≡◌, ◌∙◌, ◌⊎◌, ℕ, zero, suc, �
 use Rattle.std.proofs.Math.Seq.{take-suc}
 use Rattle.std.specs.Prelude.{◌==◌}
 use Rattle.lru.specs.LruCache.{LruCache}
-use Rattle.pf_base.specs.GridLists.{GridData, times_from}
+use Rattle.pf_base.specs.GridLists.{GridData}
 use Rattle.pf_base.specs.Grids.{points}
 use Rattle.pf_extent.specs.Done.{AreWhole, steps_in}
 use Rattle.pf_extent.specs.Steps.{Extents}
@@ -17,7 +17,7 @@ use Rattle.pf_model.specs.Lists.{Each}
 use Rattle.pf_model.specs.Trees.{Tree}
 use Rattle.pf_print.specs.OwnTexts.{HasText}
 use Rattle.pf_split.specs.Pieces as split
-use Rattle.pf_split.specs.Pieces.{pieces_of, points_of, put_before}
+use Rattle.pf_split.specs.Pieces.{pieces_of, put_before}
 use Rattle.pf_split.specs.declared.splitting.Piece.{Piece}
 use Rattle.pf_results.specs.Entries.{kept_under, put_under, touched}
 use Rattle.pf_results.specs.Pieces.{AreEvaluated, AreOfOneQuery, fixed_over, kept_over, kept_with, key_at, key_of, missing_over, served_over, touched_over}

@@ -11,7 +11,7 @@ use Rattle.pf_model.specs.declared.expr.Matcher.{Matcher}
 use Rattle.pf_model.specs.Built.{are_near, is_distance, is_evaluated, is_resolution, is_time, name_labels}
 use Rattle.pf_model.specs.Evaluation.{resolution_or_minute}
 use Rattle.pf_model.specs.Grammar as written
-use Rattle.pf_model.specs.Grammar.{Terminal, key, name, label, exactly, sign, number, duration, string, Written, Arguments, Braces, Clause, Group, Keys, Labels, Modifiers, AtModifier, Offset, AreLawful, IsLawful, IsPositive, both, terminals_of, all_terminals, more_terminals, meaning, meanings, these, comma_if, commas_before, listed, labels_terminals, matcher_terminals, braces_terminals, selected_terminals, offset_terminals, at_modifier_terminals, front_terminals, modifiers_terminals, range_terminals, before_terminals, behind_terminals, operator_terminal, bool_terminals, group_terminals, keys_terminals, metric_matcher, braces_matchers, mods_of, at_of, offset_of, millis_of, matched_of, grouped_of, include_of, labels_of}
+use Rattle.pf_model.specs.Grammar.{Terminal, name, label, sign, number, duration, string, Written, Arguments, Braces, Group, Keys, Labels, Modifiers, AtModifier, Offset, AreLawful, IsLawful, IsPositive, both, terminals_of, all_terminals, more_terminals, meaning, meanings, these, comma_if, commas_before, listed, labels_terminals, matcher_terminals, braces_terminals, offset_terminals, at_modifier_terminals, modifiers_terminals, range_terminals, before_terminals, behind_terminals, operator_terminal, bool_terminals, group_terminals, keys_terminals, metric_matcher, braces_matchers, mods_of, at_of, offset_of, matched_of, grouped_of, include_of, labels_of}
 use Rattle.pf_model.specs.Parsing.{sorts}
 use Rattle.pf_model.specs.Queries.{IsQuery}
 use Rattle.pf_model.specs.Words.{function_of, match_text}

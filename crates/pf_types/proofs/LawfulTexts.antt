@@ -1,18 +1,11 @@
 -- The names and the times of what the grammar reads are within their bounds.
-use Rattle.std.proofs.Common.{◌≡◌, ℕ, ℤ, pos, ◌+◌, ◌/◌, Bool, true, false, ◌&&◌, ◌||◌, not, cond, codes, Option, Some, None, List, [], ◌∷◌, ◌++◌, refl, sym, ap, subst, ◌∙◌, arith, zero, suc, length, take, drop}
-use Rattle.std.specs.Prelude.{nat_abs, nat_eq, nat_le, nat_lt, option_map}
+use Rattle.std.proofs.Common.{◌≡◌, ℕ, ◌+◌, ◌/◌, Bool, true, false, ◌&&◌, ◌||◌, not, cond, codes, Option, Some, None, List, [], ◌∷◌, ◌++◌, refl, sym, ap, subst, ◌∙◌, arith}
+use Rattle.std.specs.Prelude.{nat_abs, nat_eq, nat_le, nat_lt}
 use Rattle.std.specs.List.{list_all, list_any}
-use Rattle.std.specs.Option.{option_or}
-use Rattle.std.specs.Str.{bytes_eq, str_eq_ignore_ascii_case}
+use Rattle.std.specs.Str.{bytes_eq}
 use Rattle.std.proofs.lemmas.Bool.Decides.{nat_tests}
-use Rattle.pf_base.specs.Arithmetic.{clamp}
-use Rattle.pf_base.specs.DurationScans.{rest_after, total_of}
-use Rattle.pf_base.specs.DurationTexts.{units}
-use Rattle.pf_base.specs.LabelSets.{goes_on, is_empty, is_label_name, starts_name}
+use Rattle.pf_base.specs.LabelSets.{goes_on, is_label_name, starts_name}
 use Rattle.pf_base.specs.Limits.{greatest_time}
-use Rattle.pf_base.specs.NumberScans.{decimal_of}
-use Rattle.pf_base.specs.NumberTexts.{decimal_micros}
-use Rattle.pf_model.specs.Cuts.{only_if}
 use Rattle.pf_model.specs.Built.{is_distance}
 use Rattle.pf_model.specs.Grammar.{Terminal, key, name, label, exactly, sign, number, duration, string, Fits, FitAll, has_colon}
 use Rattle.pf_model.specs.Parsing.{is_behind_at, is_too_large, too_large_at, sorts}

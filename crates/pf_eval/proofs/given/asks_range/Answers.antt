@@ -1,7 +1,6 @@
 use Rattle.std.proofs.Common.{ap, ◌∙◌}
 use Rattle.pf_model.specs.declared.expr.Function.TheVariants as called
 use Rattle.pf_model.specs.Trees as tree
-use Rattle.pf_model.specs.Trees.{tree_of}
 use Rattle.pf_eval.proofs.GivenParts.{behind_range, range_evaluated, range_given}
 use Rattle.pf_eval.proofs.OneArgument.{one_tree}
 use Rattle.pf_eval.proofs.given.asks_range.Goals as goal

@@ -1,4 +1,4 @@
-use Rattle.std.proofs.Common.{◌≡◌, ◌<◌, ◌+◌, ◌*◌, rules, subst, sym, ap, ◌∙◌, pos}
+use Rattle.std.proofs.Common.{◌<◌, ◌+◌, ◌*◌, rules, subst, sym, ap, ◌∙◌, pos}
 use Rattle.pf_columns.specs.Steps.{step_at}
 use Rattle.pf_model.specs.Evaluation.{eval, read_time, selected}
 use Rattle.pf_model.specs.Legs.{of_shard}

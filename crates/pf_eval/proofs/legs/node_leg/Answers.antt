@@ -1,4 +1,4 @@
-use Rattle.std.proofs.Common.{◌≡◌, ◌<◌, ◌+◌, ◌*◌, ◌/◌, ◌%◌, ℕ, List, [], map, Vec, Global, Some, get_or, rules, subst, sym, ap, ◌∙◌, pos, length}
+use Rattle.std.proofs.Common.{◌≡◌, ◌<◌, ◌+◌, ◌*◌, ◌/◌, ◌%◌, ℕ, List, [], Vec, Global, Some, get_or, rules, subst, sym, ap, ◌∙◌, pos, length}
 use Rattle.std.proofs.lemmas.List.{get_or-map, length-map}
 use Rattle.pf_model.specs.Lists.{at}
 use Rattle.pf_model.specs.Trees.{Tree, preorder, tree_of}

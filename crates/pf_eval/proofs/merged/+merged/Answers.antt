@@ -1,8 +1,7 @@
-use Rattle.std.proofs.Common.{◌<◌, ◌+◌, ◌++◌, drop, map, sym, ap, ◌∙◌, subst}
+use Rattle.std.proofs.Common.{◌+◌, ◌++◌, drop, map, ap, ◌∙◌}
 use Rattle.pf_model.specs.Trees.{tree_of, trees_of}
 use Rattle.pf_selectors.specs.Times.{time_at}
-use Rattle.pf_eval.specs.Merged.{AreOfShards}
-use Rattle.pf_eval.specs.Nodes.{all_meant, meant, node_at, nodes_at, texts_in}
+use Rattle.pf_eval.specs.Nodes.{all_meant, node_at, nodes_at, texts_in}
 use Rattle.pf_eval.specs.Strings.{strings_in}
 use Rattle.pf_eval.specs.declared.node.Node.TheVariants as node
 use Rattle.pf_eval.proofs.BoundNodes.{args_more, pushed_outcome, string_outcome}

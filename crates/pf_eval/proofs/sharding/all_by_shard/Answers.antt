@@ -1,4 +1,4 @@
-use Rattle.std.proofs.Common.{rules, ℕ, List, map, Vec, Global, ap, ◌∙◌}
+use Rattle.std.proofs.Common.{ℕ, List, map, Vec, Global, ap, ◌∙◌}
 use Rattle.std.proofs.lemmas.List.{map-append}
 use Rattle.pf_eval.proofs.ShardLists.{divided, divided_more}
 use Rattle.pf_eval.proofs.sharding.all_by_shard.Goals as goal

@@ -1,11 +1,9 @@
-use Rattle.std.proofs.Common.{◌≡◌, ◌<◌, ◌≤◌, ◌+◌, ◌*◌, List, [], map, nat_eq, pos, refl, subst, ap, sym, ◌∙◌, arith}
+use Rattle.std.proofs.Common.{◌≡◌, ◌<◌, ◌≤◌, List, [], map, nat_eq, refl, subst, ap, sym, ◌∙◌, arith}
 use Rattle.pf_base.specs.ShardHash.{shard_of}
-use Rattle.pf_model.specs.Aggregation.{group_key}
 use Rattle.pf_model.specs.Evaluation.{read_time, selected}
 use Rattle.pf_model.specs.Legs.{grouped_part, of_shard}
 use Rattle.pf_model.specs.declared.cell.StepCell.TheVariants.{Good}
 use Rattle.pf_columns.specs.Columns.{ColumnData}
-use Rattle.pf_shard.specs.Groups.{group_columns}
 use Rattle.pf_shard.proofs.KnownGroups.{part_known}
 use Rattle.pf_selectors.specs.SeriesColumns.{series_column}
 use Rattle.pf_selectors.proofs.PassingSeries.{series_passing}
