@@ -6,7 +6,7 @@
 //! `gives WORDS` is a row whose given text is the case's title; it wants its words, a line feed and its text. Empty lines
 //! and lines that begin with `#` are passed over.
 
-use crate::forms::{Form, answer};
+use crate::forms::answer;
 use cases_rows::escapes::{push_shown, push_unescaped};
 use cases_rows::output::{Output, Trouble};
 use cases_rows::setting::Setting;
@@ -24,7 +24,7 @@ struct Waiting {
 pub struct Reader<'a> {
     rt: HostRuntime,
     name: &'a str,
-    form: Option<Form>,
+    form: &'a str,
     title: &'a str,
     setting: Setting,
     waiting: Option<Waiting>,
@@ -47,7 +47,7 @@ impl<'a> Reader<'a> {
         Reader {
             rt,
             name,
-            form: None,
+            form: "",
             title: "",
             setting: Setting::new(alloc),
             waiting: None,
@@ -93,13 +93,6 @@ impl<'a> Reader<'a> {
         }
     }
 
-    /// What is found of a row.
-    fn found(&self, form: Form, given: &[u8]) -> Output {
-        let mut out = Output::new(self.rt.alloc());
-        answer(&mut out, self.rt, form, &self.setting, given);
-        out
-    }
-
     /// Compares what is found of a row with what is wanted.
     fn compare(&mut self, line: u32, wanted: &[u8], found: &Output) -> Result<(), Trouble> {
         if let Some(trouble) = found.trouble() {
@@ -114,13 +107,9 @@ impl<'a> Reader<'a> {
     /// Answers a row, and says what is wrong.
     fn judge(&mut self, line: u32, given: &[u8], wanted: &[u8]) -> Result<(), Trouble> {
         self.rows = self.rows.saturating_add(1);
-        match self.form {
-            Some(form) => {
-                let found = self.found(form, given);
-                self.compare(line, wanted, &found)
-            }
-            None => Err(Trouble::NotOfForm),
-        }
+        let mut found = Output::new(self.rt.alloc());
+        answer(&mut found, self.rt, self.form, &self.setting, given);
+        self.compare(line, wanted, &found)
     }
 
     /// Answers the row that waits, whose wanted text is read.
@@ -159,12 +148,6 @@ impl<'a> Reader<'a> {
         Ok(())
     }
 
-    fn read_form(&mut self, name: &str) -> Result<(), Trouble> {
-        let form = Form::named(name).ok_or(Trouble::NotOfForm)?;
-        self.form = Some(form);
-        Ok(())
-    }
-
     fn read_case(&mut self, title: &'a str) -> Result<(), Trouble> {
         self.title = title;
         self.setting = Setting::new(self.rt.alloc());
@@ -177,7 +160,8 @@ impl<'a> Reader<'a> {
             return Ok(());
         }
         if let Some(name) = text.strip_prefix("form ") {
-            return self.read_form(name);
+            self.form = name;
+            return Ok(());
         }
         if let Some(title) = text.strip_prefix("case ") {
             return self.read_case(title);

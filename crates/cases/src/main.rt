@@ -3,7 +3,6 @@
 //! was found. It ends with status 1 where a row doesn't hold, a file is not read, or a line is of no form.
 #![tactic(auto)]
 
-mod evaluation;
 mod file;
 mod forms;
 mod hops;

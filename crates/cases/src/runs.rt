@@ -12,39 +12,26 @@ use pf_base::{Limits, Text};
 use pf_io::{DiskFiles, Files, MemFiles, MemSink, OpenGate};
 use pf_top::{DEFAULT_LIMITS, run_within};
 
-/// A form of rows.
-#[derive(Clone, Copy)]
-pub enum Form {
-    /// `run`: `gives status NUMBER`, and the text that is written. The words are those of a part `words`, or `replay script`.
-    /// The files are the parts `script` and `file NAME`. `failing reads NUMBERS`, `failing writes NUMBERS` and `failing hop ACTOR:
-    /// NUMBERS` name calls that fail, from 0; the client is actor 0, and worker W actor 16 + W. `most NUMBER` is the most bytes that
-    /// a write takes. `outstanding NUMBER` and `journal NUMBER` set these limits where the words choose none.
-    Run,
-    /// `example`: `FOLDER SCRIPT FILES => status NUMBER REPORT`, a run over files of the folder, which writes what the file
-    /// REPORT there holds.
-    Example,
-}
-
-impl Form {
-    /// The form of this name.
-    pub fn named(name: &str) -> Option<Form> {
-        match name {
-            "run" => Some(Form::Run),
-            "example" => Some(Form::Example),
-            _ => None,
-        }
+/// Writes what is found of a row, and says whether its form is one of these.
+pub fn answer(
+    out: &mut Output,
+    rt: HostRuntime,
+    form: &str,
+    setting: &Setting,
+    given: &str,
+) -> bool {
+    match form {
+        // `gives status NUMBER`, and the text that is written. The words are those of a part `words`, or `replay script`. The
+        // files are the parts `script` and `file NAME`. `failing reads NUMBERS`, `failing writes NUMBERS` and `failing hop ACTOR:
+        // NUMBERS` name calls that fail, from 0; the client is actor 0, and worker W actor 16 + W. `most NUMBER` is the most bytes
+        // that a write takes. `outstanding NUMBER` and `journal NUMBER` set these limits where the words choose none.
+        "run" => run(out, setting),
+        // `FOLDER SCRIPT FILES => status NUMBER REPORT`, a run over files of the folder, which writes what the file REPORT there
+        // holds.
+        "example" => example(out, rt, given),
+        _ => return false,
     }
-
-    /// Writes what is found of a row.
-    pub fn answer(self, out: &mut Output, rt: HostRuntime, setting: &Setting, given: &[u8]) {
-        match self {
-            Form::Run => run(out, setting),
-            Form::Example => {
-                let text = out.utf8(given);
-                example(out, rt, text);
-            }
-        }
-    }
+    true
 }
 
 /// The words of the run.

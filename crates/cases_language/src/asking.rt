@@ -10,9 +10,9 @@ ghost use Rattle.pf_types.specs.Asking.{IsWhen};
 use crate::language::push_refusal;
 use cases_rows::base::grid_of;
 use cases_rows::output::{Output, cut};
+use pf_asked::Asked;
 use pf_base::Grid;
 use pf_model::Expr;
-use pf_query::Asked;
 use pf_resolve::{lowest, reach};
 use pf_types::{BoundQuery, QueryError, When, bind, grid_text, read_asked, read_query};
 

@@ -7,8 +7,6 @@ ghost use Rattle.pf_model.specs.Built.{is_evaluated};
 ghost use Rattle.pf_model.specs.Trees.{height, size, tree_of};
 ghost use Rattle.pf_print.specs.OwnTexts.{HasText};
 
-use crate::asking::asking;
-use crate::resolution::resolving;
 use cases_rows::output::Output;
 use pf_lex::{LexError, Token, TokenSort, string_value, token_text, tokens};
 use pf_model::{Expr, Kind};
@@ -17,72 +15,33 @@ use pf_print::print;
 use pf_types::{QueryError, TypeError, bind, check, error_text, read_query};
 use std::alloc::Global;
 
-/// A form of rows.
-#[derive(Clone, Copy)]
-pub enum Form {
-    /// `tokens`: `TEXT => TOKENS`, or the text of the refusal.
-    Tokens,
-    /// `token count`: `TEXT => COUNT`, how many tokens there are, or the text of the refusal.
-    TokenCount,
-    /// `canonical`: `TEXT => CANONICAL`, the canonical text of what is read, or the text of the refusal.
-    Canonical,
-    /// `kind`: `TEXT => KIND`, or the text of the first fault.
-    Kind,
-    /// `query`: `TEXT => lawful`, or the text of the first error.
-    Query,
-    /// `bind`: `QUERY => lawful`, or the text of the first refused pattern or empty selector.
-    Bind,
-    /// `asked`: `read GRID | QUERY => ASKED`, what a text asks over a grid, and `bound GRID | QUERY => ASKED`, what its bound query
-    /// asks; or the text of the refusal.
-    Asked,
-    /// `compared`: `SELECTOR => true` where no pattern is compiled for it, and `false` else.
-    Compared,
-    /// `resolving`: `resolve START END QUERY => CANONICAL`, the query with its range put in, and `shardable QUERY => true`.
-    Resolving,
-    /// `error`: `ERROR => TEXT`.
-    Error,
-}
-
-impl Form {
-    /// The form of this name.
-    pub fn named(name: &str) -> Option<Form> {
-        let form = match name {
-            "tokens" => Form::Tokens,
-            "token count" => Form::TokenCount,
-            "canonical" => Form::Canonical,
-            "kind" => Form::Kind,
-            "query" => Form::Query,
-            "bind" => Form::Bind,
-            "asked" => Form::Asked,
-            "compared" => Form::Compared,
-            "resolving" => Form::Resolving,
-            "error" => Form::Error,
-            _ => return None,
-        };
-        Some(form)
+/// Writes what is found of a row, and says whether its form is one of these.
+pub fn answer(out: &mut Output, form: &str, given: &str) -> bool {
+    match form {
+        // `TEXT => TOKENS`, or the text of the refusal.
+        "tokens" => listed_tokens(out, given),
+        // `TEXT => COUNT`, how many tokens there are, or the text of the refusal.
+        "token count" => token_count(out, given),
+        // `TEXT => CANONICAL`, the canonical text of what is read, or the text of the refusal.
+        "canonical" => canonical(out, given),
+        // `TEXT => KIND`, or the text of the first fault.
+        "kind" => kind(out, given),
+        // `TEXT => lawful`, or the text of the first error.
+        "query" => query(out, given),
+        // `QUERY => lawful`, or the text of the first refused pattern or empty selector.
+        "bind" => bound(out, given),
+        // `SELECTOR => true` where no pattern is compiled for it, and `false` else.
+        "compared" => compared(out, given),
+        // `ERROR => TEXT`.
+        "error" => error(out, given),
+        _ => return false,
     }
-
-    /// Writes what is found of a row.
-    pub fn answer(self, out: &mut Output, given: &[u8]) {
-        let text = out.utf8(given);
-        match self {
-            Form::Tokens => listed_tokens(out, text),
-            Form::TokenCount => token_count(out, text),
-            Form::Canonical => canonical(out, text),
-            Form::Kind => kind(out, text),
-            Form::Query => query(out, text),
-            Form::Bind => bound(out, text),
-            Form::Asked => asking(out, text),
-            Form::Compared => compared(out, text),
-            Form::Resolving => resolving(out, text),
-            Form::Error => error(out, text),
-        }
-    }
+    true
 }
 
 /// Appends the text of a refusal.
 pub fn push_refusal(out: &mut Output, error: &QueryError) {
-    if *error == QueryError::OutOfMemory {
+    if matches!(error, QueryError::OutOfMemory) {
         out.lose();
     } else {
         out.made(&error_text(out.alloc(), error));

@@ -4,44 +4,34 @@ use cases_rows::output::Output;
 use cases_rows::setting::Setting;
 use pf_match::{Pattern, PatternError};
 
-/// A form of rows.
-#[derive(Clone, Copy)]
-pub enum Form {
-    /// `pattern matches`: `VALUE => true`, whether the pattern matches the whole value, or `bad pattern`.
-    Matches,
-    /// `pattern expand`: `VALUE => TEXT`, what the template stands for at the value, or `none`, or `bad pattern`.
-    Expand,
+/// The pattern of the part above the row, or a note of why there is none.
+fn pattern_of(out: &mut Output, setting: &Setting) -> Option<Pattern> {
+    let text = setting.words(out, "pattern");
+    match Pattern::build(out.alloc(), text) {
+        Ok(pattern) => Some(pattern),
+        Err(PatternError::BadPattern) => {
+            out.text("bad pattern");
+            None
+        }
+        Err(PatternError::OutOfMemory) => {
+            out.lose();
+            None
+        }
+    }
 }
 
-impl Form {
-    /// The form of this name.
-    pub fn named(name: &str) -> Option<Form> {
-        match name {
-            "pattern matches" => Some(Form::Matches),
-            "pattern expand" => Some(Form::Expand),
-            _ => None,
-        }
+/// `VALUE => true`, whether the pattern matches the whole value, or `bad pattern`.
+pub fn matches(out: &mut Output, setting: &Setting, value: &str) {
+    if let Some(pattern) = &pattern_of(out, setting) {
+        push_matches(out, pattern, value);
     }
+}
 
-    /// Writes what is found of a row.
-    pub fn answer(self, out: &mut Output, setting: &Setting, given: &[u8]) {
-        let value = out.utf8(given);
-        let text = setting.words(out, "pattern");
-        match &Pattern::build(out.alloc(), text) {
-            Ok(pattern) => self.push(out, setting, pattern, value),
-            Err(PatternError::BadPattern) => out.text("bad pattern"),
-            Err(PatternError::OutOfMemory) => out.lose(),
-        }
-    }
-
-    fn push(self, out: &mut Output, setting: &Setting, pattern: &Pattern, value: &str) {
-        match self {
-            Form::Matches => push_matches(out, pattern, value),
-            Form::Expand => {
-                let template = setting.words(out, "template");
-                push_expanded(out, pattern, value, template);
-            }
-        }
+/// `VALUE => TEXT`, what the template stands for at the value, or `none`, or `bad pattern`.
+pub fn expand(out: &mut Output, setting: &Setting, value: &str) {
+    let template = setting.words(out, "template");
+    if let Some(pattern) = &pattern_of(out, setting) {
+        push_expanded(out, pattern, value, template);
     }
 }
 

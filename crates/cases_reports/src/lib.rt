@@ -1,9 +1,6 @@
 //! Rows of scripts that are read, and of the lines of reports.
 #![tactic(auto)]
 
-mod answers;
-mod entries;
-mod replies;
 mod reports;
 mod sessions;
 
@@ -12,41 +9,26 @@ use cases_rows::setting::Setting;
 use pf_base::Text;
 use pf_script::{Line, NumberedLine, Script, ScriptError, read_script};
 
-/// A form of rows.
-#[derive(Clone, Copy)]
-pub enum Form {
-    /// `script`: `SCRIPT => LINES`, each with its number and what was read of it, behind `stepped` where the script is a stepped
-    /// one; or `refused N`. A part `step lines` above it allows these.
-    Script,
-    /// `session`: `SEED => NAME LENGTH NUMBER FIRST_LINE; ..`, of each page that is generated, and then of the script. A text's number
-    /// is 31 times that of what is before its last byte, and the byte, modulo 2^32.
-    Session,
-    Reports(reports::Form),
+/// Writes what is found of a row of bytes, and says whether its form is one of these.
+pub fn answer_bytes(out: &mut Output, form: &str, setting: &Setting, given: &[u8]) -> bool {
+    match form {
+        // `SCRIPT => LINES`, each with its number and what was read of it, behind `stepped` where the script is a stepped one;
+        // or `refused N`. A part `step lines` above it allows these.
+        "script" => script(out, setting, given),
+        _ => return false,
+    }
+    true
 }
 
-impl Form {
-    /// The form of this name.
-    pub fn named(name: &str) -> Option<Form> {
-        if name == "script" {
-            return Some(Form::Script);
-        }
-        if name == "session" {
-            return Some(Form::Session);
-        }
-        Some(Form::Reports(reports::Form::named(name)?))
+/// Writes what is found of a row of text, and says whether its form is one of these.
+pub fn answer(out: &mut Output, form: &str, given: &str) -> bool {
+    match form {
+        // `SEED => NAME LENGTH NUMBER FIRST_LINE; ..`, of each page that is generated, and then of the script. A text's number is
+        // 31 times that of what is before its last byte, and the byte, modulo 2^32.
+        "session" => sessions::answer(out, given),
+        _ => return reports::answer(out, form, given),
     }
-
-    /// Writes what is found of a row.
-    pub fn answer(self, out: &mut Output, setting: &Setting, given: &[u8]) {
-        match self {
-            Form::Script => script(out, setting, given),
-            Form::Session => {
-                let given = out.utf8(given);
-                sessions::answer(out, given);
-            }
-            Form::Reports(form) => form.answer(out, setting, given),
-        }
-    }
+    true
 }
 
 /// Appends a word behind a blank.

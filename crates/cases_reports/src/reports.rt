@@ -1,116 +1,48 @@
-//! Rows of the lines of reports.
+//! Rows of the lines of reports, each with the text that is appended.
 
-use crate::{answers, entries, replies};
 use cases_rows::output::Output;
-use cases_rows::setting::Setting;
-use pf_base::OutOfMemory;
 use pf_report::{Word, push_actors, push_client, push_journal_head, push_line};
-
-/// A form of rows, each with the text that is appended.
-#[derive(Clone, Copy)]
-pub enum Form {
-    /// `words`: words with `|` between them, where those of digits alone are numbers; `none` is no words.
-    Words,
-    /// `client`: `CLIENT`.
-    Client,
-    /// `journal head`: `ENTRIES`.
-    JournalHead,
-    /// `actors`: the numbers of tries of the actors.
-    Actors,
-    Ingested,
-    Ingest,
-    Delete,
-    Ask,
-    Cancel,
-    Plan,
-    Take,
-    Done,
-    Keep,
-    Answered,
-    Waiting,
-    Evaluated,
-    ErrorBody,
-    Entry,
-}
-
-impl Form {
-    /// The form of this name.
-    pub fn named(name: &str) -> Option<Form> {
-        let form = match name {
-            "words" => Form::Words,
-            "client" => Form::Client,
-            "journal head" => Form::JournalHead,
-            "actors" => Form::Actors,
-            "ingested" => Form::Ingested,
-            "ingest reply" => Form::Ingest,
-            "delete reply" => Form::Delete,
-            "ask reply" => Form::Ask,
-            "cancel reply" => Form::Cancel,
-            "plan reply" => Form::Plan,
-            "take reply" => Form::Take,
-            "done reply" => Form::Done,
-            "keep reply" => Form::Keep,
-            "answered" => Form::Answered,
-            "waiting" => Form::Waiting,
-            "evaluation text" => Form::Evaluated,
-            "error body" => Form::ErrorBody,
-            "entry" => Form::Entry,
-            _ => return None,
-        };
-        Some(form)
-    }
-
-    /// Writes what is found of a row.
-    pub fn answer(self, out: &mut Output, setting: &Setting, given: &[u8]) {
-        let text = out.utf8(given);
-        let mut line = Vec::new(out.alloc());
-        let before = line.extend_from_slice(BEFORE);
-        let pushed = self.push(out, &mut line, setting, text);
-        if before.is_err() || pushed.is_err() {
-            out.lose();
-        }
-        match line.strip_prefix(BEFORE) {
-            Some(behind) => out.bytes(behind),
-            None => out.text("what stood before is lost"),
-        }
-    }
-
-    /// Appends what is found to a line, behind what stands there.
-    fn push(
-        self,
-        out: &mut Output,
-        line: &mut Vec<u8>,
-        setting: &Setting,
-        text: &str,
-    ) -> Result<(), OutOfMemory> {
-        match self {
-            Form::Words => push_line(line, &words_of(out, text)),
-            Form::Client => push_client(line, out.number(text)),
-            Form::JournalHead => push_journal_head(line, out.number(text)),
-            Form::Actors => push_actors(line, &numbers_of(out, text)),
-            Form::Ingested => replies::ingested(out, line, text),
-            Form::Ingest => replies::ingest(out, line, text),
-            Form::Delete => replies::delete(out, line, text),
-            Form::Ask => replies::ask(out, line, text),
-            Form::Cancel => replies::cancel(out, line, text),
-            Form::Plan => replies::plan(out, line, text),
-            Form::Take => replies::take(out, line, text),
-            Form::Done => replies::done(out, line, text),
-            Form::Keep => replies::keep(out, line, text),
-            Form::Answered => answers::answered(out, line, setting, text),
-            Form::Waiting => answers::waiting(out, line, text),
-            Form::Evaluated => answers::evaluated(out, line, setting, text),
-            Form::ErrorBody => answers::error(out, line, text),
-            Form::Entry => entries::entry(out, line, text),
-        }
-    }
-}
 
 /// What stands before the text that is appended.
 const BEFORE: &[u8] = b"before\n";
 
 /// What stands for no words.
 const NO_WORDS: &str = "none";
+
+/// Writes what is found of a row, and says whether its form is one of these.
+pub fn answer(out: &mut Output, form: &str, given: &str) -> bool {
+    let mut line = Vec::new(out.alloc());
+    if line.extend_from_slice(BEFORE).is_err() {
+        out.lose();
+    }
+    if !push(out, form, &mut line, given) {
+        return false;
+    }
+    match line.strip_prefix(BEFORE) {
+        Some(behind) => out.bytes(behind),
+        None => out.text("what stood before is lost"),
+    }
+    true
+}
+
+/// Appends what is found to a line, behind what stands there, and says whether the form is one of these.
+fn push(out: &mut Output, form: &str, line: &mut Vec<u8>, given: &str) -> bool {
+    let pushed = match form {
+        // Words with `|` between them, where those of digits alone are numbers; `none` is no words.
+        "words" => push_line(line, &words_of(out, given)),
+        // `CLIENT`.
+        "client" => push_client(line, out.number(given)),
+        // `ENTRIES`.
+        "journal head" => push_journal_head(line, out.number(given)),
+        // The numbers of tries of the actors.
+        "actors" => push_actors(line, &numbers_of(out, given)),
+        _ => return false,
+    };
+    if pushed.is_err() {
+        out.lose();
+    }
+    true
+}
 
 /// A number, where it is one of digits alone, or a text.
 fn word_of(word: &str) -> Word<'_> {

@@ -7,63 +7,34 @@ use pf_base::{
 };
 use std::alloc::Global;
 
-/// A form of rows.
-#[derive(Clone, Copy)]
-pub enum Form {
-    /// `number`: `TEXT => MICROS`, what a number of an exposition file reads as, or `not a number`, or `bad number`.
-    Number,
-    /// `value`: `MICROS => TEXT`, the text of a value.
-    Value,
-    /// `arithmetic`: `MICROS SIGN MICROS => MICROS`, or `none` where the right one is zero and divides.
-    Arithmetic,
-    /// `duration`: `TEXT => MILLISECONDS`, or `bad form`, or `too large`.
-    Duration,
-    /// `tenant`: `NAME => NAME`, or `bad tenant`.
-    Tenant,
-    /// `same tenant`: `NAME NAME => true`, whether two tenants are equal.
-    SameTenant,
-    /// `labels`: `VERB LABELS ARGUMENT => ANSWER`, calls of label sets that are written `a=1,b=2`, and `-` without labels.
-    Labels,
+/// Writes what is found of a row of bytes, and says whether its form is one of these.
+pub fn answer_bytes(out: &mut Output, form: &str, given: &[u8]) -> bool {
+    match form {
+        // `TEXT => MICROS`, what a number of an exposition file reads as, or `not a number`, or `bad number`.
+        "number" => number(out, given),
+        // `TEXT => MILLISECONDS`, or `bad form`, or `too large`.
+        "duration" => duration(out, given),
+        _ => return false,
+    }
+    true
 }
 
-impl Form {
-    /// The form of this name.
-    pub fn named(name: &str) -> Option<Form> {
-        let form = match name {
-            "number" => Form::Number,
-            "value" => Form::Value,
-            "arithmetic" => Form::Arithmetic,
-            "duration" => Form::Duration,
-            "tenant" => Form::Tenant,
-            "same tenant" => Form::SameTenant,
-            "labels" => Form::Labels,
-            _ => return None,
-        };
-        Some(form)
+/// Writes what is found of a row of text, and says whether its form is one of these.
+pub fn answer(out: &mut Output, form: &str, given: &str) -> bool {
+    match form {
+        // `MICROS => TEXT`, the text of a value.
+        "value" => value(out, given),
+        // `MICROS SIGN MICROS => MICROS`, or `none` where the right one is zero and divides.
+        "arithmetic" => arithmetic(out, given),
+        // `NAME => NAME`, or `bad tenant`.
+        "tenant" => tenant(out, given),
+        // `NAME NAME => true`, whether two tenants are equal.
+        "same tenant" => same_tenant(out, given),
+        // `VERB LABELS ARGUMENT => ANSWER`, calls of label sets that are written `a=1,b=2`, and `-` without labels.
+        "labels" => labels(out, given),
+        _ => return false,
     }
-
-    /// Writes what is found of a row.
-    pub fn answer(self, out: &mut Output, given: &[u8]) {
-        match self {
-            Form::Number => number(out, given),
-            Form::Duration => duration(out, given),
-            _ => {
-                let text = out.utf8(given);
-                self.answer_text(out, text);
-            }
-        }
-    }
-
-    fn answer_text(self, out: &mut Output, given: &str) {
-        match self {
-            Form::Value => value(out, given),
-            Form::Arithmetic => arithmetic(out, given),
-            Form::Tenant => tenant(out, given),
-            Form::SameTenant => same_tenant(out, given),
-            Form::Labels => labels(out, given),
-            Form::Number | Form::Duration => {}
-        }
-    }
+    true
 }
 
 /// Appends what a number's text says.
@@ -82,7 +53,7 @@ fn number(out: &mut Output, given: &[u8]) {
 }
 
 /// The value of a text of micros.
-pub fn value_of(out: &mut Output, micros: &str) -> Value {
+fn value_of(out: &mut Output, micros: &str) -> Value {
     Value::new(out.number(micros))
 }
 

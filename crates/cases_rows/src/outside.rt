@@ -9,48 +9,30 @@ use pf_io::{
 };
 use std::alloc::Global;
 
-/// A form of rows.
-#[derive(Clone, Copy)]
-pub enum Form {
-    /// `memory files`: `NAME MOST|NAME MOST => ANSWER|ANSWER`, calls one after another that read files of at most so many bytes
-    /// into one buffer. The files, and the calls that fail, are those of `run`. An answer is `ok` and what was read, `too long`
-    /// or `failed`.
-    MemoryFiles,
-    /// `disk files`: the same, of the files on the disk.
-    DiskFiles,
-    /// `write`: `MOST TEXT => ANSWER`, a text that is written in pieces of at most so many bytes, and what was taken.
-    Write,
-    /// `connections`: `NUMBERS => ANSWERS`, the connections that are handed out, and two calls behind them.
-    Connections,
-    /// `job`: `steady => ok`, a job's head that passes the open gate and the steady hop.
-    Job,
-}
-
-impl Form {
-    /// The form of this name.
-    pub fn named(name: &str) -> Option<Form> {
-        let form = match name {
-            "memory files" => Form::MemoryFiles,
-            "disk files" => Form::DiskFiles,
-            "write" => Form::Write,
-            "connections" => Form::Connections,
-            "job" => Form::Job,
-            _ => return None,
-        };
-        Some(form)
+/// Writes what is found of a row, and says whether its form is one of these.
+pub fn answer(
+    out: &mut Output,
+    rt: HostRuntime,
+    form: &str,
+    setting: &Setting,
+    given: &str,
+) -> bool {
+    match form {
+        // `NAME MOST|NAME MOST => ANSWER|ANSWER`, calls one after another that read files of at most so many bytes into one
+        // buffer. The files, and the calls that fail, are those of `run`. An answer is `ok` and what was read, `too long` or
+        // `failed`.
+        "memory files" => memory_files(out, setting, given),
+        // The same, of the files on the disk.
+        "disk files" => reads(out, &mut DiskFiles::new(rt), given),
+        // `MOST TEXT => ANSWER`, a text that is written in pieces of at most so many bytes, and what was taken.
+        "write" => write(out, setting, given),
+        // `NUMBERS => ANSWERS`, the connections that are handed out, and two calls behind them.
+        "connections" => connections(out, given),
+        // `steady => ok`, a job's head that passes the open gate and the steady hop.
+        "job" => job(out),
+        _ => return false,
     }
-
-    /// Writes what is found of a row.
-    pub fn answer(self, out: &mut Output, rt: HostRuntime, setting: &Setting, given: &[u8]) {
-        let text = out.utf8(given);
-        match self {
-            Form::MemoryFiles => memory_files(out, setting, text),
-            Form::DiskFiles => reads(out, &mut DiskFiles::new(rt), text),
-            Form::Write => write(out, setting, text),
-            Form::Connections => connections(out, text),
-            Form::Job => job(out),
-        }
-    }
+    true
 }
 
 fn push_numbers(out: &mut Output, numbers: &mut Vec<u64>, list: &str) {

@@ -5,15 +5,15 @@ ghost use Rattle.pf_block.specs.Snaps.{are_timed};
 
 use crate::files::batch_of;
 use crate::matchers::matchers_of;
-use crate::snapshots::push_held;
 use cases_rows::base::labels_of;
 use cases_rows::output::{Output, cut};
 use cases_rows::setting::{Part, Setting};
-use pf_base::{Batch, MAXT, OutOfMemory, Row};
+use pf_base::{Batch, Labels, MAXT, OutOfMemory, Row};
+use pf_block::Snap;
 use pf_store::{Deleted, Pin, TenantLog, Verdict, Verdicts};
 
 /// Whether a log may take these rows.
-pub fn are_timed(rows: &[Row]) -> bool
+fn are_timed(rows: &[Row]) -> bool
     ensures { result ≡ are_timed rows.now }
 {
     rows.iter().all(|row| row.time <= MAXT)
@@ -159,12 +159,6 @@ fn play(out: &mut Output, setting: &Setting) -> Option<Played> {
     Some(played)
 }
 
-/// The pin of the log that a setting makes.
-pub fn last_pin(out: &mut Output, setting: &Setting) -> Option<Pin> {
-    let played = play(out, setting)?;
-    out.or_lose(played.log.pin())
-}
-
 /// Appends how a pin stands: the number of its entries, its floor and its generation.
 fn push_standing(out: &mut Output, pin: &Pin) {
     out.text("entry ");
@@ -172,6 +166,18 @@ fn push_standing(out: &mut Output, pin: &Pin) {
     let floor = pin.floor;
     out.show(format_args!(", floor {floor:?}, generation "));
     out.show(pin.generation);
+}
+
+/// Appends the value of a label set at a time, in millionths, or `none`.
+fn push_held(out: &mut Output, snap: &Snap, labels: &Labels, time: u64) {
+    let held = match snap.find(labels) {
+        Some(id) if id < snap.series_count() => snap.held(id, time),
+        _ => None,
+    };
+    match held {
+        Some(value) => out.show(value.micros()),
+        None => out.text("none"),
+    }
 }
 
 /// Appends the value of a pin at `LABELS TIME`, in millionths.

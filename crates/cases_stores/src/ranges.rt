@@ -12,34 +12,8 @@ use pf_block::Window;
 use pf_model::RangeFn;
 use pf_range::range_value;
 
-/// A form of rows.
-#[derive(Clone, Copy)]
-pub enum Form {
-    /// `range function`: `FUNCTION FROM TO TIME:MICROS .. => MICROS`, the function of the samples in the window (FROM, TO], or
-    /// nothing where it has no value.
-    RangeFunction,
-}
-
-impl Form {
-    /// The form of this name.
-    pub fn named(name: &str) -> Option<Form> {
-        match name {
-            "range function" => Some(Form::RangeFunction),
-            _ => None,
-        }
-    }
-
-    /// Writes what is found of a row.
-    pub fn answer(self, out: &mut Output, given: &[u8]) {
-        let text = out.utf8(given);
-        match self {
-            Form::RangeFunction => range_function(out, text),
-        }
-    }
-}
-
 /// The function of a name.
-pub fn function_of(name: &str) -> Option<RangeFn> {
+fn function_of(name: &str) -> Option<RangeFn> {
     let function = match name {
         "increase" => RangeFn::Increase,
         "rate" => RangeFn::Rate,
@@ -117,7 +91,8 @@ fn push_value(out: &mut Output, function: RangeFn, samples: &[Sample], from: i64
     }
 }
 
-fn range_function(out: &mut Output, given: &str) {
+/// Appends the value of `FUNCTION FROM TO SAMPLES`.
+pub fn range_function(out: &mut Output, given: &str) {
     let (name, rest) = cut(given);
     let (from, rest) = cut(rest);
     let (to, list) = cut(rest);

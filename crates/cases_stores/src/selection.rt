@@ -1,11 +1,22 @@
 //! Rows of selections.
 
+use crate::files::batch_of;
+use crate::logs::append;
 use crate::matchers::matchers_of;
-use crate::snapshots::pin_of;
 use cases_rows::output::Output;
 use cases_rows::setting::Setting;
+use pf_base::MAXT;
 use pf_block::Snap;
 use pf_index::{select, select_all};
+use pf_store::{Pin, TenantLog};
+
+/// A pin of a log that has the page's samples.
+fn pin_of(out: &mut Output, setting: &Setting) -> Option<Pin> {
+    let batch = batch_of(out, setting, setting.text("page"))?;
+    let mut log = out.or_lose(TenantLog::open(out.alloc(), MAXT))?;
+    append(out, &mut log, &batch);
+    out.or_lose(log.pin())
+}
 
 fn select_one(out: &mut Output, snap: &Snap, selector: &str) {
     if let Some(matchers) = &matchers_of(out, selector) {
