@@ -14,7 +14,7 @@ use Rattle.pf_model.specs.Micros.{greatest, least}
 use Rattle.pf_columns.specs.Columns.{AreRising}
 use Rattle.pf_columns.proofs.Bounds.{greatest_next, least_next}
 use Rattle.pf_columns.proofs.GroupKeys.{distinct_rising}
-use Rattle.pf_agg.specs.Partials.{keys_of, parts_of, partials_of}
+use Rattle.pf_columns.specs.Partials.{keys_of, parts_of, partials_of}
 
 -- ---- the values of elements
 

@@ -1,4 +1,3 @@
 pub mod Buckets
-pub mod Partials
 pub mod Plans
 pub mod Ranks

@@ -10,7 +10,7 @@ ghost use Rattle.std.specs.Prelude.{◌≡◌, IfOk};
 ghost use Rattle.pf_model.specs.Aggregation.{aggregate};
 ghost use Rattle.pf_model.specs.Legs.{partials};
 ghost use Rattle.pf_columns.specs.Columns.{AreRising};
-ghost use Rattle.pf_agg.specs.Partials.{keys_of, parts_of};
+ghost use Rattle.pf_columns.specs.Partials.{keys_of, parts_of};
 
 mod groups;
 mod partial;

@@ -5,7 +5,7 @@ ghost use Rattle.std.specs.Int.{int_max, int_min};
 ghost use Rattle.pf_model.specs.Cells.{values_of};
 ghost use Rattle.pf_model.specs.Legs.{partial_of};
 ghost use Rattle.pf_agg.specs.Buckets.{grouped};
-ghost use Rattle.pf_agg.specs.Partials.{partials_of, parts_of};
+ghost use Rattle.pf_columns.specs.Partials.{partials_of, parts_of};
 
 use pf_base::{Labels, OutOfMemory, Partial, Value};
 use pf_model::Element;

@@ -18,7 +18,7 @@ use pf_model::{AggOp, Cell, Element};
 use std::alloc::Global;
 
 /// What is computed of the values of a group.
-#[derive(Clone, Copy, Debug, PartialEq, Eq)]
+#[derive(Clone, Copy)]
 pub(crate) enum GroupValue {
     /// What an aggregation without a parameter gives.
     Of { op: GroupOp },
@@ -27,7 +27,7 @@ pub(crate) enum GroupValue {
 }
 
 /// What is made of each group.
-#[derive(Clone, Copy, Debug, PartialEq, Eq)]
+#[derive(Clone, Copy)]
 pub(crate) enum Plan {
     /// One element, with the key as its labels.
     Each { value: GroupValue },

@@ -1,5 +1,5 @@
 -- Products, quotients and remainders of values, as the code computes them in bits, are those of the whole numbers.
-use Rattle.std.proofs.Common.{◌≡◌, ℤ, ℕ, zero, suc, false, ◌/◌, ◌≤◌, pos, negsuc, ◌-ℤ◌, ◌*ℤ◌, FitsSigned, to_z, of_z, w64, refl, ap, ◌∙◌, arith, lit<, lit≤, Some}
+use Rattle.std.proofs.Common.{◌≡◌, ℤ, ℕ, zero, suc, false, ◌/◌, ◌≤◌, ◌<◌, pos, negsuc, ◌-ℤ◌, ◌*ℤ◌, FitsSigned, to_z, of_z, w64, refl, ap, sym, ◌∙◌, arith, lit<, lit≤, Some}
 use Rattle.std.specs.Prelude.{int_div, int_rem, unsigned_abs, neg_ℤ}
 use Rattle.std.proofs.lemmas.Int.{ints, to_z-of_z, quot_is, rem_is, quot_fits, fits_signed_mul, fits_signed_from_abs, unsigned_abs-mul, quot-rem}
 use mir.Syntax.{w128}
@@ -50,6 +50,25 @@ quotient_is a b r ha hb h =
     let eb : to_z w64 (of_z w64 b) ≡ b = to_z-of_z w64 b (narrow b hb) in
     let h' = rw (wide a ha, eb) at h in
     h' ∙ ap clamp e
+
+pub dividend_fits : (a : ℤ) → IsValue a → FitsSigned w128 (to_z w128 (of_z w128 (to_z w64 (of_z w64 a))) *ℤ pos 1000000)
+dividend_fits a h = rw (wide a h) (fits_signed_mul w128 a (pos 1000000) 1000000000000000000 1000000 (abs_value a h) (lit≤ tt) (lit< tt))
+
+not_none : (n : ℕ) → (n ≡ 0 → ⊥) → 0 < n
+not_none zero h = absurd (h refl)
+not_none (suc n) h = omega arith
+
+some_wide : (b : ℤ) → IsValue b → (of_z w64 b ≡ 0 → ⊥) → 0 < of_z w128 (to_z w64 (of_z w64 b))
+some_wide b h n = not_none (of_z w128 (to_z w64 (of_z w64 b))) (λ e. n (ap (of_z w64) (sym (wide b h) ∙ ap (to_z w128) e)))
+
+pub divides : (a b : ℤ) → IsValue a → IsValue b → (of_z w64 b ≡ 0 → ⊥)
+    → (0 < of_z w128 (to_z w64 (of_z w64 b)))
+    × FitsSigned w128 (int_div (to_z w128 (of_z w128 (to_z w128 (of_z w128 (to_z w64 (of_z w64 a))) *ℤ pos 1000000))) (to_z w128 (of_z w128 (to_z w64 (of_z w64 b)))))
+divides a b ha hb n =
+    let fp : FitsSigned w128 (a *ℤ pos 1000000) = fits_signed_mul w128 a (pos 1000000) 1000000000000000000 1000000 (abs_value a ha) (lit≤ tt) (lit< tt) in
+    let small : unsigned_abs (a *ℤ pos 1000000) ≤ 1000000000000000000000000 = omega (arith, unsigned_abs-mul a (pos 1000000), abs_value a ha) in
+    let fq : FitsSigned w128 (int_div (a *ℤ pos 1000000) b) = fits_signed_from_abs w128 (int_div (a *ℤ pos 1000000) b) (omega (arith, quot_within (a *ℤ pos 1000000) b 1000000000000000000000000 small)) in
+    (some_wide b hb n, rw (wide a ha, wide b hb, to_z-of_z w128 (a *ℤ pos 1000000) fp) fq)
 
 pub not_zero : (b : ℤ) → IsValue b → (of_z w64 b ≡ 0 → ⊥) → is_zero b ≡ false
 not_zero (pos zero) h n = absurd (n refl)

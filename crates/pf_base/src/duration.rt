@@ -9,7 +9,7 @@ use crate::grid::MAXT;
 use crate::number::{read_on, split_digits};
 
 /// Why a text is no duration within the limit.
-#[derive(Clone, Copy, Debug, PartialEq, Eq)]
+#[derive(Clone, Copy)]
 pub enum DurationError {
     BadForm,
     /// More than the greatest time, 4,398,046,511,103 ms.

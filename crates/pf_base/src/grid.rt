@@ -14,7 +14,7 @@ pub const MAXT: u64 = 4_398_046_511_103;
 const MOST_STEPS: u64 = 11_000;
 
 /// Why times make no grid.
-#[derive(Clone, Copy, Debug, PartialEq, Eq)]
+#[derive(Clone, Copy)]
 pub enum GridError {
     ZeroStep,
     TimeTooLarge,
@@ -24,7 +24,7 @@ pub enum GridError {
 
 /// The times at which a query is evaluated: a start, and further ones at equal distances, or one time alone. Times are
 /// in milliseconds since 1970.
-#[derive(Clone, Copy, Debug, PartialEq, Eq)]
+#[derive(Clone, Copy)]
 pub struct Grid {
     start: u64,
     step: u64,

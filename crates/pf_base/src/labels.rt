@@ -28,7 +28,7 @@ use std::sync::Arc;
 pub const METRIC_NAME: &str = "__name__";
 
 /// Why pairs make no label set.
-#[derive(Debug, PartialEq, Eq, Drop)]
+#[derive(Drop)]
 pub enum LabelsError {
     /// A name that is not `[a-zA-Z_][a-zA-Z0-9_]*`: the first of the given pairs.
     BadName { name: Text },
@@ -41,7 +41,7 @@ pub enum LabelsError {
 
 /// A label set: pairs of a name and a value in the order of their names, with distinct names and no empty value. The
 /// pairs are shared, so that a copy costs a reference count.
-#[derive(Debug, Drop)]
+#[derive(Drop)]
 pub struct Labels {
     pairs: Arc<PackedPairs>,
 }

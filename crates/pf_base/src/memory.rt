@@ -6,7 +6,7 @@ use std::fmt;
 
 /// The allocator had no room. Where only this can go wrong, a call answers it as it is; elsewhere an error type has a
 /// variant of this name.
-#[derive(Clone, Copy, Debug, PartialEq, Eq)]
+#[derive(Clone, Copy, Debug)]
 pub struct OutOfMemory;
 
 impl fmt::Display for OutOfMemory {

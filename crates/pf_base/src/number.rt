@@ -16,14 +16,14 @@ use crate::value::{LIM, Value};
 const MOST: u64 = LIM as u64;
 
 /// What a number's text says.
-#[derive(Clone, Copy, Debug, PartialEq, Eq)]
+#[derive(Clone, Copy)]
 pub enum Read {
     Number(Value),
     NotANumber,
 }
 
 /// A text of another form than a number's.
-#[derive(Clone, Copy, Debug, PartialEq, Eq)]
+#[derive(Clone, Copy)]
 pub struct BadNumber;
 
 /// The power of ten by which an exponent multiplies, and the one by which it divides.

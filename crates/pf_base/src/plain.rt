@@ -5,14 +5,14 @@ use crate::value::Value;
 use std::marker::Model;
 
 /// A value at a time in milliseconds.
-#[derive(Clone, Copy, Debug, PartialEq, Eq)]
+#[derive(Clone, Copy)]
 pub struct Sample {
     pub time: i64,
     pub value: Value,
 }
 
 /// A sample of a series, as an exposition file gives it: its time is in milliseconds since 1970.
-#[derive(Debug, Drop)]
+#[derive(Drop)]
 pub struct Row {
     pub labels: Labels,
     pub time: u64,
@@ -21,7 +21,7 @@ pub struct Row {
 
 /// The rows of one exposition file in order, and the number of its lines that gave none, because their value is no
 /// number.
-#[derive(Debug, Drop)]
+#[derive(Drop)]
 pub struct Batch {
     pub rows: Vec<Row>,
     pub skipped: u64,
@@ -36,7 +36,7 @@ impl Model for Batch {
 }
 
 /// Who took a step: a client, and the line of its script, from 1.
-#[derive(Clone, Copy, Debug, PartialEq, Eq)]
+#[derive(Clone, Copy)]
 pub struct By {
     pub client: u32,
     pub line: u32,
@@ -44,7 +44,7 @@ pub struct By {
 
 /// What a job is about: its tenant and query, its number in the query, its leg, the first and the last time of its run
 /// in milliseconds, and how often it was tried before.
-#[derive(Clone, Copy, Debug, PartialEq, Eq)]
+#[derive(Clone, Copy, PartialEq, Eq)]
 pub struct JobHead {
     pub tenant: u32,
     pub query: u64,
@@ -56,7 +56,7 @@ pub struct JobHead {
 }
 
 /// The limits of a run. `window` and `interval` are in milliseconds.
-#[derive(Clone, Copy, Debug, PartialEq, Eq)]
+#[derive(Clone, Copy)]
 pub struct Limits {
     pub outstanding: u32,
     pub window: u64,
@@ -67,7 +67,7 @@ pub struct Limits {
 }
 
 /// What one shard knows of a group: the exact sum in micros, the number, the least and the greatest of its values.
-#[derive(Clone, Copy, Debug, PartialEq, Eq)]
+#[derive(Clone, Copy)]
 pub struct Partial {
     pub sum: i128,
     pub count: u64,

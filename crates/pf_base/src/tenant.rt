@@ -13,7 +13,7 @@ use std::alloc::{AllocError, Global};
 use std::marker::Model;
 
 /// Why a text names no tenant.
-#[derive(Clone, Copy, Debug, PartialEq, Eq)]
+#[derive(Clone, Copy)]
 pub enum TenantError {
     BadTenant,
     OutOfMemory,
@@ -31,7 +31,7 @@ impl From<OutOfMemory> for TenantError {
 
 /// A tenant's name, by the rule of Mimir's tenant IDs: 1 to 150 letters, digits and `!-_.*'()`, and neither `.` nor
 /// `..`.
-#[derive(Debug, Drop)]
+#[derive(Drop)]
 pub struct Tenant {
     name: Text,
 }

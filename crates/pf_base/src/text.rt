@@ -15,7 +15,7 @@ use std::hash::{Hash, Hasher};
 use std::marker::Model;
 
 /// A text of UTF-8. Texts are ordered by their bytes.
-#[derive(Debug, Drop)]
+#[derive(Drop)]
 pub struct Text {
     inner: String,
 }

@@ -7,7 +7,7 @@ use std::marker::Model;
 
 /// A value in micros (millionths of a unit), from −10^18 to 10^18. Contracts see it as that whole number. That values
 /// are whole micros within bounds is this project's own.
-#[derive(Clone, Copy, Debug, PartialEq, Eq, PartialOrd, Ord, Hash)]
+#[derive(Clone, Copy, PartialEq, Eq, PartialOrd, Ord, Hash)]
 pub struct Value {
     micros: i64,
 }

@@ -1,5 +1,6 @@
 -- Rows with the ids of their series, one by one.
-use Rattle.std.proofs.Common.{◌≡◌, ℕ, zero, suc, ◌<◌, ℤ, true, List, [], ◌∷◌, ◌++◌, length, map, take, drop, get_or, refl, sym, ap, ◌∙◌, subst, Some, None, append_assoc}
+use Rattle.std.proofs.Common.{◌≡◌, ℕ, zero, suc, ◌-◌, ◌<◌, ℤ, true, List, [], ◌∷◌, ◌++◌, length, map, take, drop, get_or, refl, sym, ap, ◌∙◌, subst, Some, None, append_assoc, arith}
+use Rattle.std.proofs.lemmas.List.{length-drop, take_all}
 use Rattle.std.specs.Prelude.{nat_le}
 use Rattle.std.specs.Cmp.{first_so, second_so}
 use Rattle.pf_base.specs.declared.plain.Row.{Row}
@@ -65,3 +66,16 @@ drop_timed (suc n) (r ∷ rs) h = drop_timed n rs (second_so (nat_le r.time 4398
 
 pub part_timed : (m n : ℕ) (rows : List Row) → are_timed rows ≡ true → are_timed (take n (drop m rows)) ≡ true
 part_timed m n rows h = take_timed n (drop m rows) (drop_timed m rows h)
+
+-- the rows behind those that are known
+module _ (rows : List Row) (index copied known : List Pairs) (m n : ℕ) (c : copied ≡ index) (k : known ≡ index) (e : m ≡ n) where
+  behind_known : take (length rows - m) (drop m rows) ≡ drop n rows
+  behind_known = take_all (length rows - m) (drop m rows) (omega (arith, length-drop m rows)) ∙ ap (λ x. drop x rows) e
+
+  pub rest_numbered : (front all : Entries) → all ≡ front ++ entries_of copied (take (length rows - m) (drop m rows)) → front ++ entries_of known (drop n rows) ≡ entries_of known rows
+      → all ≡ entries_of index rows
+  rest_numbered front all h w =
+      h ∙ (λ i. front ++ entries_of (c i) (behind_known i)) ∙ subst (λ x. front ++ entries_of x (drop n rows) ≡ entries_of x rows) k w
+
+  pub rest_labelled : (all : List Pairs) → all ≡ labels_with copied (take (length rows - m) (drop m rows)) → labels_with known (drop n rows) ≡ labels_with known rows → all ≡ labels_with index rows
+  rest_labelled all h w = h ∙ (λ i. labels_with (c i) (behind_known i)) ∙ subst (λ x. labels_with x (drop n rows) ≡ labels_with x rows) k w

@@ -10,7 +10,7 @@ ghost use Rattle.pf_base.specs.Limits.{greatest_time};
 ghost use Rattle.pf_base.specs.ShardHash.{shard_of};
 ghost use Rattle.pf_block.specs.LabelOrders.{ids_by_label};
 ghost use Rattle.pf_block.specs.SeriesIds.{id_of, ids_with};
-ghost use Rattle.pf_block.specs.Stacks.{HasSizes, doubles, total};
+ghost use Rattle.pf_block.specs.Stacks.{doubles, total};
 ghost use Rattle.pf_block.specs.Snaps.{IsSnap, empty_snap, labels_of, samples_of, held_at, with_rows, are_new, are_timed, without_rows, sample_of};
 
 use crate::block::{Block, Entry};
@@ -270,26 +270,5 @@ impl Snap {
     {
         let _blocks = &self.blocks;
         BlockSizes::of(&self.sizes)
-    }
-
-    /// The number of blocks.
-    pub fn block_count(&self) -> u32
-        ensures sizes { HasSizes self.now (λ sizes. result ≡ length sizes) }
-        ensures few { result ≤ 64 }
-    {
-        self.block_sizes().count() as u32
-    }
-
-    /// The number of samples that a block was built of, counted from the oldest, and 0 where there is no further block.
-    pub fn block_rows(&self, i: u32) -> u64
-        ensures { HasSizes self.now (λ sizes. result ≡ slice_index_or sizes i 0) }
-    {
-        let sizes = self.block_sizes();
-        let place = i as usize;
-        if place < sizes.count() {
-            sizes.rows(place)
-        } else {
-            0
-        }
     }
 }

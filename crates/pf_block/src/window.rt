@@ -37,6 +37,7 @@ impl<'a> Model for Window<'a> {
 }
 
 /// The samples that come first, and the blocks behind them. There are none only where nothing is left.
+#[inline(never)]
 fn first_of<'a>(
     rest: &'a [Sample],
     more: &'a [Arc<Layer>],
@@ -98,11 +99,14 @@ impl<'a> Iterator for Window<'a> {
 
     ghost remaining = { item_count (λ w. w) };
 
+    #[inline(always)]
     fn next(&mut self) -> Option<Sample> {
-        let (rest, more) = first_of(self.rest, self.more, self.id, self.after, self.upto);
-        self.more = more;
-        self.rest = rest;
-        let (first, rest) = rest.split_first()?;
+        if self.rest.is_empty() {
+            let (rest, more) = first_of(self.rest, self.more, self.id, self.after, self.upto);
+            self.more = more;
+            self.rest = rest;
+        }
+        let (first, rest) = self.rest.split_first()?;
         self.rest = rest;
         Some(*first)
     }

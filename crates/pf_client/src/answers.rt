@@ -20,11 +20,11 @@ ghost use Rattle.pf_client.specs.declared.slots.Slot.TheVariants as became;
 
 use crate::client::Client;
 use crate::slots::{Slot, forget, kept};
+use pf_asked::Asked;
 use pf_base::{OutOfMemory, Text};
 use pf_front::{Answering, Outcome, Reply, answer};
 use pf_io::{Gate, Hop};
 use pf_model::Kind;
-use pf_query::Asked;
 use pf_report::{Body, push_answered, push_waiting};
 use pf_types::{error_text, grid_text};
 use std::alloc::Global;

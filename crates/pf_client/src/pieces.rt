@@ -12,7 +12,7 @@ use pf_io::{Failed, Sink, put_all};
 const PIECE: usize = 65_536;
 
 /// The output didn't take a report, or memory ran out.
-#[derive(Clone, Copy, Debug, PartialEq, Eq)]
+#[derive(Clone, Copy)]
 pub enum ReportError {
     WriteFault,
     OutOfMemory,

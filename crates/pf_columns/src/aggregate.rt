@@ -21,7 +21,7 @@ use pf_model::{AggOp, Grouping};
 use std::alloc::Global;
 
 /// An aggregation that has one value for each group and no parameter.
-#[derive(Clone, Copy, Debug, PartialEq, Eq)]
+#[derive(Clone, Copy)]
 pub enum GroupOp {
     Sum,
     Avg,
@@ -64,7 +64,7 @@ pub fn group_value(op: GroupOp, values: &[Value]) -> Value
 }
 
 /// What is found of the values of a group at each step.
-#[derive(Clone, Copy, Debug)]
+#[derive(Clone, Copy)]
 pub enum GroupFn<'a> {
     /// The value of an aggregation without a parameter.
     Each(GroupOp),

@@ -1,23 +1,22 @@
 //! The cells of consecutive steps, which parts and copies share.
 
-ghost use Rattle.std.specs.Prelude.{◌≡◌, ◌+◌, ◌<◌, ◌≤◌, Some, drop, length, slice_get, take, IfOk};
+ghost use Rattle.std.specs.Prelude.{◌≡◌, ◌+◌, ◌<◌, ◌≤◌, drop, length, take, IfOk};
 ghost use Rattle.pf_base.specs.Grids.{points};
 ghost use Rattle.pf_model.specs.Direct.{gather};
 ghost use Rattle.pf_columns.specs.Columns.{AreRising, cells_from, columns_labels, timed};
 ghost use Rattle.pf_columns.specs.Joins.{AreColumnsOf};
 
-use crate::column::{Column, cell_of, cut_columns};
+use crate::column::{Column, cut_columns};
 use crate::gather::rows_of;
 use pf_base::{Grid, OutOfMemory};
 use pf_matrix::Matrix;
-use pf_model::Cell;
 use std::alloc::{AllocError, Global};
 use std::marker::Model;
 use std::sync::Arc;
 
 /// The cells of consecutive steps, none of them an error. They lie as columns that copies and parts share, so that
 /// neither copies an element.
-#[derive(Debug, Drop)]
+#[derive(Drop)]
 pub struct Cells {
     columns: Arc<Vec<Column>>,
     /// How many steps the columns were made for.
@@ -74,15 +73,6 @@ impl Cells {
         ensures { result ≡ length self.now }
     {
         self.len
-    }
-
-    /// The cell of a step, counted from 0.
-    #[tactic(auto, using(crate::proofs::Parts::length_cells, crate::proofs::Parts::cell_of_step))]
-    pub fn cell(&self, alloc: Global, step: u32) -> Result<Cell, OutOfMemory>
-        requires { step < length self.now }
-        ensures { IfOk result (λ c. slice_get self.now step ≡ Some c) }
-    {
-        cell_of(alloc, &self.columns, self.from + step)
     }
 
     /// So many of the cells from one on. No element is copied.

@@ -10,7 +10,7 @@ use std::alloc::Global;
 use std::marker::Model;
 
 /// A label set with its value at each step, if it has one there. A step behind the last value has none.
-#[derive(Debug, Drop)]
+#[derive(Drop)]
 pub struct Column {
     pub labels: Labels,
     pub values: Vec<Option<Value>>,

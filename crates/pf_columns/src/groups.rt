@@ -21,7 +21,7 @@ use std::cmp::Ordering;
 use std::marker::Model;
 
 /// The groups of columns: the keys, each once, in label order, and for each column the place of its key among them.
-#[derive(Debug, Drop)]
+#[derive(Drop)]
 pub struct GroupIds {
     pub keys: Vec<Labels>,
     pub of: Vec<usize>,

@@ -8,7 +8,7 @@
 //!   vector in label order, or `DoubleLabels`.
 //! - `Cells` are the cells of consecutive steps without errors. A copy and a `part` share all elements, and so does a `cut`
 //!   but where it keeps few of them. `gather` makes the matrix over a grid.
-//! - `gather_steps` makes the matrix of several runs, one after another, and `join_cells` the cells.
+//! - `join_cells` are the cells of several runs, one after another.
 //! - `GroupIds` are the groups of columns, found once for all steps, or those of keys that are given by numbers, and
 //!   `key_behind` makes a key. `aggregated` are the aggregations that have one value for each group and no parameter, and
 //!   `aggregated_by` those with one.
@@ -38,7 +38,6 @@ mod groups;
 mod halves;
 mod joining;
 mod ranked;
-mod runs;
 mod steps;
 mod values;
 
@@ -48,6 +47,5 @@ pub use column::{Column, has_value};
 pub use groups::{GroupIds, key_behind};
 pub use joining::join_cells;
 pub use ranked::{Rank, buckets_by, first_of_group};
-pub use runs::gather_steps;
 pub use steps::{BadStep, StepCells, normalised};
 pub use values::quantile;

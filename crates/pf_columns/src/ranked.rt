@@ -15,7 +15,7 @@ use pf_model::{AggOp, Grouping};
 use std::alloc::Global;
 
 /// The order in which `topk` and `bottomk` keep the elements of a group: by value, and label order among equal values.
-#[derive(Clone, Copy, Debug, PartialEq, Eq)]
+#[derive(Clone, Copy)]
 pub enum Rank {
     Falling,
     Rising,
@@ -35,7 +35,7 @@ impl Rank {
 }
 
 /// An element of a group at a step: what its value is ordered by, and the place of its column.
-#[derive(Clone, Copy, Debug, PartialEq, Eq, PartialOrd, Ord)]
+#[derive(Clone, Copy, PartialEq, Eq, PartialOrd, Ord)]
 pub struct Entry {
     height: i64,
     place: usize,

@@ -18,7 +18,7 @@ use std::marker::Model;
 
 /// What a vector is at each step of a run: columns by rising label sets, and the errors of steps. A step behind the last
 /// error has none, and where no step has one, `bads` is empty.
-#[derive(Debug, Drop)]
+#[derive(Drop)]
 pub struct StepCells {
     pub columns: Vec<Column>,
     pub bads: Vec<Option<ErrorKind>>,
@@ -46,7 +46,7 @@ fn bad_of(bads: &[Option<ErrorKind>], step: u32) -> Option<ErrorKind>
 }
 
 /// A step, counted from 0, and its error.
-#[derive(Clone, Copy, Debug, PartialEq, Eq)]
+#[derive(Clone, Copy)]
 pub struct BadStep {
     pub step: u32,
     pub kind: ErrorKind,

@@ -3,7 +3,8 @@ use denote.Param.Send.{IsSend, IsSync, sendable}
 use Rattle.std.proofs.Crossing.{crosses}
 use Rattle.std.proofs.MapsCrossing.{crosses as maps_cross}
 use Rattle.pf_model.proofs.Crossing.{matchers_cross}
-use Rattle.pf_query.proofs.Crossing.{asked_cross, jobs_cross, table_cross}
+use Rattle.pf_asked.proofs.Crossing.{asked_cross}
+use Rattle.pf_query.proofs.Crossing.{jobs_cross, table_cross}
 use Rattle.lru.proofs.Crosses.{Deed-send, Deed-sync, KeyRef-send, KeyRef-sync, List-send, List-sync}
 use Rattle.pf_core.specs.contracts.entry.Entry as Entry
 use Rattle.pf_core.specs.contracts.query.Query as Query

@@ -16,7 +16,7 @@ use Rattle.pf_journal.specs.Machine.{Entry, What, append, delete, ask, full, no_
 use Rattle.pf_model.specs.Log.{Verdict, taken, too_old, repeated, differs}
 use Rattle.pf_model.proofs.TreeCode.{bytes_code, matchers_code}
 use Rattle.pf_model.specs.declared.expr.Matcher.{Matcher}
-use Rattle.pf_query.specs.Codes.{asked_code, grid_code}
+use Rattle.pf_asked.specs.Codes.{asked_code, grid_code}
 use Rattle.pf_query.specs.declared.job.Hand.{Hand}
 use Rattle.pf_query.specs.declared.stop.Stop.{Stop}
 use Rattle.pf_query.specs.declared.stop.Stop.TheVariants.{Cancelled, Exhausted, Starved}

@@ -28,7 +28,7 @@ pub struct Opened<'a> {
 
 /// What is told of a cancel: it was done; no query is open there; another tenant, of this number, asked; or it was cancelled
 /// before, at this place.
-#[derive(Clone, Copy, Debug, PartialEq, Eq)]
+#[derive(Clone, Copy)]
 pub enum CancelAnswer {
     Done,
     NotOutstanding,
@@ -38,7 +38,7 @@ pub enum CancelAnswer {
 
 /// What came of a keep: samples of the tenant were deleted since the ask, and this is the generation now; so many steps are kept; or
 /// memory ran out.
-#[derive(Clone, Copy, Debug, PartialEq, Eq)]
+#[derive(Clone, Copy)]
 pub enum Kept {
     Outdated { generation: u64 },
     Steps(u32),

@@ -1,8 +1,8 @@
 //! The entries of the journal.
 
+use pf_asked::Asked;
 use pf_base::{Batch, By, Tenant};
 use pf_model::Matchers;
-use pf_query::Asked;
 use pf_store::{Deleted, Verdicts};
 use std::sync::Arc;
 

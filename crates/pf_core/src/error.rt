@@ -4,7 +4,7 @@ use pf_base::OutOfMemory;
 
 /// Why an append or a deletion was refused: the journal, of so many entries, has no room for one more beside those that open
 /// queries keep; as many tenants are known as may be; or memory ran out.
-#[derive(Clone, Copy, Debug, PartialEq, Eq)]
+#[derive(Clone, Copy)]
 pub enum CoreError {
     JournalFull { entries: u64 },
     TooManyTenants,
@@ -24,7 +24,7 @@ impl From<OutOfMemory> for CoreError {
 
 /// Why an ask was refused: the journal, of so many entries, has no room for its entry, its cancel and its answer; as many
 /// tenants are known as may be; the tenant has so many open queries, which is as many as it may have; or memory ran out.
-#[derive(Clone, Copy, Debug, PartialEq, Eq)]
+#[derive(Clone, Copy)]
 pub enum AskError {
     JournalFull { entries: u64 },
     TooManyTenants,

@@ -17,9 +17,9 @@ use crate::answers::Kept;
 use crate::plan::{asker_of, key_of, tree_in};
 use crate::query::Query;
 use crate::state::State;
+use pf_asked::Asked;
 use pf_base::OutOfMemory;
 use pf_extent::DoneCells;
-use pf_query::Asked;
 use pf_results::Results;
 use std::alloc::Global;
 

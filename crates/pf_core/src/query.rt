@@ -4,7 +4,7 @@ ghost use Rattle.std.specs.HashMap.{get, spare};
 ghost use Rattle.std.specs.Prelude.{◌≡◌, ℕ, ◌<◌, None, Some, cond, nat_eq};
 ghost use Rattle.pf_core.specs.States.{cancelled_query};
 
-use pf_query::Asked;
+use pf_asked::Asked;
 use pf_store::Pin;
 use std::collections::HashMap;
 use std::sync::Arc;

@@ -20,7 +20,6 @@ pub mod OneArgument
 pub mod PlainParts
 pub mod RankedSeries
 pub mod ReadTimes
-pub mod RunAnswers
 pub mod SeriesKnown
 pub mod ShardLists
 pub mod ShardedNodes

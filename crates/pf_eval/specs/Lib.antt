@@ -5,6 +5,5 @@ pub mod Merged
 pub mod Nodes
 pub mod Plain
 pub mod Ranked
-pub mod RunValues
 pub mod Strings
 pub mod Zipped

@@ -12,7 +12,7 @@ use std::alloc::Global;
 
 /// What a call reads of its arguments over a run: the first error of each step, the columns of the first vector, and the
 /// scalars and the texts in order. `bads` is empty where no step has an error.
-#[derive(Debug, Drop)]
+#[derive(Drop)]
 pub(crate) struct Arguments {
     pub bads: Vec<Option<ErrorKind>>,
     pub columns: Vec<Column>,
@@ -21,7 +21,7 @@ pub(crate) struct Arguments {
 }
 
 /// What is read so far. There may be no vector among the arguments.
-#[derive(Debug, Drop)]
+#[derive(Drop)]
 struct Splitting {
     bads: Vec<Option<ErrorKind>>,
     vector: Option<Vec<Column>>,

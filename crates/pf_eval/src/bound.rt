@@ -44,7 +44,7 @@ use pf_selectors::Times;
 use std::alloc::Global;
 
 /// Why a query has no matrix.
-#[derive(Clone, Copy, Debug, PartialEq, Eq)]
+#[derive(Clone, Copy)]
 pub enum EvalError {
     /// The first step that has an error, by its time in milliseconds.
     Execution { step: u64, kind: ErrorKind },

@@ -18,7 +18,7 @@ use pf_model::{BinaryOp, ErrorKind};
 use std::alloc::Global;
 
 /// A change of an element by itself, beside a scalar on its left or on its right.
-#[derive(Clone, Copy, Debug, PartialEq, Eq)]
+#[derive(Clone, Copy)]
 pub(crate) enum Change {
     Negation,
     Left(BinaryOp),

@@ -31,7 +31,7 @@ use pf_selectors::Times;
 use std::alloc::Global;
 
 /// What a function of each element by itself does to the values of each step: one change where it is the same at all steps.
-#[derive(Debug, Drop)]
+#[derive(Drop)]
 enum Changes {
     Same(Change),
     Steps(Vec<Change>),

@@ -1,9 +1,9 @@
 //! Evaluation of queries.
 //!
 //! What the layers above use: `eval_bound` is the direct evaluation of a query over a grid, from the series that its selectors
-//! take of a snapshot and the patterns of its calls. It goes node by node over the whole run, in columns; `is_evaluated` tells
-//! which queries it does. By legs and runs it goes so: `legs_over` puts what is asked over a snapshot, in legs, `eval_leg`
-//! gives what a leg is over a run, `merge` what the legs are together there, and `gather_runs` the answer of the runs.
+//! take of a snapshot and the patterns of its calls. It goes node by node over the whole run, in columns. By legs and runs it
+//! goes so: `legs_over` puts what is asked over a snapshot, in legs, `eval_leg` gives what a leg is over a run, and `merge` what
+//! the legs are together there.
 #![tactic(auto)]
 
 mod aggregation;
@@ -24,13 +24,10 @@ mod pairing;
 mod plain;
 mod ranked;
 mod reading;
-mod runs;
 mod sharding;
 mod subquery;
 mod summed;
 
 pub use bound::{EvalError, eval_bound};
-pub use built::is_evaluated;
 pub use legs::{bind, eval_leg, legs_over};
 pub use merging::merge;
-pub use runs::gather_runs;

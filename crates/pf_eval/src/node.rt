@@ -14,14 +14,14 @@ use std::alloc::Global;
 
 /// A scalar at each step: its value, where it has one, or an error. A step behind the last error has none, and where no
 /// step has one, `bads` is empty.
-#[derive(Debug, Drop)]
+#[derive(Drop)]
 pub(crate) struct Scalars {
     pub(crate) values: Vec<Option<Value>>,
     pub(crate) bads: Vec<Option<ErrorKind>>,
 }
 
 /// What a node is at each step of a run. A text is the same at each of them.
-#[derive(Debug, Drop)]
+#[derive(Drop)]
 pub(crate) enum Node {
     Scalar(Scalars),
     Vector(StepCells),

@@ -20,7 +20,7 @@ use std::alloc::Global;
 
 /// The times that a subquery is read at, and the multiples of its resolution in the windows before them, at which its inner
 /// expression is evaluated.
-#[derive(Clone, Copy, Debug)]
+#[derive(Clone, Copy)]
 pub(crate) struct InnerRun<'a, 'b> {
     pub(crate) read: Times<'a>,
     pub(crate) at: Times<'b>,

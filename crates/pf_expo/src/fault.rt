@@ -4,7 +4,7 @@ use pf_base::OutOfMemory;
 use std::alloc::{AllocError, AllocFailed};
 
 /// Why a file is not taken. Lines count from 1; every line past number 2^32 - 1 has that number.
-#[derive(Clone, Copy, Debug, PartialEq, Eq)]
+#[derive(Clone, Copy)]
 pub enum ExpoError {
     /// The first line not to be taken is of no form, or has labels that make no label set.
     BadLine { line: u32 },

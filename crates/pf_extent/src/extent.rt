@@ -1,8 +1,7 @@
 //! Extents, and when one may be used.
 
-ghost use Rattle.std.specs.Prelude.{◌≡◌, ◌↔◌, IfOk, IsTrue};
+ghost use Rattle.std.specs.Prelude.{◌≡◌, IfOk};
 ghost use Rattle.pf_model.specs.Reach.{is_below};
-ghost use Rattle.pf_extent.specs.Steps.{IsLawful};
 ghost use Rattle.pf_extent.specs.Uses.{is_usable};
 
 use pf_columns::Cells;
@@ -10,7 +9,7 @@ use std::alloc::AllocError;
 
 /// The cells of the steps from `first` to `last`, which are `step` apart: milliseconds, the former two since 1970. They are of
 /// the samples that stood after the first `pin` changes of the tenant's log, whose generation was `generation` then.
-#[derive(Debug, Drop)]
+#[derive(Drop)]
 pub struct Extent {
     pub first: u64,
     pub last: u64,
@@ -37,25 +36,9 @@ impl Clone for Extent {
     }
 }
 
-impl Extent {
-    /// Whether an extent is lawful: its first and its last step are multiples of their distance, and it has a cell for each step
-    /// from the one to the other.
-    pub fn is_lawful(&self) -> bool
-        ensures { IsTrue result ↔ IsLawful self.now }
-    {
-        let count = self.cells.count() as u64;
-        self.step != 0
-            && self.first % self.step == 0
-            && self.last % self.step == 0
-            && self.first <= self.last
-            && count != 0
-            && (self.last - self.first) / self.step == count - 1
-    }
-}
-
 /// Who would use an extent: the pin and the generation of the samples that are asked, and the floor at that pin, in
 /// milliseconds since 1970, below which no sample is taken any more. None is no floor.
-#[derive(Clone, Copy, Debug, PartialEq, Eq)]
+#[derive(Clone, Copy)]
 pub struct Asker {
     pub pin: u64,
     pub floor: Option<u64>,

@@ -7,7 +7,7 @@ use std::alloc::AllocError;
 
 /// What a list of extents is kept under: the tenant, the canonical text of the query, the distance of its steps in
 /// milliseconds, and the number of the interval that the steps are in. Keys are equal where all four are.
-#[derive(Debug, Drop, PartialEq, Eq, Hash)]
+#[derive(Drop, PartialEq, Eq, Hash)]
 pub struct Key {
     pub tenant: u32,
     pub text: Text,

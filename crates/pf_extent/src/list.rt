@@ -1,6 +1,6 @@
 //! Lists of extents, and a list with one more.
 
-ghost use Rattle.std.specs.Prelude.{◌≡◌, ◌↔◌, ℕ, ◌-◌, ◌/◌, ◌<◌, ◌≤◌, length, [], ◌++◌, true, cond, IfOk, IfSome, IsTrue, MatchOption, None, Some};
+ghost use Rattle.std.specs.Prelude.{◌≡◌, ℕ, ◌-◌, ◌/◌, ◌<◌, ◌≤◌, length, [], ◌++◌, true, cond, IfOk, IfSome, MatchOption, None, Some};
 ghost use Rattle.pf_model.specs.Lists.{Each, joined};
 ghost use Rattle.pf_extent.specs.Combining.{back_part, combined, front_part, known_with, last_of, of_generation, with_extent};
 ghost use Rattle.pf_extent.specs.Steps.{AreApart, AreSpaced, Divides, IsKept, IsLawful, ended, extent_at, has_begun, has_step, known_at, known_of};
@@ -14,7 +14,7 @@ use std::marker::Model;
 const MOST: usize = 64;
 
 /// Extents in the order of their steps, apart from one another, at most 64 of them.
-#[derive(Debug, Drop)]
+#[derive(Drop)]
 pub struct List {
     extents: Vec<Extent>,
 }
@@ -61,16 +61,6 @@ impl List {
         ensures kept { IsKept result.now }
     {
         &self.extents
-    }
-
-    /// Whether the steps of all extents are at this distance, as those of an empty list are at any.
-    pub fn is_spaced(&self, step: u64) -> bool
-        ensures { IsTrue result ↔ AreSpaced step self.now }
-    {
-        match self.extents.first() {
-            Some(extent) => extent.step == step,
-            None => true,
-        }
     }
 
     /// The extent that has a step, found by halving.

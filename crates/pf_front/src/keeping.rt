@@ -16,7 +16,7 @@ use std::alloc::Global;
 
 /// What a keep came to: so many steps are kept; samples of the tenant were deleted since the ask, at last by this generation; there
 /// was no memory; a step has an error; so many jobs wait or are in hand; the query is stopped; or it is not planned.
-#[derive(Clone, Copy, Debug, PartialEq, Eq)]
+#[derive(Clone, Copy)]
 pub enum Keeping {
     Kept { steps: u32 },
     Outdated { generation: u64 },

@@ -22,7 +22,7 @@ use std::alloc::Global;
 use std::collections::VecDeque;
 
 /// A step that has an error, by its time in milliseconds.
-#[derive(Clone, Copy, Debug, PartialEq, Eq)]
+#[derive(Clone, Copy)]
 pub(crate) struct FailedStep {
     pub(crate) time: u64,
     pub(crate) kind: ErrorKind,

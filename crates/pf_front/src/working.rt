@@ -19,7 +19,7 @@ use std::alloc::Global;
 /// What became of a job in hand: its part was stored; its way failed, and it waits again, having failed so often; it failed for the
 /// fifth time, by which its query is stopped; memory ran out, by which its query is stopped; its query was stopped before; or it
 /// isn't in hand at that try.
-#[derive(Clone, Copy, Debug, PartialEq, Eq)]
+#[derive(Clone, Copy)]
 pub enum Worked {
     Stored,
     Again { tries: u32 },

@@ -12,11 +12,11 @@ use std::error::Error;
 use std::fmt;
 
 /// The outside did not do what it was asked for.
-#[derive(Clone, Copy, Debug, PartialEq, Eq)]
+#[derive(Clone, Copy, Debug)]
 pub struct Failed;
 
 /// Why a file was not read.
-#[derive(Clone, Copy, Debug, PartialEq, Eq)]
+#[derive(Clone, Copy, Debug)]
 pub enum ReadError {
     /// There is no such name, or it could not be read.
     Failed,

@@ -7,7 +7,7 @@ use crate::outside::{Failed, Gate, Hop};
 use pf_base::JobHead;
 
 /// A hop that never fails.
-#[derive(Debug, Drop)]
+#[derive(Drop)]
 pub struct SteadyHop;
 
 impl Hop for SteadyHop {
@@ -23,7 +23,7 @@ impl Hop for SteadyHop {
 }
 
 /// A gate that holds nobody.
-#[derive(Debug, Drop)]
+#[derive(Drop)]
 pub struct OpenGate;
 
 impl Gate for OpenGate {

@@ -4,7 +4,7 @@ use pf_base::Value;
 use std::alloc::AllocFailed;
 
 /// A sign. Prometheus, Querying basics and Operators.
-#[derive(Clone, Copy, Debug, PartialEq, Eq)]
+#[derive(Clone, Copy, PartialEq, Eq)]
 pub enum Mark {
     /// `(`
     Open,
@@ -55,7 +55,7 @@ pub enum Mark {
 }
 
 /// What a token is. What a word or a string says is read from its slice of the text.
-#[derive(Clone, Copy, Debug, PartialEq, Eq)]
+#[derive(Clone, Copy, PartialEq, Eq)]
 pub enum TokenSort {
     Word,
     /// A number, or the word `inf`.
@@ -67,7 +67,7 @@ pub enum TokenSort {
 }
 
 /// A token: the place of its first byte in the text, the place behind its last byte, and what it is.
-#[derive(Clone, Copy, Debug, PartialEq, Eq)]
+#[derive(Clone, Copy)]
 pub struct Token {
     pub from: u32,
     pub to: u32,
@@ -75,7 +75,7 @@ pub struct Token {
 }
 
 /// Why a text has no tokens.
-#[derive(Clone, Copy, Debug, PartialEq, Eq)]
+#[derive(Clone, Copy)]
 pub enum LexError {
     /// It has more than 65,536 bytes.
     TooLong,

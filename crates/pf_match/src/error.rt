@@ -5,7 +5,7 @@ ghost use Rattle.pf_match.specs.declared.error.PatternError.{PatternError};
 
 use std::alloc::AllocError;
 
-#[derive(Clone, Copy, Debug, PartialEq, Eq)]
+#[derive(Clone, Copy)]
 pub enum PatternError {
     /// `regex` refused the text for another cause than memory: it is no expression, nests too deep, or compiles to more
     /// than 10 MiB.

@@ -12,7 +12,7 @@ use std::marker::Model;
 
 /// A regular expression that has to match a whole value, in which `.` is any character, a line feed too. Threads may
 /// share it.
-#[derive(Debug, Drop)]
+#[derive(Drop)]
 pub struct Pattern {
     text: String,
     regex: Regex,

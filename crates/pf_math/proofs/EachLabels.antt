@@ -1,5 +1,6 @@
 -- `label_replace` and `label_join` change each label set by itself.
-use Rattle.std.proofs.Common.{◌≡◌, ℕ, true, Option, List, [], ◌∷◌, refl, ap, map}
+use Rattle.std.proofs.Common.{◌≡◌, ◌<◌, ℕ, true, Option, List, [], ◌∷◌, length, refl, ap, map, arith}
+use Rattle.pf_base.specs.LabelSets.{Pairs}
 use Rattle.pf_model.specs.declared.cell.Element.{Element}
 use Rattle.pf_model.specs.declared.functions.InstantFn.{InstantFn}
 use Rattle.pf_model.specs.declared.functions.InstantFn.TheVariants as function
@@ -23,6 +24,13 @@ join_is : (texts : List (List ℕ)) (es : List Element)
 join_is [] es = kept_is es
 join_is (a ∷ []) es = kept_is es
 join_is (a ∷ b ∷ rest) es = refl
+
+-- fewer than three texts change nothing
+pub few_kept : (expand : List ℕ → List ℕ → Option (List ℕ)) (texts : List (List ℕ)) (ls : Pairs) → length texts < 3 → ls ≡ replaced expand texts ls
+few_kept expand [] ls h = refl
+few_kept expand (a ∷ []) ls h = refl
+few_kept expand (a ∷ b ∷ []) ls h = refl
+few_kept expand (a ∷ b ∷ c ∷ rest) ls h = absurd (omega (arith, h))
 
 pub each_labels_is : (f : InstantFn) → is_relabelling f ≡ true → IsOfEachLabels f
 each_labels_is function.LabelReplace h b es = replace_is b.expand b.texts es

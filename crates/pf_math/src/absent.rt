@@ -1,13 +1,13 @@
 //! The labels that `absent` gives.
 
-ghost use Rattle.std.specs.Prelude.{◌≡◌, ◌&&◌, not, true, nat_eq, count_by, IfOk};
+ghost use Rattle.std.specs.Prelude.{◌≡◌, ◌&&◌, not, true, count_by, IfOk};
 ghost use Rattle.std.specs.List.{list_all};
 ghost use Rattle.std.specs.Str.{bytes_eq};
 ghost use Rattle.pf_base.specs.LabelSets.{is_label_name};
-ghost use Rattle.pf_model.specs.InstantFunctions.{absent_labels, is_absent_label, is_equal_sign, names_alone};
+ghost use Rattle.pf_model.specs.InstantFunctions.{absent_labels, is_absent_label, is_equal_sign};
 
 use crate::cells::no_labels;
-use pf_base::{Labels, OutOfMemory, is_label_name};
+use pf_base::{Labels, OutOfMemory};
 use pf_model::{MatchSign, Matcher, Selector};
 use std::alloc::Global;
 
@@ -37,16 +37,6 @@ fn is_absent_label(matchers: &[Matcher], matcher: &Matcher) -> bool
     is_equal_sign(matcher.sign)
         && count_of(matchers, matcher.label.as_str()) == 1
         && matcher.label.as_str() != METRIC_NAME
-}
-
-/// Whether each matcher's label is a label name, as `absent_labels` wants it.
-pub fn has_label_names(selector: &Selector) -> bool
-    ensures { result ≡ list_all (λ m. is_label_name m.label) selector.now }
-{
-    selector
-        .matchers
-        .iter()
-        .all(|m| is_label_name(m.label.as_str()))
 }
 
 fn labels_of(alloc: Global, matchers: &[Matcher]) -> Result<Labels, OutOfMemory>

@@ -6,7 +6,7 @@ use std::marker::Model;
 use std::sync::Arc;
 
 /// What a call of an instant function has beside its vector, in the order of its arguments.
-#[derive(Debug, Drop)]
+#[derive(Drop)]
 pub struct Args {
     /// The evaluation's time in milliseconds.
     pub time: i64,

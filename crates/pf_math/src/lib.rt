@@ -7,8 +7,8 @@
 //!   and `Relabelling` what `label_replace` and `label_join` do to a label set. Their contracts say that the function of a
 //!   vector is this change of each element; the evaluator drops the metric name and puts the elements in label order.
 //! - `absent_labels` are the labels that `absent` gives of a selector: once a query.
-//! - `operated` is the value of a binary operator at two operands, `of_scalars` of two scalars, and `scalar_left` and
-//!   `scalar_right` of a scalar and a vector. `result_labels` are the labels that an operator's result has.
+//! - `operated` is the value of a binary operator at two operands, and `of_scalars` of two scalars. `result_labels` are the
+//!   labels that an operator's result has.
 //!
 //! ```
 //! let Some(change) = Change::of(InstantFn::Clamp, &[Some(low), Some(high)], time) else { .. };
@@ -26,9 +26,9 @@ mod operators;
 mod relabelling;
 mod values;
 
-pub use absent::{absent_labels, has_label_names};
+pub use absent::absent_labels;
 pub use args::Args;
 pub use functions::instant;
-pub use operators::{drops_name, of_scalars, operated, result_labels, scalar_left, scalar_right};
-pub use relabelling::{LabelJoin, LabelReplacement, Relabelling, has_lawful_target, relabelled};
+pub use operators::{drops_name, of_scalars, operated, result_labels};
+pub use relabelling::{LabelJoin, LabelReplacement, Relabelling, relabelled};
 pub use values::{Change, negated, value_of};

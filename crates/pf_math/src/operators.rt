@@ -1,13 +1,11 @@
-//! Binary operators at one value, of scalars, and of a scalar and a vector.
+//! Binary operators at one value, and of scalars.
 
-ghost use Rattle.std.specs.Prelude.{◌≡◌, ◌++◌, ◌||◌, pos, cond, IfOk, OnErr, OnOk};
-ghost use Rattle.pf_model.specs.Cells.{element};
+ghost use Rattle.std.specs.Prelude.{◌≡◌, ◌||◌, pos, cond, IfOk};
 ghost use Rattle.pf_model.specs.Micros.{one};
-ghost use Rattle.pf_model.specs.Matching.{compared, is_arithmetic, of_scalars, operated, result_labels, scalar_left, scalar_right};
+ghost use Rattle.pf_model.specs.Matching.{compared, is_arithmetic, of_scalars, operated, result_labels};
 
 use pf_base::{Labels, OutOfMemory, Value};
-use pf_model::{BinaryOp, Element, Sign};
-use std::alloc::Global;
+use pf_model::{BinaryOp, Sign};
 
 /// 1 or 0.
 #[tactic(auto, using(crate::proofs::Signs::one_is, crate::proofs::Signs::nothing_is))]
@@ -91,60 +89,4 @@ pub fn of_scalars(op: BinaryOp, a: Option<Value>, b: Option<Value>) -> Option<Va
         (Some(a), Some(b)) => operated(op, a, a, b),
         _ => None,
     }
-}
-
-/// Pushes an element with these labels, as the result of an operator, where there is a value. Pushes nothing on an error.
-fn push_result(
-    found: &mut Vec<Element>,
-    op: BinaryOp,
-    labels: &Labels,
-    value: Option<Value>,
-) -> Result<(), OutOfMemory>
-    ensures ok { OnOk result (found.new.items ≡ found.old.items ++ element (result_labels op labels.now) value) }
-    ensures err { OnErr result (found.new.items ≡ found.old.items) }
-{
-    if let Some(value) = value {
-        let labels = result_labels(op, labels)?;
-        found.push(Element { labels, value })?;
-    }
-    Ok(())
-}
-
-/// A scalar at the left of a vector: the elements in the vector's order. A comparison keeps the vector's value. There are
-/// none where the scalar has no value.
-pub fn scalar_left(
-    alloc: Global,
-    op: BinaryOp,
-    a: Option<Value>,
-    elements: &[Element],
-) -> Result<Vec<Element>, OutOfMemory>
-    ensures { IfOk result (λ v. v.items ≡ scalar_left op a elements.now) }
-{
-    let mut found = Vec::new(alloc);
-    if let Some(a) = a {
-        for element in elements {
-            let value = operated(op, element.value, a, element.value);
-            push_result(&mut found, op, &element.labels, value)?;
-        }
-    }
-    Ok(found)
-}
-
-/// A scalar at the right of a vector, as `scalar_left`.
-pub fn scalar_right(
-    alloc: Global,
-    op: BinaryOp,
-    elements: &[Element],
-    b: Option<Value>,
-) -> Result<Vec<Element>, OutOfMemory>
-    ensures { IfOk result (λ v. v.items ≡ scalar_right op elements.now b) }
-{
-    let mut found = Vec::new(alloc);
-    if let Some(b) = b {
-        for element in elements {
-            let value = operated(op, element.value, element.value, b);
-            push_result(&mut found, op, &element.labels, value)?;
-        }
-    }
-    Ok(found)
 }

@@ -7,7 +7,7 @@ ghost use Rattle.pf_match.specs.Meaning.{expand};
 ghost use Rattle.pf_math.specs.Arguments.{expansion};
 ghost use Rattle.pf_math.specs.Relabelling.{IsOfEachLabels, begins_with_name, has_lawful_target, is_relabelling, joined_labels, joined_values, joins, labels_by, relabels, replaced, replaces};
 
-use pf_base::{Labels, OutOfMemory, Text, is_label_name};
+use pf_base::{Labels, OutOfMemory, Text};
 use pf_match::{Pattern, PatternExpander};
 use pf_model::InstantFn;
 use std::alloc::Global;
@@ -155,7 +155,6 @@ impl<'a> Relabelling<'a> {
     /// What a function does to label sets, by its texts in order and the pattern of `label_replace`, read from the fourth of
     /// them. Other functions change none, and neither does `label_replace` with fewer than three texts or without a
     /// pattern, nor `label_join` with fewer than two texts.
-    #[tactic(auto, using(crate::proofs::EachLabels::each_labels_is))]
     pub fn of(
         alloc: Global,
         f: InstantFn,
@@ -167,10 +166,7 @@ impl<'a> Relabelling<'a> {
         ensures law { is_relabelling f ≡ true → IsOfEachLabels f }
     {
         match (f, pattern) {
-            (InstantFn::LabelReplace, Some(pattern)) => {
-                let found = replacement(texts, pattern)?;
-                Ok(found)
-            }
+            (InstantFn::LabelReplace, Some(pattern)) => replacement(texts, pattern),
             (InstantFn::LabelJoin, _) => Ok(join(alloc, texts)),
             _ => Ok(Relabelling::Keep),
         }
@@ -189,19 +185,6 @@ impl<'a> Relabelling<'a> {
     }
 }
 
-/// Whether a function can set the label that its first text names: other functions than `label_replace` and `label_join`
-/// set none.
-pub fn has_lawful_target(f: InstantFn, texts: &[Text]) -> bool
-    ensures { result ≡ has_lawful_target f texts.now }
-{
-    match (f, texts) {
-        (InstantFn::LabelReplace | InstantFn::LabelJoin, [target, ..]) => {
-            is_label_name(target.as_str())
-        }
-        _ => true,
-    }
-}
-
 /// `label_replace` or `label_join` on one label set; the other functions leave it as it is. Where the pattern doesn't match
 /// the whole value of the source nothing changes, and an empty value takes the target out. For many label sets take a
 /// `Relabelling`, which tells how the texts and the pattern are read. Prometheus, Query functions.
@@ -216,6 +199,5 @@ pub fn relabelled(
     ensures { IfOk result (λ l. l ≡ labels_by f (expansion (option_copied pattern.entry)) texts.now labels.now) }
 {
     let mut relabelling = Relabelling::of(alloc, f, texts, pattern)?;
-    let found = relabelling.labels(labels)?;
-    Ok(found)
+    relabelling.labels(labels)
 }

@@ -15,7 +15,7 @@ const ONE: i128 = 1_000_000;
 
 /// What a function of each element by itself does to a value, with its scalars. A column takes it once and asks it of each
 /// value.
-#[derive(Clone, Copy, Debug, PartialEq, Eq)]
+#[derive(Clone, Copy)]
 pub enum Change {
     Abs,
     Ceil,

@@ -4,7 +4,7 @@ use pf_base::{Labels, Sample};
 use std::marker::Model;
 
 /// A series of a matrix: its label set and its points by time.
-#[derive(Debug, Drop)]
+#[derive(Drop)]
 pub struct MatrixRow {
     pub labels: Labels,
     pub points: Vec<Sample>,
@@ -19,7 +19,7 @@ impl Model for MatrixRow {
 }
 
 /// Rows in label order, none without points.
-#[derive(Debug, Drop)]
+#[derive(Drop)]
 pub struct Matrix {
     pub rows: Vec<MatrixRow>,
 }

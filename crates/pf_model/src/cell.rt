@@ -4,14 +4,14 @@ use pf_base::{Labels, Value};
 use std::marker::Model;
 
 /// An element of a vector: a label set and its value.
-#[derive(Debug, Drop)]
+#[derive(Drop)]
 pub struct Element {
     pub labels: Labels,
     pub value: Value,
 }
 
 /// A vector's elements in label order. A scalar is an element without labels, or none where it has no value.
-#[derive(Debug, Drop)]
+#[derive(Drop)]
 pub struct Cell {
     pub elements: Vec<Element>,
 }
@@ -26,7 +26,7 @@ impl Model for Cell {
 }
 
 /// Why a query has no value at a step.
-#[derive(Clone, Copy, Debug, PartialEq, Eq)]
+#[derive(Clone, Copy, Debug)]
 pub enum ErrorKind {
     /// Two elements have equal labels.
     DoubleLabels,
@@ -39,7 +39,7 @@ pub enum ErrorKind {
 }
 
 /// What a query is at one step: its elements, or an error.
-#[derive(Debug, Drop)]
+#[derive(Drop)]
 pub enum StepCell {
     Good(Cell),
     Bad(ErrorKind),

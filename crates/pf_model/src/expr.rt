@@ -9,7 +9,7 @@ use std::alloc::AllocError;
 use std::marker::Model;
 
 /// How a matcher compares a label's value with its text.
-#[derive(Clone, Copy, Debug, PartialEq, Eq)]
+#[derive(Clone, Copy)]
 pub enum MatchSign {
     /// `=`
     Equal,
@@ -22,7 +22,7 @@ pub enum MatchSign {
 }
 
 /// A matcher, as `job="api"`. A label that a series lacks has the empty value.
-#[derive(Debug, Drop)]
+#[derive(Drop)]
 pub struct Matcher {
     pub label: Text,
     pub sign: MatchSign,
@@ -44,7 +44,7 @@ impl Clone for Matcher {
 }
 
 /// A selector's matchers in order. A metric name is a matcher on `__name__`.
-#[derive(Debug, Drop)]
+#[derive(Drop)]
 pub struct Selector {
     pub matchers: Vec<Matcher>,
 }
@@ -71,7 +71,7 @@ impl Model for Selector {
 }
 
 /// The time that an `@` fixes.
-#[derive(Clone, Copy, Debug, PartialEq, Eq)]
+#[derive(Clone, Copy)]
 pub enum At {
     /// Milliseconds since 1970.
     Time { millis: u64 },
@@ -83,21 +83,21 @@ pub enum At {
 
 /// The time that a selector or a subquery reads at: that of `@`, or else the evaluation's, less the offset in
 /// milliseconds.
-#[derive(Clone, Copy, Debug, PartialEq, Eq)]
+#[derive(Clone, Copy)]
 pub struct Mods {
     pub at: Option<At>,
     pub offset: i64,
 }
 
 /// A called function.
-#[derive(Clone, Copy, Debug, PartialEq, Eq)]
+#[derive(Clone, Copy)]
 pub enum Function {
     Range(RangeFn),
     Instant(InstantFn),
 }
 
 /// The labels of an aggregation's clause. No clause is `by ()`.
-#[derive(Debug, Drop)]
+#[derive(Drop)]
 pub struct Grouping {
     /// `without`, in place of `by`.
     pub without: bool,
@@ -128,7 +128,7 @@ impl Model for Grouping {
 }
 
 /// The side of a binary operator that may have many elements to one of the other.
-#[derive(Clone, Copy, Debug, PartialEq, Eq)]
+#[derive(Clone, Copy)]
 pub enum Side {
     /// Neither.
     One,
@@ -139,7 +139,7 @@ pub enum Side {
 }
 
 /// Which elements of two vectors match. No clause is `ignoring ()`.
-#[derive(Debug, Drop)]
+#[derive(Drop)]
 pub struct Matching {
     /// `on`, in place of `ignoring`.
     pub on: bool,
@@ -176,7 +176,7 @@ impl Model for Matching {
 }
 
 /// A binary operator.
-#[derive(Clone, Copy, Debug, PartialEq, Eq)]
+#[derive(Clone, Copy)]
 pub struct BinaryOp {
     pub sign: Sign,
     /// `bool`: a comparison gives 0 or 1.
@@ -184,7 +184,7 @@ pub struct BinaryOp {
 }
 
 /// A query as a tree. Contracts see it through `tree_of`. Times are in milliseconds.
-#[derive(Debug, Drop)]
+#[derive(Drop)]
 pub enum Expr {
     Number {
         value: Value,

@@ -1,7 +1,7 @@
 //! The words and signs of functions, aggregations and binary operators.
 
 /// A function of a range vector. Prometheus, Query functions.
-#[derive(Clone, Copy, Debug, PartialEq, Eq)]
+#[derive(Clone, Copy)]
 pub enum RangeFn {
     Increase,
     Rate,
@@ -21,7 +21,7 @@ pub enum RangeFn {
 }
 
 /// A function of instant vectors, scalars and texts. Prometheus, Query functions.
-#[derive(Clone, Copy, Debug, PartialEq, Eq)]
+#[derive(Clone, Copy)]
 pub enum InstantFn {
     Abs,
     Ceil,
@@ -41,7 +41,7 @@ pub enum InstantFn {
 }
 
 /// An aggregation. Prometheus, Operators: Aggregation operators.
-#[derive(Clone, Copy, Debug, PartialEq, Eq)]
+#[derive(Clone, Copy)]
 pub enum AggOp {
     Sum,
     Avg,
@@ -55,7 +55,7 @@ pub enum AggOp {
 }
 
 /// A binary operator. Prometheus, Operators: Binary operators.
-#[derive(Clone, Copy, Debug, PartialEq, Eq)]
+#[derive(Clone, Copy)]
 pub enum Sign {
     /// `+`
     Add,

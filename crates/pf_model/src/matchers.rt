@@ -15,7 +15,7 @@ use std::alloc::Global;
 use std::marker::Model;
 
 /// Why a selector gives no matchers.
-#[derive(Clone, Copy, Debug, PartialEq, Eq)]
+#[derive(Clone, Copy)]
 pub enum MatchError {
     /// A pattern of `=~` or `!~` that is not plain is refused by `regex` for another cause than memory.
     BadPattern,
@@ -107,7 +107,7 @@ impl Selector {
 }
 
 /// A matcher, with its pattern where that isn't plain.
-#[derive(Debug, Drop)]
+#[derive(Drop)]
 struct Test {
     matcher: Matcher,
     pattern: Option<Pattern>,
@@ -312,7 +312,7 @@ fn all_accept(tests: &[Test], labels: &Labels) -> Result<bool, OutOfMemory>
 
 /// A selector's matchers, ready to be asked about label sets. Their patterns have a meaning, and at least one of the
 /// matchers refuses the empty text. Threads may share them.
-#[derive(Debug, Drop)]
+#[derive(Drop)]
 pub struct Matchers {
     tests: Vec<Test>,
 }

@@ -7,7 +7,7 @@ use pf_base::OutOfMemory;
 use pf_lex::LexError;
 
 /// Why a text is no query. Places are in bytes.
-#[derive(Clone, Copy, Debug, PartialEq, Eq)]
+#[derive(Clone, Copy, Debug)]
 pub enum ParseError {
     /// It has more than 65,536 bytes.
     TooLong,

@@ -8,7 +8,6 @@ pub fn have_own_texts()
 {}
 
 /// Does nothing. Its contract is a law: a query that a text derives is one still once its range is put in.
-#[tactic(auto, using(crate::proofs::OwnTexts::keep_texts))]
 pub fn keep_texts()
     ensures { KeepTexts }
 {}

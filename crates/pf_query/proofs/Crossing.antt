@@ -1,28 +1,16 @@
--- Threads may share what is asked, jobs and the table: they may be sent to another, and be lent to several.
+-- Threads may share jobs and the table: they may be sent to another, and be lent to several.
 use denote.Param.Send.{IsSend, IsSync, sendable}
 use Rattle.std.proofs.Crossing.{crosses}
 use Rattle.std.proofs.MapsCrossing.{crosses as maps_cross}
 use Rattle.pf_block.specs.contracts.snap.Snap as Snap
 use Rattle.pf_columns.proofs.Crossing.{steps_cross}
 use Rattle.pf_extent.specs.contracts.done.DoneCells as DoneCells
-use Rattle.pf_match.proofs.Crossing.{patterns_cross}
-use Rattle.pf_model.proofs.Crossing.{matchers_cross, tree_crosses}
-use Rattle.pf_query.specs.contracts.asked.Asked as Asked
 use Rattle.pf_query.specs.contracts.job.Held as Held
 use Rattle.pf_query.specs.contracts.job.Job as Job
 use Rattle.pf_query.specs.contracts.queues.Queues as Queues
 use Rattle.pf_query.specs.contracts.table.Table as Table
 use Rattle.pf_query.specs.contracts.work.Work as Work
 use Rattle.pf_shard.proofs.Crossing.{groups_cross, legs_cross}
-
-pub Asked-send : IsSend Asked.the_row
-Asked-send = search (tree_crosses, matchers_cross, patterns_cross, crosses, sendable) depth 60 fits 20000
-
-pub Asked-sync : IsSync Asked.the_row
-Asked-sync = search (tree_crosses, matchers_cross, patterns_cross, crosses, sendable) depth 60 fits 20000
-
--- for a search over a type that holds what is asked
-pub ruleset asked_cross = (Asked-send, Asked-sync)
 
 pub Snap-send : IsSend Snap.the_row
 Snap-send = search (maps_cross, crosses, sendable) depth 60 fits 20000

@@ -1,10 +1,8 @@
-pub mod Codes
 pub mod Covers
 pub mod Entries
 pub mod Gathering
 pub mod JobCode
 pub mod Jobs
-pub mod Lawful
 pub mod Queueing
 pub mod Tables
 pub mod WorkCode

@@ -3,7 +3,7 @@ use Rattle.std.specs.Prelude.{ℕ, Bool, List, refl}
 use Rattle.std.specs.Coded.{Coded, code_by, coded×, coded_bool, coded_list, coded_ℕ}
 use Rattle.pf_base.specs.GridLists.{GridData}
 use Rattle.pf_shard.specs.Lawful.{ResolvedLegs, legs_code}
-use Rattle.pf_query.specs.Codes.{grid_code}
+use Rattle.pf_asked.specs.Codes.{grid_code}
 use Rattle.pf_query.specs.Works.{WorkData}
 use Rattle.pf_extent.specs.contracts.done.DoneCells as done
 use Rattle.pf_query.specs.contracts.slot.Slot as slot

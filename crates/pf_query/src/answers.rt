@@ -5,14 +5,14 @@ use crate::stop::Stop;
 use pf_base::OutOfMemory;
 
 /// How many steps of a plan are cached, and how many jobs it has.
-#[derive(Clone, Copy, Debug, PartialEq, Eq)]
+#[derive(Clone, Copy)]
 pub struct Planned {
     pub cached: u32,
     pub jobs: u32,
 }
 
 /// Why a query is not planned: it was planned before; it is stopped; or memory ran out.
-#[derive(Clone, Copy, Debug, PartialEq, Eq)]
+#[derive(Clone, Copy)]
 pub enum PlanError {
     PlannedBefore,
     Stopped { why: Stop },
@@ -31,7 +31,7 @@ impl From<OutOfMemory> for PlanError {
 }
 
 /// What became of a part: it was stored; its query is stopped; or its job isn't in hand at that try.
-#[derive(Clone, Copy, Debug, PartialEq, Eq)]
+#[derive(Clone, Copy)]
 pub enum Finished {
     Stored,
     Gone { why: Stop },
@@ -40,7 +40,7 @@ pub enum Finished {
 
 /// What became of a job that failed: it waits again, and failed so often; it failed five times, and its query is stopped by
 /// that; its query was stopped before; or it isn't in hand at that try.
-#[derive(Clone, Copy, Debug, PartialEq, Eq)]
+#[derive(Clone, Copy)]
 pub enum FailedTry {
     Again { tries: u32 },
     Exhausted { job: u32 },
@@ -61,7 +61,7 @@ pub enum Collected {
 
 /// What is told of a query: its tenant, whether it is planned, whether its parts were handed out and it is offered, how many of its
 /// steps were cached, and why it was stopped, if it was.
-#[derive(Clone, Copy, Debug, PartialEq, Eq)]
+#[derive(Clone, Copy)]
 pub struct Progress {
     pub tenant: u32,
     pub planned: bool,

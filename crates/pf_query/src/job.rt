@@ -28,7 +28,7 @@ pub struct Held {
 }
 
 /// What is kept of a job that was handed to an actor.
-#[derive(Clone, Copy, Debug, PartialEq, Eq)]
+#[derive(Clone, Copy, PartialEq, Eq)]
 pub struct Hand {
     pub head: JobHead,
     pub actor: u32,

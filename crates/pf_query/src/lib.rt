@@ -1,8 +1,8 @@
-//! What is asked, a query over a grid that is lawful by its type, and the table of the outstanding queries with their jobs.
+//! The table of the outstanding queries with their jobs.
 //!
 //! What the layers above use:
 //!
-//! - `Asked`, which threads may share.
+//! - `Asked` of `pf_asked`, what is asked.
 //! - `Queues`, the jobs of each tenant: those that wait, first in first out, and those in the hands of actors. `take` serves the
 //!   tenants with a job that waits in turn; `put_back` lets a job wait again, tried once more.
 //! - `Table`, the outstanding queries over such queues, each with the cells of its steps that were cached, and a slot for each of
@@ -21,7 +21,6 @@
 #![tactic(auto)]
 
 mod answers;
-mod asked;
 mod cover;
 mod done;
 mod entry;
@@ -38,10 +37,10 @@ mod table;
 mod work;
 
 pub use answers::{Collected, FailedTry, Finished, PlanError, Planned, Progress};
-pub use asked::Asked;
 pub use cover::cover_more;
 pub use gathered::Gathered;
 pub use job::{Hand, Held, Job};
+pub use pf_asked::Asked;
 pub use queues::{MOST_TENANTS, Queues};
 pub use stop::Stop;
 pub use table::Table;

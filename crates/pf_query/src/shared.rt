@@ -1,17 +1,11 @@
-//! That threads may share what is asked, and jobs.
+//! That threads may share jobs.
 
-use crate::asked::Asked;
 use crate::job::{Held, Job};
 use crate::queues::Queues;
 use crate::table::Table;
 
 /// Takes what may be sent to another thread, and lent to several at once.
 fn is_shared<T: Send + Sync>(_item: &T) {}
-
-/// Proved only where what is asked is of that kind.
-fn asked_is_shared(asked: &Asked) {
-    is_shared(asked);
-}
 
 /// Proved only where jobs are of that kind.
 fn jobs_are_shared(job: &Job, held: &Held) {

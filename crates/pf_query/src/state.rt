@@ -4,7 +4,7 @@ use crate::stop::Stop;
 
 /// A query's tenant, why it was stopped, if it was, whether it is planned, its parts were handed out and it is offered, how many
 /// of its steps were cached, and how many of its jobs wait and are in hand.
-#[derive(Clone, Copy, Debug, PartialEq, Eq)]
+#[derive(Clone, Copy)]
 pub struct EntryState {
     pub tenant: u32,
     pub stop: Option<Stop>,

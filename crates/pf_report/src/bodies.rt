@@ -17,7 +17,7 @@ use pf_model::{ErrorKind, Kind};
 use std::alloc::Global;
 
 /// What an answer says.
-#[derive(Debug, Drop)]
+#[derive(Drop)]
 pub enum Body {
     /// The result of a range query.
     Matrix(Matrix),

@@ -9,7 +9,7 @@ use crate::json_text::push_number;
 use pf_base::{OutOfMemory, Value, push_value};
 
 /// A word of a line: a text, or a number in decimal.
-#[derive(Clone, Copy, Debug)]
+#[derive(Clone, Copy)]
 pub enum Word<'a> {
     Text(&'a str),
     Number(u64),

@@ -1,4 +1,5 @@
 pub mod Alike
+pub mod Asked
 pub mod Blanks
 pub mod Digits
 pub mod Follows

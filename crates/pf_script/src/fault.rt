@@ -6,7 +6,7 @@ ghost use Rattle.pf_script.specs.Lines.{at_line};
 use std::alloc::AllocFailed;
 
 /// A script has a line that is of no form, or memory ran out.
-#[derive(Clone, Copy, Debug, PartialEq, Eq)]
+#[derive(Clone, Copy)]
 pub enum ScriptError {
     /// The first such line, from 1; 0 where the script is longer than 67,108,864 bytes.
     Line { line: u32 },

@@ -1,13 +1,13 @@
 //! Lines of a script, one function for each verb.
 
-ghost use Rattle.std.specs.Prelude.{◌≡◌, ℕ, ◌&&◌, ◌≤◌, IfOk, IfSome, List, option_map};
+ghost use Rattle.std.specs.Prelude.{◌≡◌, ℕ, ◌&&◌, ◌∷◌, ◌≤◌, IfOk, IfSome, List, OnOk, option_map};
 ghost use Rattle.std.specs.List.{list_all};
 ghost use Rattle.std.specs.Str.{is_utf8};
 ghost use Rattle.pf_base.specs.LabelSets.{goes_on};
 ghost use Rattle.pf_base.specs.Limits.{greatest_time};
 ghost use Rattle.pf_base.specs.Tenants.{is_tenant};
 ghost use Rattle.pf_model.specs.Cuts.{only_if};
-ghost use Rattle.pf_journal.specs.Scripts.{answer_of, ask_of, cancel_of, delete_of, done_of, ingest, ingest_of, ingest_with, instant_of, is_id, is_new, is_passed, issued_after, keep_of, line_of, line_with, only_word, plan_of, step_with, take_of, worker_of};
+ghost use Rattle.pf_journal.specs.Scripts.{answer_of, ask_of, cancel_of, delete_of, done_of, ingest, ingest_of, ingest_with, instant_of, is_id, is_new, is_passed, issued_after, issued_at, keep_of, line_of, line_with, only_word, plan_of, step_with, take_of, worker_of};
 ghost use Rattle.pf_script.specs.Cuts.{Finds};
 ghost use Rattle.pf_script.specs.IdLists.{Alike, IsIdle, issued_in};
 ghost use Rattle.pf_script.specs.LineCuts.{ask_in, ask_with, ask_words, delete_in, delete_with, delete_words, instant_in, instant_with, instant_words, issued_with, read_of};
@@ -51,6 +51,14 @@ struct InstantCut<'a> {
     tenant: &'a str,
     time: u64,
     query: &'a str,
+}
+
+/// What is owned of a line that asks under an ID.
+#[derive(Drop)]
+struct Asking {
+    id: Text,
+    tenant: Tenant,
+    query: Text,
 }
 
 fn tenant_of(alloc: Global, name: &str) -> Result<Tenant, LineError>
@@ -186,6 +194,29 @@ fn ask_cut(words: &str) -> Option<AskCut<'_>>
     })
 }
 
+/// What is owned of a line that asks under an ID, which is issued if it is new.
+fn asking_of<'a>(
+    alloc: Global,
+    ids: &mut Ids<'a>,
+    number: u32,
+    id: &'a str,
+    tenant: &str,
+    query: &str,
+) -> Result<Asking, LineError>
+    ensures exact { ReadsLine (λ a. a) result (only_if (is_id id.now && is_new id.now (issued_in ids.old) && is_tenant tenant.now) (record { id = id.now; tenant = tenant.now; query = query.now })) }
+    ensures issued { OnOk result (Alike (issued_at id.now number ∷ issued_in ids.old) (issued_in ids.new)) }
+{
+    if !is_new_id(ids, id) {
+        return Err(LineError::Refused);
+    }
+    ids.issue(id.as_bytes(), number)?;
+    Ok(Asking {
+        tenant: tenant_of(alloc, tenant)?,
+        id: Text::of(alloc, id)?,
+        query: Text::of(alloc, query)?,
+    })
+}
+
 fn ask_line<'a>(
     alloc: Global,
     ids: &mut Ids<'a>,
@@ -196,20 +227,14 @@ fn ask_line<'a>(
     ensures read { IfOk result IsReadLine }
     ensures issued { IfOk result (λ l. Alike (issued_after number (read.line_of l) (issued_in ids.old)) (issued_in ids.new)) }
 {
-    if !is_new_id(ids, words.id) {
-        return Err(LineError::Refused);
-    }
-    let tenant = tenant_of(alloc, words.tenant)?;
-    let id = Text::of(alloc, words.id)?;
-    let query = Text::of(alloc, words.query)?;
-    ids.issue(words.id.as_bytes(), number)?;
+    let asking = asking_of(alloc, ids, number, words.id, words.tenant, words.query)?;
     Ok(Line::Ask {
-        id,
-        tenant,
+        id: asking.id,
+        tenant: asking.tenant,
         start: words.start,
         end: words.end,
         step: words.step,
-        query,
+        query: asking.query,
     })
 }
 
@@ -255,18 +280,12 @@ fn instant_line<'a>(
     ensures read { IfOk result IsReadLine }
     ensures issued { IfOk result (λ l. Alike (issued_after number (read.line_of l) (issued_in ids.old)) (issued_in ids.new)) }
 {
-    if !is_new_id(ids, words.id) {
-        return Err(LineError::Refused);
-    }
-    let tenant = tenant_of(alloc, words.tenant)?;
-    let id = Text::of(alloc, words.id)?;
-    let query = Text::of(alloc, words.query)?;
-    ids.issue(words.id.as_bytes(), number)?;
+    let asking = asking_of(alloc, ids, number, words.id, words.tenant, words.query)?;
     Ok(Line::Instant {
-        id,
-        tenant,
+        id: asking.id,
+        tenant: asking.tenant,
         time: words.time,
-        query,
+        query: asking.query,
     })
 }
 

@@ -1,12 +1,12 @@
 //! The times of a run.
 
-ghost use Rattle.std.specs.Prelude.{◌≡◌, ◌<◌, ◌+ℤ◌, ◌-ℤ◌, ◌*ℤ◌, ◌≤ℤ◌, ℕ, ℤ, pos, int_le, true, [], Some, length, slice_index_or};
+ghost use Rattle.std.specs.Prelude.{◌≡◌, ◌<◌, ◌-ℤ◌, ◌≤ℤ◌, ℕ, ℤ, pos, int_le, true, [], Some, slice_index_or};
 ghost use Rattle.pf_range.specs.Windows.{IsTime};
-ghost use Rattle.pf_selectors.specs.Times.{AreEnds, AreStarts, AreTimes, Spans, away, time_at};
+ghost use Rattle.pf_selectors.specs.Times.{AreStarts, AreTimes, Spans, away, time_at};
 
 /// The times of so many steps, in milliseconds: that of the step k is `start + k * step`, or `start + list[k]` where there is
 /// a list.
-#[derive(Clone, Copy, Debug)]
+#[derive(Clone, Copy)]
 pub struct Times<'a> {
     pub start: i64,
     pub step: i64,
@@ -19,33 +19,6 @@ pub struct Times<'a> {
 pub struct Span {
     pub first: i64,
     pub last: i64,
-}
-
-/// The time of a step, unless it is too large.
-fn end_of(start: i64, by: i64, step: u32) -> Option<i64>
-    ensures { (z : ℤ) → result ≡ Some z → z ≡ start +ℤ (pos step *ℤ by) }
-{
-    let way = (step as i64).checked_mul(by)?;
-    start.checked_add(way)
-}
-
-/// Whether a time is within 2^50 milliseconds before and after 0.
-fn is_time(time: i64) -> bool
-    ensures { result ≡ true → IsTime time }
-{
-    -1_125_899_906_842_624 <= time && time <= 1_125_899_906_842_624
-}
-
-fn is_start(time: i64, range: u64) -> bool
-    ensures { result ≡ true → IsTime (time -ℤ pos range) }
-{
-    range <= 2_251_799_813_685_248 && is_time(time) && is_time(time - range as i64)
-}
-
-fn are_ends(start: i64, end: i64, range: u64) -> bool
-    ensures { result ≡ true → AreEnds range start end }
-{
-    is_time(start) && is_time(end) && is_start(start, range) && is_start(end, range)
 }
 
 /// The time of a list at a step, 0 behind its last.
@@ -79,41 +52,6 @@ impl<'a> Times<'a> {
         ensures within { IsTime result }
     {
         self.start + self.away(step)
-    }
-
-    /// Whether all times of a list, and where the windows before them begin, are within these bounds.
-    fn all_bounded(&self, range: u64) -> bool
-        requires { 0 < length self.now.list.now }
-        ensures times { result ≡ true → AreTimes self.now }
-        ensures starts { result ≡ true → AreStarts range self.now }
-    {
-        for i in 0..self.len {
-            let Some(time) = self.start.checked_add(listed(self.list, i)) else {
-                return false;
-            };
-            if !are_ends(time, time, range) {
-                return false;
-            }
-        }
-        true
-    }
-
-    /// Whether all times, and where the windows of `range` milliseconds before them begin, are within 2^50 milliseconds
-    /// before and after 0. A run of no step has none.
-    pub fn are_bounded(&self, range: u64) -> bool
-        ensures times { result ≡ true → AreTimes self.now }
-        ensures starts { result ≡ true → AreStarts range self.now }
-    {
-        if !self.list.is_empty() {
-            return self.all_bounded(range);
-        }
-        if self.len == 0 {
-            return true;
-        }
-        match end_of(self.start, self.step, self.len - 1) {
-            Some(end) => are_ends(self.start, end, range),
-            None => false,
-        }
     }
 
     /// Where the window of so many milliseconds before a step begins.

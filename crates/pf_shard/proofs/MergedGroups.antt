@@ -18,7 +18,7 @@ use Rattle.pf_model.proofs.KeySets.{alike, distinct_ascends, distinct_in, same_s
 use Rattle.pf_model.proofs.SelectorLabels.{AllAbove, Ascends, above_all, put_above}
 use Rattle.pf_columns.specs.Columns.{AreRising}
 use Rattle.pf_columns.proofs.Rising.{ascends}
-use Rattle.pf_agg.specs.Partials.{keys_of, parts_of}
+use Rattle.pf_columns.specs.Partials.{keys_of, parts_of}
 
 -- ---- what two know together, and one alone
 

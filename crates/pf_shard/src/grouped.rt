@@ -81,7 +81,7 @@ fn nothing_at(alloc: Global, len: u32) -> Result<Vec<Option<Partial>>, OutOfMemo
 }
 
 /// What is known of each of some groups at each step of a run, while the values of columns are added one after another.
-#[derive(Debug, Drop)]
+#[derive(Drop)]
 pub struct Known {
     lists: Vec<Vec<Option<Partial>>>,
 }

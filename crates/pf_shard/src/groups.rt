@@ -5,7 +5,7 @@ use pf_model::ErrorKind;
 use std::marker::Model;
 
 /// A key with what is known of its group at each step, if it has values there. A step behind the last partial has none.
-#[derive(Debug, Drop)]
+#[derive(Drop)]
 pub(crate) struct GroupColumn {
     pub(crate) key: Labels,
     pub(crate) partials: Vec<Option<Partial>>,
@@ -22,7 +22,7 @@ impl Model for GroupColumn {
 /// What a shard knows of the groups of an aggregation at each step of a run: columns by rising keys, and the errors of steps. A
 /// step behind the last error has none, and where no step has one, `bads` is empty. The groups of so many shards as there may be
 /// add up within the types.
-#[derive(Debug, Drop)]
+#[derive(Drop)]
 pub struct GroupSteps {
     pub(crate) columns: Vec<GroupColumn>,
     pub(crate) bads: Vec<Option<ErrorKind>>,

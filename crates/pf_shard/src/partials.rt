@@ -5,7 +5,7 @@ ghost use Rattle.std.specs.Int.{int_max, int_min};
 ghost use Rattle.pf_model.specs.Lists.{Each};
 ghost use Rattle.pf_model.specs.Merging.{merged, merged_groups};
 ghost use Rattle.pf_columns.specs.Columns.{AreRising};
-ghost use Rattle.pf_agg.specs.Partials.{keys_of, parts_of};
+ghost use Rattle.pf_columns.specs.Partials.{keys_of, parts_of};
 ghost use Rattle.pf_shard.specs.Parts.{AddUp, Fit};
 
 use pf_base::{Labels, OutOfMemory, Partial, Value};

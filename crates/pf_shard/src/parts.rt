@@ -4,7 +4,7 @@ use crate::groups::GroupSteps;
 use pf_columns::StepCells;
 
 /// What a leg is over a run of steps.
-#[derive(Debug, Drop)]
+#[derive(Drop)]
 pub enum Part {
     /// At each step the value of the whole query, or its error.
     Whole(StepCells),

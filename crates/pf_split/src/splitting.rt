@@ -11,7 +11,7 @@ use pf_base::{Grid, GridError};
 use std::marker::Model;
 
 /// The steps of a grid in one interval.
-#[derive(Clone, Copy, Debug, PartialEq, Eq)]
+#[derive(Clone, Copy)]
 pub struct Piece {
     /// The number of the interval: the time of each step divided by the interval's length, cut down.
     pub interval: u64,
@@ -19,7 +19,7 @@ pub struct Piece {
 }
 
 /// The pieces that are left, in rising order.
-#[derive(Debug, Drop)]
+#[derive(Drop)]
 pub struct PieceIter {
     start: u64,
     step: u64,

@@ -16,7 +16,7 @@ use std::marker::Model;
 use std::sync::Arc;
 
 /// The generation after a deletion, and the number of the log's entries with it.
-#[derive(Clone, Copy, Debug, PartialEq, Eq)]
+#[derive(Clone, Copy)]
 pub struct Deleted {
     pub generation: u64,
     pub entry: u64,

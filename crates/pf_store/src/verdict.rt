@@ -4,7 +4,7 @@ use pf_base::Value;
 use std::marker::Model;
 
 /// What is said of a row. Times are in milliseconds.
-#[derive(Clone, Copy, Debug, PartialEq, Eq)]
+#[derive(Clone, Copy)]
 pub enum Verdict {
     Taken,
     /// Its time is below the floor before its batch.
@@ -16,7 +16,7 @@ pub enum Verdict {
 }
 
 /// The verdicts on the rows of a batch in order, and the number of the log's entries afterwards.
-#[derive(Debug, Drop)]
+#[derive(Drop)]
 pub struct Verdicts {
     pub list: Vec<Verdict>,
     pub entry: u64,

@@ -10,11 +10,11 @@ ghost use Rattle.pf_model.specs.Log.{AreApart};
 ghost use Rattle.pf_report.specs.Bodies.{answer_body, code_in, text_of_body};
 ghost use Rattle.pf_store.specs.Standing.{StandsFor};
 
+use pf_asked::Asked;
 use pf_base::OutOfMemory;
 use pf_block::Snap;
 use pf_eval::{EvalError, eval_bound};
 use pf_index::select_all;
-use pf_query::Asked;
 use pf_report::Body;
 use std::alloc::Global;
 

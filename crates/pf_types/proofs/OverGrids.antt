@@ -7,7 +7,7 @@ use Rattle.std.proofs.lemmas.Bool.Decides.{nat_tests}
 use Rattle.pf_base.specs.GridLists.{GridData}
 use Rattle.pf_base.specs.LabelSets.{is_label_name}
 use Rattle.pf_print.specs.OwnTexts.{HasText, KeepTexts}
-use Rattle.pf_query.specs.Lawful.{IsAsked}
+use Rattle.pf_asked.specs.Lawful.{IsAsked}
 use Rattle.pf_model.specs.declared.expr.At.{At}
 use Rattle.pf_model.specs.declared.expr.At.TheVariants as at
 use Rattle.pf_model.specs.declared.expr.Function.{Function}

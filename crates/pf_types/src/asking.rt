@@ -12,17 +12,17 @@ ghost use Rattle.pf_types.specs.Errors.{IsFaultFor, query_fault};
 
 use crate::bound::{BoundQuery, bind};
 use crate::query::{QueryError, read_query};
+use pf_asked::Asked;
 use pf_base::{Grid, OutOfMemory};
 use pf_match::Pattern;
 use pf_model::{Expr, Kind, Matchers};
 use pf_print::{keep_texts, print};
-use pf_query::Asked;
 use pf_resolve::{resolve, resolved_over};
 use std::alloc::Global;
 use std::sync::Arc;
 
 /// When a query is asked: over a range, whose grid has a step, or at an instant, whose grid has none.
-#[derive(Clone, Copy, Debug, PartialEq, Eq)]
+#[derive(Clone, Copy)]
 pub enum When {
     Range(Grid),
     Instant(Grid),

@@ -47,7 +47,7 @@ impl Model for BoundQuery {
 }
 
 /// Why a query is not bound. `which` counts selectors and calls of `label_replace` together, in preorder from 0.
-#[derive(Clone, Copy, Debug, PartialEq, Eq)]
+#[derive(Clone, Copy)]
 pub enum BindError {
     /// A pattern that is not plain, or the pattern of `label_replace`, is refused by `regex`.
     Pattern { which: u32 },

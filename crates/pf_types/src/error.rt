@@ -10,7 +10,7 @@ use pf_base::OutOfMemory;
 use pf_model::Kind;
 
 /// What is wrong with a query. `at` is a node's number in preorder, from 0 on; past the greatest `u32` it is that one.
-#[derive(Clone, Copy, Debug, PartialEq, Eq)]
+#[derive(Clone, Copy, Debug)]
 pub enum TypeError {
     /// Too few or too many arguments: 0 in `abs()`.
     ArgCount { at: u32 },

@@ -21,7 +21,7 @@ use std::alloc::Global;
 
 /// Why a text is no query, or why a query is refused. `which` counts selectors and calls of `label_replace` together, in
 /// preorder from 0.
-#[derive(Clone, Copy, Debug, PartialEq, Eq)]
+#[derive(Clone, Copy, Debug)]
 pub enum QueryError {
     /// The grammar refuses the text.
     Parse(ParseError),

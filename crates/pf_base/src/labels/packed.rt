@@ -17,7 +17,7 @@ use std::marker::Model;
 
 /// Pairs of a name and a value: the names and values in one text, the places where the first begins and where each
 /// ends, and the FNV-1a hash of all pairs but the metric name's.
-#[derive(Debug, Drop)]
+#[derive(Drop)]
 pub struct PackedPairs {
     hash: u64,
     text: String,

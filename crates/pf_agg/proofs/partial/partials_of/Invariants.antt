@@ -1,6 +1,6 @@
 use Rattle.std.proofs.Common.{◌≡◌, ◌++◌, map, drop}
 use Rattle.pf_agg.specs.Buckets.{grouped}
-use Rattle.pf_agg.specs.Partials.{partials_of, parts_of}
+use Rattle.pf_columns.specs.Partials.{partials_of, parts_of}
 use Rattle.pf_agg.proofs.partial.partials_of.Given as goal
 
 abbrev pub invariant-loop-i : goal.invariant-loop-i

@@ -1,4 +1,5 @@
 use Rattle.std.proofs.Common.{◌-◌, map, take, ap, ◌∙◌, arith}
+use Rattle.std.proofs.lemmas.Grind.{common_steps}
 use Rattle.std.specs.Arc.{arc_value}
 use Rattle.std.proofs.lemmas.Int.{ints}
 use Rattle.pf_block.specs.Stacks.{series_in}
@@ -24,3 +25,9 @@ loop-count-preserved c =
           (c.loop-count.invariant.same ∙ ap (λ m. series_in c.args.id (take m (map arc_value c.args.blocks.now))) (down c.loop-count.count (omega arith)))
           c.series.result.now c.series.ensures c.in_default.ensures.value;
     }
+
+pub returns-clause-within : goal.returns-clause-within
+returns-clause-within c = grind (arith, common_steps)
+
+pub returns-clause-clear : goal.returns-clause-clear
+returns-clause-clear c = grind (arith, common_steps)

@@ -1,4 +1,5 @@
 use Rattle.std.proofs.Common.{◌-◌, map, sym, ◌∙◌, arith, w64}
+use Rattle.std.proofs.lemmas.Grind.{common_steps}
 use Rattle.std.proofs.lemmas.Int.{to_z-of_z}
 use Rattle.std.specs.Arc.{arc_value}
 use Rattle.pf_block.specs.Stacks.{series_in}
@@ -30,3 +31,6 @@ loop-count-preserved c =
       within = omega arith;
       same = sym (last_same c.args.id bs c.loop-count.count n _ _ _ (down c.loop-count.count (omega arith)) before) ∙ c.loop-count.invariant.same;
     }
+
+pub returns : goal.returns
+returns c = grind (arith, common_steps)

@@ -1,4 +1,5 @@
-use Rattle.std.proofs.Common.{◌≡◌, ◌++◌, [], append-nil, drop, map, sym, ap, ◌∙◌}
+use Rattle.std.proofs.Common.{◌≡◌, ◌++◌, [], append-nil, drop, map, sym, ap, ◌∙◌, arith}
+use Rattle.std.proofs.lemmas.Grind.{common_steps}
 use Rattle.std.proofs.lemmas.List.{drop_all}
 use Rattle.std.specs.Vec.Iter.{into_iter_items}
 use Rattle.pf_columns.specs.Ranks.{labelled}
@@ -16,3 +17,6 @@ returns c =
     let none : labelled (map labels (drop i places)) rest ≡ [] =
     ap (λ ps. labelled (map labels ps) rest) (drop_all i places c.loop-place-test.false) ∙ labelled_none rest in
     sym (ap (λ ds. c.loop-place.found.items ++ ds) none ∙ append-nil c.loop-place.found.items) ∙ c.loop-place.invariant.done
+
+pub loop-place-preserved : goal.loop-place-preserved
+loop-place-preserved c = grind (arith, common_steps)

@@ -1,4 +1,5 @@
 use Rattle.std.proofs.Common.{arith}
+use Rattle.std.proofs.lemmas.Grind.{common_steps}
 use Rattle.pf_lex.proofs.Limits.{limit_small}
 use Rattle.pf_lex.proofs.string.hexadecimal.Goals as goal
 
@@ -7,3 +8,6 @@ overflow_mul-number c = omega (arith, limit_small c.loop-digit.digit-index (omeg
 
 pub overflow_add-number : goal.overflow_add-number
 overflow_add-number c = omega (arith, limit_small c.loop-digit.digit-index (omega arith))
+
+pub loop-digit-preserved : goal.loop-digit-preserved
+loop-digit-preserved c = grind (arith, common_steps)

@@ -1,3 +1,4 @@
+use Rattle.std.proofs.lemmas.Grind.{common_steps}
 use mir.Syntax.{w128}
 use Rattle.std.proofs.Common.{◌≡◌, ◌≤◌, ◌+ℤ◌, ◌∷◌, length, to_z, sym, ap, ◌∙◌, arith}
 use Rattle.std.proofs.lemmas.Int.{ints}
@@ -52,3 +53,6 @@ returns c =
     let growth_is = grown _ _ _ _ _ _ l.count c.micros.ensures.within c.micros-2.ensures.within i.small few
     (c.micros.ensures.value ∙ ap (λ s. s.value) last_is) (c.micros-2.ensures.value ∙ ap (λ s. s.value) i.first) lost_is in
     (λ j. record { first = i.first j; last = last_is j; count = count_is j; growth = growth_is j }, omega (arith, count_is, i.some), grown_fits _ _ _ l.count c.micros.ensures.within c.micros-2.ensures.within i.small few)
+
+pub returns-in_err-first : goal.returns-in_err-first
+returns-in_err-first c = grind (arith, common_steps)

@@ -1,3 +1,4 @@
+use Rattle.std.proofs.lemmas.Grind.{common_steps}
 use Rattle.std.proofs.Common.{◌≤ℤ◌, ◌<ℤ◌, ◌*ℤ◌, arith}
 use Rattle.std.proofs.lemmas.Int.{ints}
 use Rattle.pf_range.proofs.Quotients.{kept, long, quotient_fits, quotient_least, quotient_within}
@@ -27,3 +28,6 @@ returns-clause-within c =
     let r = c.requires in
     let k : long (wide c.args.span *ℤ wide c.args.first) <ℤ long (wide c.args.gap *ℤ wide c.args.growth) = omega (arith, ints) in
     quotient_within c.args.gap c.args.span c.args.first c.args.growth (record { gap = r.gap; span = r.span; low = r.first.0; high = r.first.1; some = r.growth.0; most = r.growth.1 }) c.quotient.result k c.quotient.ensures
+
+pub returns-then-gap-growth-clause-within : goal.returns-then-gap-growth-clause-within
+returns-then-gap-growth-clause-within c = grind (arith, common_steps)

@@ -1,3 +1,4 @@
+use Rattle.std.proofs.lemmas.Grind.{common_steps}
 use mir.Syntax.{w128}
 use Rattle.std.proofs.Common.{◌≤◌, length, sym, ap, ◌∙◌, subst, arith}
 use Rattle.std.proofs.lemmas.Int.{ints, to_z-of_z}
@@ -35,3 +36,9 @@ returns c =
     let m = measured c.micros.result (growth c.args.window) st.span c.limited-start.result st.end _ _ _
     c.micros.ensures.within (c.micros.ensures.value ∙ growth_is) (ap (λ (k : Stretch). k.span) st_is) gap_is (ap (λ (k : Stretch). k.end) st_is) is.span.0 is.span.1 c.limited-start.ensures.within is.end in
     (m.same, m.times, two)
+
+pub returns-in_err-first : goal.returns-in_err-first
+returns-in_err-first c = grind (arith, common_steps)
+
+pub returns-then-count-lt2 : goal.returns-then-count-lt2
+returns-then-count-lt2 c = grind (arith, common_steps)

@@ -1,3 +1,4 @@
+use Rattle.std.proofs.lemmas.Grind.{common_steps}
 use Rattle.std.proofs.Common.{◌≤◌, length, sym, ap, ◌∙◌, subst, arith}
 use Rattle.pf_base.specs.Arithmetic.{difference}
 use Rattle.pf_model.specs.RangeFunctions.{change}
@@ -29,3 +30,9 @@ returns c =
     let m = measured c.micros.result (change c.args.window) st.span st.start st.end _ _ _
     c.micros.ensures.within value_is (ap (λ (k : Stretch). k.span) st_is) (ap (λ (k : Stretch). k.start) st_is) (ap (λ (k : Stretch). k.end) st_is) is.span.0 is.span.1 is.start is.end in
     (m.same, m.times, two)
+
+pub returns-in_err-first : goal.returns-in_err-first
+returns-in_err-first c = grind (arith, common_steps)
+
+pub returns-then-count-lt2 : goal.returns-then-count-lt2
+returns-then-count-lt2 c = grind (arith, common_steps)

@@ -1,3 +1,4 @@
+use Rattle.std.proofs.lemmas.Grind.{common_steps}
 use mir.Syntax.{w128}
 use Rattle.std.proofs.Common.{◌≤◌, ◌+ℤ◌, length, to_z, sym, ap, ◌∙◌, arith}
 use Rattle.pf_model.specs.Micros.{total}
@@ -19,3 +20,6 @@ loop-sample-preserved c =
       count = omega (arith, all, i.count);
       small = sum_small _ _ l.count i.small c.micros.ensures.within few;
     }
+
+pub returns : goal.returns
+returns c = grind (arith, common_steps)

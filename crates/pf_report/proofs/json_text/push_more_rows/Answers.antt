@@ -12,3 +12,9 @@ loop-row-preserved c =
       ok = comma_step row_text c.args.rows.now c.loop-row.row-index c.row-item.result _ _ _ c.loop-row-test.true c.row-item.is c.in_ok-push_next_row.ensures.ok c.loop-row.invariant.ok;
       kept = kept_on _ _ _ _ _ c.loop-row.invariant.kept c.in_ok-push_next_row.ensures.kept before now;
     }
+
+pub returns-in_err-push_next_row-clause-kept : goal.returns-in_err-push_next_row-clause-kept
+returns-in_err-push_next_row-clause-kept c =
+    let before : length c.args.out.now.items ≡ vec_len c.args.out.now = first_of (search rules, grind (arith, common_steps)) in
+    let now : length c.loop-row.out.items ≡ vec_len c.loop-row.out = first_of (search rules, grind (arith, common_steps)) in
+    kept_on _ _ _ _ _ c.loop-row.invariant.kept c.push_next_row.ensures.kept before now

@@ -16,3 +16,9 @@ loop-point-preserved c =
           (take c.write_point-at.result c.write_point-at.new.buffer) (44 ∷ point_text c.point-item.result) c.in_ok-at.ensures.ok c.write_point-at.ensures.written) c.loop-point.invariant.ok;
       kept = kept_on _ _ _ _ _ c.loop-point.invariant.kept c.in_ok-at.ensures.kept before now;
     }
+
+pub returns-in_err-at-clause-kept : goal.returns-in_err-at-clause-kept
+returns-in_err-at-clause-kept c =
+    let before : length c.args.out.now.items ≡ vec_len c.args.out.now = first_of (search rules, grind (arith, common_steps)) in
+    let now : length c.loop-point.out.items ≡ vec_len c.loop-point.out = first_of (search rules, grind (arith, common_steps)) in
+    kept_on _ _ _ _ _ c.loop-point.invariant.kept c.make_room.ensures.kept before now

@@ -16,3 +16,6 @@ returns-clause-within c =
     let e : to_z w64 (of_z w64 c.product.result) ≡ (cut_down c.args.to c.args.step -ℤ pos c.args.behind) *ℤ pos c.args.step = first_of (search rules, grind (arith, common_steps)) in
     subst (λ x. (c.args.from ≤ℤ x) × (x ≤ℤ c.args.to)) (sym e)
     (multiple_between c.args.step c.args.behind c.args.from c.args.to c.requires.order c.requires.there)
+
+pub returns-clause-value : goal.returns-clause-value
+returns-clause-value c = grind (arith, common_steps)

@@ -1,4 +1,6 @@
+use Rattle.std.proofs.Common.{arith}
 use Rattle.std.proofs.Common.{◌≡◌, ◌≤ℤ◌, ◌+ℤ◌, ◌*ℤ◌, pos, ◌∙◌, sym, ap, subst, rules, w64, to_z, of_z}
+use Rattle.std.proofs.lemmas.Grind.{common_steps}
 use Rattle.pf_model.specs.Micros.{cut_down}
 use Rattle.pf_range.specs.Windows.{IsTime}
 use Rattle.pf_selectors.proofs.StepMultiples.{first_time, first_within, next_is}
@@ -24,3 +26,6 @@ returns-clause-within c =
     last ∙ c.product.ensures
     ∙ ap (λ z. z *ℤ pos step) (next_is step from (to_z w64 (of_z w64 c.cut_down-next.result)) c.requires.from (own ∙ c.cut_down-next.ensures ∙ ap (λ z. cut_down z step) a)) in
     subst (λ x. (from ≤ℤ x) × (x ≤ℤ c.args.to)) (sym value) (first_within step from c.args.to c.requires.some c.requires.there)
+
+pub returns-clause-value : goal.returns-clause-value
+returns-clause-value c = grind (arith, common_steps)

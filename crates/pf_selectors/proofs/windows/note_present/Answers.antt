@@ -1,10 +1,11 @@
 use Rattle.std.proofs.Common.{◌-ℤ◌, pos, refl, arith, ap, ◌∙◌}
+use Rattle.std.proofs.lemmas.Grind.{common_steps}
 use Rattle.std.proofs.lemmas.Int.{ints}
 use Rattle.pf_block.specs.Samples.{until}
-use Rattle.pf_selectors.specs.Times.{time_at}
 use Rattle.pf_selectors.proofs.Places.{last_in_at}
 use Rattle.pf_selectors.proofs.RunValues.{note_next}
 use Rattle.pf_selectors.proofs.windows.note_present.Goals as goal
+use Rattle.pf_selectors.specs.Times.{time_at}
 
 pub loop-i-preserved : goal.loop-i-preserved
 loop-i-preserved c =
@@ -21,3 +22,9 @@ loop-i-preserved c =
           c.newest-found.ensures (omega (arith, ints, c.start_of-from.ensures.value, c.start_of-from.ensures.within)))
           c.loop-i.invariant.noted;
     }
+
+pub returns-clause-size : goal.returns-clause-size
+returns-clause-size c = grind (arith, common_steps)
+
+pub returns-clause-values : goal.returns-clause-values
+returns-clause-values c = grind (arith, common_steps)

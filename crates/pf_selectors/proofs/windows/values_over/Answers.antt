@@ -1,4 +1,5 @@
 use Rattle.std.proofs.Common.{arith}
+use Rattle.std.proofs.lemmas.Grind.{common_steps}
 use Rattle.std.proofs.lemmas.Int.{ints}
 use Rattle.pf_selectors.proofs.RunValues.{over_next, places_rise}
 use Rattle.pf_selectors.proofs.windows.values_over.Goals as goal
@@ -19,3 +20,6 @@ loop-i-preserved c = record {
       (omega (arith, ints, c.start_of-from.ensures.value, c.start_of-from.ensures.within)) (omega (arith, ints, c.at-to.ensures.value, c.at-to.ensures.within))
       c.loop-i.invariant.found;
 }
+
+pub returns : goal.returns
+returns c = grind (arith, common_steps)

@@ -1,6 +1,6 @@
 use Rattle.std.proofs.Common.{◌≤◌, ◌+◌, ◌-◌, ◌++◌, drop, length}
 use Rattle.pf_model.specs.Merging.{merged_groups}
-use Rattle.pf_agg.specs.Partials.{parts_of}
+use Rattle.pf_columns.specs.Partials.{parts_of}
 use Rattle.pf_shard.proofs.MergedGroups.{IsLeft}
 use Rattle.pf_shard.proofs.partials.merged.Given as goal
 

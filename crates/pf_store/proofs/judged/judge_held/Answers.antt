@@ -1,10 +1,12 @@
+use Rattle.std.proofs.Common.{arith}
 use Rattle.std.proofs.Common.{◌≡◌, ◌∙◌, ap, sym}
+use Rattle.std.proofs.lemmas.Grind.{common_steps}
 use Rattle.pf_block.specs.Snaps.{held_by}
 use Rattle.pf_model.specs.Log.{compared, held_value, is_taken}
-use Rattle.pf_store.specs.Verdicts.{verdict_of}
 use Rattle.pf_store.proofs.Judging.{held_known, held_unknown}
 use Rattle.pf_store.proofs.Numbers.{id_within, taken_none}
 use Rattle.pf_store.proofs.judged.judge_held.Goals as goal
+use Rattle.pf_store.specs.Verdicts.{verdict_of}
 
 pub held_by-requires : goal.held_by-requires
 held_by-requires c =
@@ -36,3 +38,12 @@ returns-clause-fresh c =
       unheld = sym (c.in_default.ensures ∙ ap (λ o. held_by c.args.snap.now o c.args.row.now.time) id);
       apart = taken_none (held_value c.args.taken.now.rows.items c.args.row.now.labels c.args.row.now.time) c.args.row.now.value (sym (ap is_taken same) ∙ h);
     }
+
+pub returns-clause-rows : goal.returns-clause-rows
+returns-clause-rows c = grind (arith, common_steps)
+
+pub returns-clause-found : goal.returns-clause-found
+returns-clause-found c = grind (arith, common_steps)
+
+pub returns-clause-ids : goal.returns-clause-ids
+returns-clause-ids c = grind (arith, common_steps)

@@ -1,4 +1,5 @@
-use Rattle.std.proofs.Common.{◌≡◌, ◌++◌, ◌∷◌, [], ap, ◌∙◌}
+use Rattle.std.proofs.Common.{◌≡◌, ◌++◌, ◌∷◌, [], ap, ◌∙◌, arith}
+use Rattle.std.proofs.lemmas.Grind.{common_steps}
 use Rattle.std.specs.Prelude.{slice_range}
 use Rattle.std.proofs.lemmas.Result.{IfOk-weaker}
 use Rattle.pf_base.specs.LabelChanges.{others}
@@ -17,3 +18,6 @@ returns-clause-pairs c =
     (λ p h. h ∙ ap (λ l. l ++ others c.args.name.now (slice_range c.args.pairs.now c.place_of-place.result c.count.result)) joined
     ∙ put_is c.args.name.now c.args.value.now c.args.pairs.now c.place_of-place.result c.count.result c.place_of-place.ensures.place c.count.ensures.value)
     c.with_chosen-2.ensures.pairs
+
+pub returns-clause-few : goal.returns-clause-few
+returns-clause-few c = grind (arith, common_steps)

@@ -1,4 +1,5 @@
-use Rattle.std.proofs.Common.{◌<◌, ◌^◌, length, ap, sym, subst, ◌∙◌}
+use Rattle.std.proofs.Common.{◌<◌, ◌^◌, length, ap, sym, subst, ◌∙◌, arith}
+use Rattle.std.proofs.lemmas.Grind.{common_steps}
 use Rattle.pf_base.proofs.LabelSteps.{chosen_step, left_step}
 use Rattle.pf_base.proofs.labels.changes.with_chosen.Goals as goal
 use Rattle.pf_base.proofs.labels.changes.with_chosen.Goals.{then-chooses+in_ok-found, else-chooses}
@@ -22,3 +23,9 @@ loop-i-preserved g c = elim c.if-chooses.branch [
     few = subst (λ f. length f < 2 ^ 32) (sym w.found-is) c.loop-i.invariant.few;
   }
 ]
+
+pub returns-clause-pairs : goal.returns-clause-pairs
+returns-clause-pairs c = grind (arith, common_steps)
+
+pub returns-clause-few : goal.returns-clause-few
+returns-clause-few c = grind (arith, common_steps)

@@ -1,4 +1,5 @@
 use Rattle.std.proofs.Common.{sym, ◌∙◌, arith}
+use Rattle.std.proofs.lemmas.Grind.{common_steps}
 use Rattle.pf_block.specs.Blocks.{merged}
 use Rattle.pf_block.proofs.Merging.{merged_ascends}
 use Rattle.pf_block.proofs.Pairing.{first_has, first_next, fits, goes_on, second_has, second_next}
@@ -45,3 +46,6 @@ loop-i-preserved c =
       inside = let l = second_has one other c.loop-i.i c.loop-i.j lead in omega (arith, l);
       same = goes_on c.loop-i.block (merged one other) _ _ e next c.loop-i.invariant.same _ c.in_ok-block-3.ensures;
     }
+
+pub returns : goal.returns
+returns c = grind (arith, common_steps)

@@ -1,4 +1,5 @@
 use Rattle.std.proofs.Common.{◌≡◌, ◌∷◌, [], None, true, length, sym, ap, ◌∙◌, subst, arith, rules}
+use Rattle.std.proofs.lemmas.Grind.{common_steps}
 use Rattle.std.proofs.lemmas.List.{length-append}
 use Rattle.pf_block.specs.SeriesIds.{id_of}
 use Rattle.pf_block.specs.Snaps.{are_apart}
@@ -28,3 +29,9 @@ returns-clause-apart c =
     let ls = c.self.inside.labels.items in
     let none : id_of c.args.labels ls ≡ None = ap (id_of c.args.labels) c.self.view_is ∙ c.requires in
     subst (λ x. are_apart x ≡ true) (sym c.in_ok-push.ensures.items) (apart_push ls c.args.labels c.self.invariant.apart none)
+
+pub returns-clause-value : goal.returns-clause-value
+returns-clause-value c = grind (arith, common_steps)
+
+pub returns-clause-few : goal.returns-clause-few
+returns-clause-few c = grind (arith, common_steps)

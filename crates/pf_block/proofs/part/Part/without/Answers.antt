@@ -2,6 +2,7 @@ use Rattle.std.proofs.Common.{◌≡◌, ◌+◌, ◌-◌, sym, ap, ◌∙◌, a
 use Rattle.std.specs.List.{filter}
 use Rattle.std.specs.Arc.{arc_value}
 use Rattle.std.proofs.lemmas.Int.{ints, to_z-of_z}
+use Rattle.std.proofs.lemmas.List.{length-take}
 use Rattle.pf_block.specs.Blocks.{samples_in}
 use Rattle.pf_block.specs.Layers.{labelled}
 use Rattle.pf_block.specs.Samples.{is_outside, rises}
@@ -73,3 +74,11 @@ invariant_of-result-2 c =
     (c.rows-count.ensures.rows ∙ ap length (sym c.in_ok-new.ensures.ok))
     ∙ ap (filter (is_outside c.args.from c.args.to)) c.samples-samples.ensures.value)
     ∙ rises_filter (is_outside c.args.from c.args.to) c.args.self.now c.samples-samples.ensures.rises
+
+pub overflow_sub-result : goal.overflow_sub-result
+overflow_sub-result c =
+    let i = c.self.inside in
+    omega (arith, ap length c.samples-samples.ensures.value, ap length c.self.view_is, length-take i.count (drop i.passed (samples_in i.id (arc_value i.block))), c.count_until-behind.ensures.within)
+
+pub outside-requires : goal.outside-requires
+outside-requires c = ap rises c.samples-samples.ensures.value ∙ c.samples-samples.ensures.rises

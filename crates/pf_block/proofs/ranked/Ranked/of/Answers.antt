@@ -1,4 +1,5 @@
 use Rattle.std.proofs.Common.{◌≡◌, ◌<◌, length, sym, ap, ◌∙◌, subst, arith}
+use Rattle.std.proofs.lemmas.Grind.{common_steps}
 use Rattle.std.specs.List.{All}
 use Rattle.pf_block.specs.Indexes.{AreRanked}
 use Rattle.pf_block.specs.LabelOrders.{ids_by_label}
@@ -21,3 +22,6 @@ pub invariant_of-result : goal.invariant_of-result
 invariant_of-result c =
     let r = ranks_placed c.args.index c.deref.result.now c.in_ok-ranks.ranks.items c.in_ok-hashes.hashes.items (c.deref.ensures.value ∙ c.in_ok-by_label.ensures) c.in_ok-ranks.ensures.count c.in_ok-ranks.ensures.within c.in_ok-ranks.ensures.placed c.in_ok-hashes.ensures in
     subst (λ ids. AreRanked c.args.index ids c.in_ok-ranks.ranks.items c.in_ok-hashes.hashes.items) c.deref.ensures.value r
+
+pub returns : goal.returns
+returns c = grind (arith, common_steps)

@@ -1,11 +1,12 @@
 use Rattle.std.proofs.Common.{rules, arith, ◌≡◌, ◌∙◌, length, refl, sym}
+use Rattle.std.proofs.lemmas.Grind.{common_steps}
 use Rattle.std.proofs.lemmas.List.{length-map}
-use Rattle.pf_core.specs.Entries.{entry_of}
 use Rattle.pf_core.proofs.Entered.{filled, one_fits, refused}
 use Rattle.pf_core.proofs.OpenQueries.{asked}
 use Rattle.pf_core.proofs.Standing.{opened_state, opened_work, same_state, state_kept, work_kept}
 use Rattle.pf_core.proofs.Stepped.{counted, is_full, room_for}
 use Rattle.pf_core.proofs.state.State.ask.Goals as goal
+use Rattle.pf_core.specs.Entries.{entry_of}
 
 pub returns-then-not-has_room-clause-err : goal.returns-then-not-has_room-clause-err
 returns-then-not-has_room-clause-err c =
@@ -86,3 +87,9 @@ returns-then-outstanding-self-clause-err_jobs c =
     (search rules) (search rules) (search rules)
     (one_fits (length c.args.self.now.journal.items) c.args.self.now.reserved 3 c.args.self.now.limits.journal (omega arith) (search rules)) in
     work_kept c.args.self.now c.fill.new.self c.args.by _ f.1.1.entered (search rules) refl
+
+pub returns-clause-err_jobs : goal.returns-clause-err_jobs
+returns-clause-err_jobs c = grind (arith, common_steps)
+
+pub returns-clause-err : goal.returns-clause-err
+returns-clause-err c = grind (arith, common_steps)

@@ -1,10 +1,11 @@
 use Rattle.std.proofs.Common.{rules, arith, ◌≡◌, ◌∙◌, length, refl, sym}
+use Rattle.std.proofs.lemmas.Grind.{common_steps}
 use Rattle.std.proofs.lemmas.List.{length-map}
-use Rattle.pf_core.specs.Entries.{entry_of}
 use Rattle.pf_core.proofs.Entered.{deleted, one_fits, refused}
 use Rattle.pf_core.proofs.Standing.{same_state, state_kept, work_kept}
 use Rattle.pf_core.proofs.Stepped.{is_full, room_for}
 use Rattle.pf_core.proofs.state.State.delete.Goals as goal
+use Rattle.pf_core.specs.Entries.{entry_of}
 
 pub returns-then-not-has_room-clause-err : goal.returns-then-not-has_room-clause-err
 returns-then-not-has_room-clause-err c =
@@ -56,3 +57,6 @@ returns-clause-jobs c =
     deleted c.args.self.now c.enter.new.self c.args.by c.args.tenant.now c.in-Some.seat c.cut_out.new.seat _ _ _ _ _ c.requires.state.history (search rules)
     c.in_ok-deleted.ensures c.in_ok-enter.ensures.ok (search rules) in
     work_kept c.args.self.now c.enter.new.self c.args.by _ a.1.1.entered (search rules) refl
+
+pub returns-clause-err : goal.returns-clause-err
+returns-clause-err c = grind (arith, common_steps)

@@ -1,9 +1,11 @@
+use Rattle.std.proofs.Common.{arith}
 use Rattle.std.proofs.Common.{option_map, ap, sym, ◌∙◌}
-use Rattle.regex.specs.Strings.{matcher_names}
-use Rattle.pf_match.specs.Meaning.{written_at}
+use Rattle.std.proofs.lemmas.Grind.{common_steps}
 use Rattle.pf_match.proofs.Searches.{expand_of, written_by}
 use Rattle.pf_match.proofs.expander.PatternExpander.expand.Goals as goal
 use Rattle.pf_match.proofs.expander.PatternExpander.expand.Goals.{in-Some+in_ok-expand-in-Some, in-None}
+use Rattle.pf_match.specs.Meaning.{written_at}
+use Rattle.regex.specs.Strings.{matcher_names}
 
 pub returns-clause-value : goal.returns-clause-value
 returns-clause-value c =
@@ -19,3 +21,6 @@ returns-clause-value c =
           rw (w.result-is, w.in_ok-expand-in-Some.ensures.value, w.new-out.ensures.bytes, out) (ap written (sym found.1) ∙ rw (← c.self.view_is) expanded)
       | in-None w ↦ rw w.result-is (ap written (sym w.in-None.ensures.found) ∙ rw (← c.self.view_is) expanded)
     ]
+
+pub returns-clause-same : goal.returns-clause-same
+returns-clause-same c = grind (arith, common_steps)

@@ -1,7 +1,9 @@
 use Rattle.std.proofs.Common.{ap, sym, ◌∙◌}
-use Rattle.pf_match.specs.Meaning.{anchored}
+use Rattle.std.proofs.Common.{arith}
+use Rattle.std.proofs.lemmas.Grind.{common_steps}
 use Rattle.pf_match.proofs.Searches.{built_is_read_as, is_pattern_of}
 use Rattle.pf_match.proofs.pattern.Pattern.build.Goals as goal
+use Rattle.pf_match.specs.Meaning.{anchored}
 
 pub invariant_of-result : goal.invariant_of-result
 invariant_of-result c =
@@ -14,3 +16,6 @@ returns-clause-read c =
     let made = c.in_ok-regex.ensures in
     let source = made.source ∙ c.as_str.ensures.value ∙ c.in_ok-source.ensures in
     is_pattern_of c.args.text.now _ _ (built_is_read_as c.in_ok-regex.regex _ source made.config made.read)
+
+pub returns-clause-built : goal.returns-clause-built
+returns-clause-built c = grind (arith, common_steps)

@@ -1,4 +1,6 @@
+use Rattle.std.proofs.Common.{arith}
 use Rattle.std.proofs.Common.{rules, refl}
+use Rattle.std.proofs.lemmas.Grind.{common_steps}
 use Rattle.pf_query.proofs.Tabled.{are_same, closed_table, known_tenant, table_same}
 use Rattle.pf_query.proofs.table.Table.close.Goals as goal
 
@@ -15,3 +17,6 @@ pub returns-clause-table : goal.returns-clause-table
 returns-clause-table c =
     closed_table c.args.self.now _ c.args.query c.in-Some.entry c.drop_waiting.new.self c.requires (search rules) c.in-Some.ensures.updates.0
     c.drop_waiting.ensures.dropped c.drop_hands.ensures.dropped c.drop_hands.ensures.queues
+
+pub returns-clause-closed : goal.returns-clause-closed
+returns-clause-closed c = grind (arith, common_steps)

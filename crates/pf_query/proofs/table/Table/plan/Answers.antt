@@ -1,4 +1,5 @@
 use Rattle.std.proofs.Common.{◌≤◌, rules, refl, arith, length}
+use Rattle.std.proofs.lemmas.Grind.{common_steps}
 use Rattle.std.specs.Arc.{arc_value}
 use Rattle.pf_query.proofs.Slotted.{jobs_few}
 use Rattle.pf_query.proofs.Tabled.{no_memory, planned_is, planned_table, refused, same_table, table_same, told_tenant}
@@ -29,3 +30,9 @@ returns-clause-table c =
     planned_table c.args.self.now _ c.args.query c.in-Some.state (search rules) (search rules) (search rules) (arc_value c.args.legs) c.args.runs.items c.args.cached.items c.args.offered
     (arc_value c.args.snap.now) c.in_ok-jobs.jobs.items c.in_ok-work.work _ c.requires.table c.requires.lawful c.requires.few (search rules)
     c.in_ok-work.ensures (search rules) c.in_ok-add.ensures.ok c.plan.ensures c.in_ok-add.ensures.queues (omega (arith, many))
+
+pub returns-clause-cached : goal.returns-clause-cached
+returns-clause-cached c = grind (arith, common_steps)
+
+pub returns-clause-err : goal.returns-clause-err
+returns-clause-err c = grind (arith, common_steps)

@@ -1,10 +1,10 @@
 use Rattle.std.proofs.Common.{◌≡◌, ◌∙◌, sym, subst, add-one, arith, rules, to_z, of_z, w64}
-use Rattle.std.proofs.lemmas.Int.{ints}
 use Rattle.std.proofs.lemmas.Grind.{common_steps}
+use Rattle.std.proofs.lemmas.Int.{ints}
 use Rattle.std.specs.Int.{int_max, int_min}
-use Rattle.pf_selectors.specs.Times.{Spans}
 use Rattle.pf_selectors.proofs.StepTimes.{more_spans}
 use Rattle.pf_selectors.proofs.times.Times.span_of_all.Goals as goal
+use Rattle.pf_selectors.specs.Times.{Spans}
 
 pub loop-i-preserved : goal.loop-i-preserved
 loop-i-preserved c =
@@ -17,3 +17,6 @@ loop-i-preserved c =
     subst (λ n. Spans (to_z w64 (of_z w64 c.min-first.result)) (to_z w64 (of_z w64 c.max-last.result)) n t) (sym (add-one c.loop-i.i))
     (more_spans t _ _ _ _ u c.loop-i.i c.loop-i.invariant c.at-time.ensures.value
     (l ∙ p) (g ∙ q))
+
+pub returns : goal.returns
+returns c = grind (arith, common_steps)

@@ -1,4 +1,6 @@
+use Rattle.std.proofs.Common.{arith}
 use Rattle.std.proofs.Common.{◌∙◌, ap}
+use Rattle.std.proofs.lemmas.Grind.{common_steps}
 use Rattle.pf_model.specs.Log.{compared}
 use Rattle.pf_store.proofs.Numbers.{finds_copy}
 use Rattle.pf_store.proofs.taken.TakenRows.add.Goals as goal
@@ -16,3 +18,9 @@ returns-in-Some-clause-verdict c =
 pub returns-clause-verdict : goal.returns-clause-verdict
 returns-clause-verdict c =
     ap (λ o. compared o c.args.row.now.value) (c.in_default.ensures.value ∙ c.requires.found.held c.args.row.now.labels c.args.numbered c.requires.known c.args.row.now.time)
+
+pub returns-clause-rows : goal.returns-clause-rows
+returns-clause-rows c = grind (arith, common_steps)
+
+pub returns-clause-series : goal.returns-clause-series
+returns-clause-series c = grind (arith, common_steps)

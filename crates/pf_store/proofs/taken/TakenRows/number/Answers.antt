@@ -1,4 +1,6 @@
+use Rattle.std.proofs.Common.{arith}
 use Rattle.std.proofs.Common.{◌≡◌, ◌∙◌, None, ap, sym}
+use Rattle.std.proofs.lemmas.Grind.{common_steps}
 use Rattle.std.specs.HashMap.{get, hash_map_len}
 use Rattle.pf_base.specs.LabelOrder.{labels_eq}
 use Rattle.pf_block.specs.SeriesIds.{id_of}
@@ -15,3 +17,9 @@ pub returns-clause-ids : goal.returns-clause-ids
 returns-clause-ids c =
     ids_number c.args.self.now.series c.insert.new.self c.in_ok-clone.field-0 _ c.in_ok-insert.ensures.updates c.args.snap.now c.requires.ids
     (c.find.ensures ∙ ap (λ l. id_of l c.args.snap.now.labels) (sym c.in_ok-clone.ensures))
+
+pub returns-clause-known : goal.returns-clause-known
+returns-clause-known c = grind (arith, common_steps)
+
+pub returns-clause-rows : goal.returns-clause-rows
+returns-clause-rows c = grind (arith, common_steps)

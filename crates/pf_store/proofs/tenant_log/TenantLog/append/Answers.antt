@@ -1,14 +1,15 @@
 use Rattle.std.proofs.Common.{◌≡◌, ◌+◌, ◌<◌, List, length, subst, sym, ap, ◌∙◌, arith, map, true}
-use Rattle.std.specs.Arc.{arc_value}
 use Rattle.std.proofs.lemmas.Bool.Decides.{nat_tests}
+use Rattle.std.proofs.lemmas.Grind.{common_steps}
+use Rattle.std.specs.Arc.{arc_value}
 use Rattle.pf_base.specs.declared.plain.Row.{Row}
 use Rattle.pf_block.specs.Snaps.{are_new, with_rows}
 use Rattle.pf_model.specs.Log.{Change, Verdict, log_with, verdicts_of, verdicts_on, taken_rows, floor_below, newest_with}
-use Rattle.pf_store.specs.Standing.{LogData, IsAlike, IsLog, StandsFor, verdicts_after}
-use Rattle.pf_store.specs.Verdicts.{VerdictsData, verdict_of}
 use Rattle.pf_store.proofs.Logs.{none_verdicts, none_stands, some_verdicts, some_stands}
 use Rattle.pf_store.proofs.Snapshots.{alike_with}
 use Rattle.pf_store.proofs.tenant_log.TenantLog.append.Goals as goal
+use Rattle.pf_store.specs.Standing.{LogData, IsAlike, IsLog, StandsFor, verdicts_after}
+use Rattle.pf_store.specs.Verdicts.{VerdictsData, verdict_of}
 
 pub returns-then-is_empty-clause-verdicts : goal.returns-then-is_empty-clause-verdicts
 returns-then-is_empty-clause-verdicts c =
@@ -85,3 +86,9 @@ returns-clause-stands c =
     let p : new ≡ grown = (λ i. record { window = d.window; entries = c.in_ok-entries.ensures i; newest = newest i; generation = d.generation; snap = snap i }) in
     subst (λ e. (log : List Change) → IsLog e log → IsLog new (log_with log rows (verdicts_of e.window log rows))) c.self.view_is
     (λ log k. subst (λ x. IsLog x (log_with log rows (verdicts_of d.window log rows))) (sym p) (some_stands d log k rows vs tk f g z c.self.invariant.alike n))
+
+pub returns-clause-window : goal.returns-clause-window
+returns-clause-window c = grind (arith, common_steps)
+
+pub returns-clause-refused : goal.returns-clause-refused
+returns-clause-refused c = grind (arith, common_steps)

@@ -1,0 +1,12 @@
+use Rattle.std.proofs.Common.{arith}
+use Rattle.std.proofs.lemmas.Grind.{common_steps}
+use Rattle.pf_range.proofs.steps.steps_in.Goals as goal
+
+pub returns-in_err-last : goal.returns-in_err-last
+returns-in_err-last c = grind (arith, common_steps)
+
+pub loop-sample-preserved : goal.loop-sample-preserved
+loop-sample-preserved c = grind (arith, common_steps)
+
+pub returns : goal.returns
+returns c = grind (arith, common_steps)
