@@ -1,11 +1,11 @@
 -- The columns of the groups, which are found once, have at each step the aggregation of its elements.
-use Rattle.std.proofs.Common.{◌≡◌, ◌<◌, ◌+◌, ℕ, zero, suc, ℤ, Bool, true, false, cond, ◌||◌, nat_eq, Option, None, List, [], ◌∷◌, ◌++◌, map, length, take, get_or, refl, sym, ap, ◌∙◌, subst, append-nil, arith}
+use Rattle.std.proofs.Common.{◌≡◌, ◌<◌, ◌+◌, ℕ, zero, suc, ℤ, Bool, true, false, cond, ◌||◌, nat_eq, Option, None, List, [], ◌∷◌, ◌++◌, map, length, take, drop, get_or, refl, sym, ap, ◌∙◌, subst, append-nil, append_assoc, arith}
 use Rattle.std.proofs.lemmas.Bool.Decides.{nat_tests}
 use Rattle.std.specs.List.{All}
 use Rattle.std.specs.Ordering.{is_eq}
 use Rattle.std.specs.Prelude.{slice_set}
 use Rattle.std.proofs.lemmas.Grind.{take_at_read}
-use Rattle.std.proofs.lemmas.List.{get_or-set_same, get_or-set_other, length-set, map-id}
+use Rattle.std.proofs.lemmas.List.{drop_more, get_or-set_same, get_or-set_other, length-set, map-id}
 use Rattle.std.proofs.lemmas.List.Elements.{All-nil, All-cons}
 use Rattle.pf_base.specs.LabelSets.{Pairs}
 use Rattle.pf_model.specs.declared.cell.ErrorKind.{ErrorKind}
@@ -67,6 +67,23 @@ module _ (key : Pairs → Pairs) (ks : List Pairs) (r : AreRising ks) (g : ℕ) 
   those_members (c ∷ cs) a =
       let t = those_members cs a.1 in
       λ i. cond (id_is ks r (key c.labels) a.0 g h i) (c ∷ t i) (t i)
+
+-- ---- one more bucket
+
+pub bucket_next : {X : Type 0} (f : ℕ → List ℤ → Option ℤ) (columns : X → List ColumnData) (n : ℕ) (done next all : List ColumnData)
+    (bs : List X) (ls : List Pairs) (i : ℕ) (b : X) (l : Pairs) (c : ColumnData) → i < length bs → i < length ls → b ≡ get_or bs i b → l ≡ get_or ls i l
+    → c ≡ record { labels = l; values = below (λ k. f k (values_of (cell_at (columns b) k))) n } → next ≡ done ++ (c ∷ [])
+    → done ++ bucket_columns f (map columns (drop i bs)) n (drop i ls) ≡ all
+    → next ++ bucket_columns f (map columns (drop (i + 1) bs)) n (drop (i + 1) ls) ≡ all
+bucket_next f columns n done next all bs ls i b l c p q r s e m k =
+    let rest = bucket_columns f (map columns (drop (i + 1) bs)) n (drop (i + 1) ls) in
+    let buckets : drop i bs ≡ b ∷ drop (i + 1) bs = drop_more bs i b p ∙ ap (λ x. x ∷ drop (i + 1) bs) (sym r) in
+    let labels : drop i ls ≡ l ∷ drop (i + 1) ls = drop_more ls i l q ∙ ap (λ x. x ∷ drop (i + 1) ls) (sym s) in
+    ap (λ ds. ds ++ rest) m
+    ∙ append_assoc done (c ∷ []) rest
+    ∙ ap (λ d. done ++ (d ∷ rest)) e
+    ∙ sym (λ j. done ++ bucket_columns f (map columns (buckets j)) n (labels j))
+    ∙ k
 
 -- ---- the columns of the groups
 

@@ -205,6 +205,22 @@ fn group_values(
     }
 }
 
+/// The column of a bucket.
+fn column_of_bucket(
+    alloc: Global,
+    function: &GroupFn<'_>,
+    key: &Labels,
+    bucket: &[&Column],
+    len: u32,
+) -> Result<Column, OutOfMemory>
+    ensures { IfOk result (λ c. c ≡ record { labels = key.now; values = below (λ k. found_at function.now k (values_of (cell_at (map (λ c. c.now) bucket.now) k))) len }) }
+{
+    Ok(Column {
+        labels: key.clone()?,
+        values: group_values(alloc, function, bucket, len)?,
+    })
+}
+
 /// A column of each bucket.
 fn columns_of_buckets(
     alloc: Global,
@@ -218,10 +234,7 @@ fn columns_of_buckets(
 {
     let mut found = Vec::with_capacity(alloc, keys.len())?;
     for i in 0..keys.len() {
-        found.push(Column {
-            labels: keys[i].clone()?,
-            values: group_values(alloc, function, &buckets[i], len)?,
-        })?;
+        found.push(column_of_bucket(alloc, function, &keys[i], &buckets[i], len)?)?;
     }
     Ok(found)
 }

@@ -84,6 +84,21 @@ pub fn has_value(values: &[Option<Value>]) -> bool
     false
 }
 
+/// A column of copies, with room for so many values in all.
+fn copied(
+    alloc: Global,
+    labels: &Labels,
+    values: &[Option<Value>],
+    room: u32,
+) -> Result<Column, OutOfMemory>
+    ensures { IfOk result (λ c. c ≡ record { labels = labels.now; values = values.now }) }
+{
+    Ok(Column {
+        labels: labels.clone()?,
+        values: copy_of(alloc, values, room)?,
+    })
+}
+
 /// The columns that have a value at one of so many steps, with these steps' values and room for so many in all.
 pub(crate) fn cut_columns(
     alloc: Global,
@@ -98,10 +113,7 @@ pub(crate) fn cut_columns(
     for column in columns {
         let values = window(&column.values, from, len);
         if has_value(values) {
-            found.push(Column {
-                labels: column.labels.clone()?,
-                values: copy_of(alloc, values, room)?,
-            })?;
+            found.push(copied(alloc, &column.labels, values, room)?)?;
         }
     }
     Ok(found)

@@ -1,6 +1,6 @@
 //! What a vector is at each step of a run, and the call that puts columns in order.
 
-ghost use Rattle.std.specs.Prelude.{◌≡◌, ◌∷◌, ◌++◌, ℕ, [], ◌<◌, Some, None, true, false, IfOk, MatchOption};
+ghost use Rattle.std.specs.Prelude.{◌≡◌, ◌∷◌, ◌++◌, ℕ, [], ◌<◌, Some, None, true, false, IfOk, MatchOption, OnOk};
 ghost use Rattle.pf_base.specs.Sorting.{isort};
 ghost use Rattle.pf_model.specs.Cells.{cell_of};
 ghost use Rattle.pf_model.specs.Merging.{below};
@@ -15,6 +15,7 @@ use pf_model::{ErrorKind, StepCell};
 use std::alloc::Global;
 use std::cmp::Ordering;
 use std::marker::Model;
+use std::mem;
 
 /// What a vector is at each step of a run: columns by rising label sets, and the errors of steps. A step behind the last
 /// error has none, and where no step has one, `bads` is empty.
@@ -165,33 +166,30 @@ fn clashes(
     Ok(found)
 }
 
-/// The errors of steps with those of two columns of equal labels. They stay as they are where the two have none.
+/// Adds the errors of two columns of equal labels: a step where both have a value.
 #[tactic(auto, using(crate::proofs::Fusing::no_clashes))]
-fn with_clashes(
+fn add_clashes(
     alloc: Global,
-    bads: Vec<Option<ErrorKind>>,
+    bads: &mut Vec<Option<ErrorKind>>,
     a: &Column,
     b: &Column,
     len: u32,
-) -> Result<Vec<Option<ErrorKind>>, OutOfMemory>
-    ensures { IfOk result (λ v. AddsClashes len bads.items a.now b.now v.items) }
+) -> Result<(), OutOfMemory>
+    ensures { OnOk result (AddsClashes len bads.old.items a.now b.now bads.new.items) }
 {
     if are_apart(&a.values, &b.values, len) {
-        return Ok(bads);
+        return Ok(());
     }
-    let more = clashes(alloc, &bads, &a.values, &b.values, len)?;
-    Ok(more)
+    *bads = clashes(alloc, bads, &a.values, &b.values, len)?;
+    Ok(())
 }
 
-/// A column with the labels of one and the values that either of two has.
-fn fusion(alloc: Global, a: Column, b: &Column, len: u32) -> Result<Column, OutOfMemory>
-    ensures { IfOk result (λ c. IsFusion len a b.now c) }
+/// Adds the values of another column.
+fn add_values(alloc: Global, a: &mut Column, b: &Column, len: u32) -> Result<(), OutOfMemory>
+    ensures { OnOk result (IsFusion len a.old b.now a.new) }
 {
-    let values = merged(alloc, &a.values, &b.values, len)?;
-    Ok(Column {
-        labels: a.labels,
-        values,
-    })
+    a.values = merged(alloc, &a.values, &b.values, len)?;
+    Ok(())
 }
 
 /// The columns that are done, the one that those behind it may be fused with, and the errors of steps.
@@ -210,28 +208,19 @@ fn have_same_labels(a: &Column, b: &Column) -> bool
 }
 
 /// One column more: fused with the last one where their labels are equal.
-fn fuse(alloc: Global, fusing: Fusing, column: Column, len: u32) -> Result<Fusing, OutOfMemory>
-    ensures same { same_labels fusing.last.labels column.labels ≡ true → IfOk result (λ f. (f.done.items ≡ fusing.done.items)
-        × IsFusion len fusing.last column f.last × AddsClashes len fusing.bads.items fusing.last column f.bads.items) }
-    ensures other { same_labels fusing.last.labels column.labels ≡ false → IfOk result (λ f. (f.done.items ≡ fusing.done.items ++ fusing.last ∷ [])
-        × (f.last ≡ column) × (f.bads.items ≡ fusing.bads.items)) }
+fn fuse(alloc: Global, fusing: &mut Fusing, column: Column, len: u32) -> Result<(), OutOfMemory>
+    ensures same { same_labels fusing.old.last.labels column.labels ≡ true → OnOk result ((fusing.new.done.items ≡ fusing.old.done.items)
+        × IsFusion len fusing.old.last column fusing.new.last × AddsClashes len fusing.old.bads.items fusing.old.last column fusing.new.bads.items) }
+    ensures other { same_labels fusing.old.last.labels column.labels ≡ false → OnOk result ((fusing.new.done.items ≡ fusing.old.done.items ++ fusing.old.last ∷ [])
+        × (fusing.new.last ≡ column) × (fusing.new.bads.items ≡ fusing.old.bads.items)) }
 {
-    let Fusing {
-        mut done,
-        last,
-        bads,
-    } = fusing;
-    if have_same_labels(&last, &column) {
-        let bads = with_clashes(alloc, bads, &last, &column, len)?;
-        let last = fusion(alloc, last, &column, len)?;
-        return Ok(Fusing { done, last, bads });
+    if have_same_labels(&fusing.last, &column) {
+        add_clashes(alloc, &mut fusing.bads, &fusing.last, &column, len)?;
+        return add_values(alloc, &mut fusing.last, &column, len);
     }
-    done.push(last)?;
-    Ok(Fusing {
-        done,
-        last: column,
-        bads,
-    })
+    let last = mem::replace(&mut fusing.last, column);
+    fusing.done.push(last)?;
+    Ok(())
 }
 
 fn in_label_order(mut columns: Vec<Column>) -> Result<Vec<Column>, OutOfMemory>
@@ -264,7 +253,7 @@ fn fused(
         bads,
     };
     for column in rest {
-        fusing = fuse(alloc, fusing, column, len)?;
+        fuse(alloc, &mut fusing, column, len)?;
     }
     let Fusing {
         mut done,

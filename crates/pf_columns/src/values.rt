@@ -169,7 +169,7 @@ fn in_order(mut values: Vec<Value>) -> Result<Vec<Value>, OutOfMemory>
 
 /// The value at a share of the places of values that are sorted first. The least and the greatest value of all, where the
 /// share is below 0 or above 1.
-#[tactic(auto, using(crate::proofs::Ways::lowest_is, crate::proofs::Ways::highest_is, crate::proofs::Ways::below_zero, crate::proofs::Ways::above_one, crate::proofs::Ways::share_is))]
+#[tactic(auto, using(crate::proofs::Ways::share_is))]
 pub fn quantile(q: Value, values: Vec<Value>) -> Result<Value, OutOfMemory>
     ensures { IfOk result (λ v. v ≡ quantile q values.items) }
 {

@@ -257,6 +257,20 @@ fn finished_values(
     Ok(found)
 }
 
+/// The column of a group.
+fn finished_column(alloc: Global, op: AggOp, column: GroupColumn) -> Result<Column, OutOfMemory>
+    requires mergeable { is_mergeable op ≡ true }
+    requires within { Each (IsWithin 1099511627775) column.partials }
+    ensures { IfOk result (λ c. c ≡ finished_column op column) }
+{
+    let GroupColumn { key, partials } = column;
+    let values = finished_values(alloc, op, &partials)?;
+    Ok(Column {
+        labels: key,
+        values,
+    })
+}
+
 fn finished_columns(
     alloc: Global,
     op: AggOp,
@@ -268,12 +282,7 @@ fn finished_columns(
 {
     let mut found = Vec::with_capacity(alloc, columns.len())?;
     for column in columns {
-        let GroupColumn { key, partials } = column;
-        let values = finished_values(alloc, op, &partials)?;
-        found.push(Column {
-            labels: key,
-            values,
-        })?;
+        found.push(finished_column(alloc, op, column)?)?;
     }
     Ok(found)
 }

@@ -32,12 +32,12 @@ loop-column-preserved c =
     let l = c.loop-column in
     let steps : into_iter_items l.column-iterator ≡ c.in-Some-column.column ∷ into_iter_items c.next-in-loop-column.new.self = c.in-Some-column.ensures.steps.0 in
     let bads = c.args.bads.items in
-    let after = c.in_ok-fusing.fusing in
+    let after = c.fuse.new.fusing in
     let behind = into_iter_items c.next-in-loop-column.new.self in
     let cs = isort column_cmp c.args.columns.items in (
       fused_more cs bads c.args.len l.fusing.done.items after.done.items l.fusing.last c.in-Some-column.column after.last l.fusing.bads.items after.bads.items behind
           (subst (λ ds. AreFused cs bads c.args.len l.fusing.done.items l.fusing.last l.fusing.bads.items ds) steps l.invariant.0)
-          c.in_ok-fusing.ensures.same c.in_ok-fusing.ensures.other,
+          c.in_ok-fuse.ensures.same c.in_ok-fuse.ensures.other,
       let was = l.invariant.1 in
           let gone = c.in-Some-column.ensures.steps.1 in
           let short = ap length steps in

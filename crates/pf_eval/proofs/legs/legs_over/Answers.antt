@@ -1,4 +1,5 @@
-use Rattle.std.proofs.Common.{rules, ℕ, List, map, Vec, Global, ap, subst, sym, ◌∙◌}
+use Rattle.std.proofs.Common.{rules, ℕ, List, map, Vec, Global, ap, subst, sym, ◌∙◌, arith}
+use Rattle.std.proofs.lemmas.Grind.{common_steps}
 use Rattle.std.specs.Arc.{arc_value}
 use Rattle.pf_model.specs.Binding.{selectors_of}
 use Rattle.pf_model.specs.Sharding.{legs_over}
@@ -29,3 +30,15 @@ returns-clause-bound c =
     (ap (map list) c.deref-2.ensures.value ∙ ap (λ (x : ResolvedData). x.series) c.behind-legs.view_is ∙ ap (λ (x : ResolvedData). x.series) c.deref.ensures
     ∙ ap (λ (l : ResolvedLegs). l.resolved.series) c.legs.view_is ∙ ap (λ (l : ResolvedLegs). l.resolved.series) c.in_ok-legs.ensures.legs)
     c.in_ok-series.ensures
+
+pub returns-then-is_empty-clause-data : goal.returns-then-is_empty-clause-data
+returns-then-is_empty-clause-data c = grind (arith, common_steps)
+
+pub returns-then-is_empty-clause-lawful : goal.returns-then-is_empty-clause-lawful
+returns-then-is_empty-clause-lawful c = grind (arith, common_steps)
+
+pub returns-clause-data : goal.returns-clause-data
+returns-clause-data c = grind (arith, common_steps)
+
+pub returns-clause-lawful : goal.returns-clause-lawful
+returns-clause-lawful c = grind (arith, common_steps)
