@@ -39,8 +39,7 @@ pub fn aggregate(
 {
     let plan = Plan::of(op, param);
     let groups = groups_of(alloc, grouping, &cell.elements)?;
-    let found = made(alloc, &plan, &groups)?;
-    Ok(found)
+    made(alloc, &plan, &groups)
 }
 
 /// What is known of each group of a vector: its key, the exact sum of its values in micros, which isn't moved into the bounds,

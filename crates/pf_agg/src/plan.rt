@@ -160,14 +160,8 @@ pub(crate) fn made(alloc: Global, plan: &Plan, groups: &Groups<'_>) -> Result<Ce
     ensures { IfOk result (λ c. c ≡ planned plan.now (grouped groups.now.keys.items (map (λ b. map (λ e. e.now) b.items) groups.now.buckets.items))) }
 {
     match plan {
-        Plan::Each { value } => {
-            let cell = each(alloc, value, &groups.keys, &groups.buckets)?;
-            Ok(cell)
-        }
-        Plan::First { rank, most } => {
-            let cell = first_of_groups(alloc, *rank, *most, groups)?;
-            Ok(cell)
-        }
+        Plan::Each { value } => { each(alloc, value, &groups.keys, &groups.buckets) }
+        Plan::First { rank, most } => { first_of_groups(alloc, *rank, *most, groups) }
         Plan::Nothing => Ok(Cell {
             elements: Vec::new(alloc),
         }),

@@ -150,6 +150,5 @@ pub(crate) fn first_of_each(
     for bucket in buckets {
         push_first(alloc, &mut found, rank, most, bucket)?;
     }
-    let cell = in_label_order(found)?;
-    Ok(cell)
+    in_label_order(found)
 }

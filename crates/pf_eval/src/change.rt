@@ -147,8 +147,7 @@ pub(crate) fn signed(alloc: Global, minus: bool, arg: Node, len: u32) -> Result<
     if !minus {
         return Ok(arg);
     }
-    let found = negation(alloc, arg, len)?;
-    Ok(found)
+    negation(alloc, arg, len)
 }
 
 /// An operator of two scalars.

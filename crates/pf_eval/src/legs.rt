@@ -87,15 +87,14 @@ fn resolved_steps(
     ensures { IfOk result (λ s. (samples : List Row) → StandsFor snap.now samples → AreApart samples → (k : ℕ) → k < run.now.len
         → step_at s k ≡ eval samples resolved.now.query (pos (run.now.start + k * run.now.step))) }
 {
-    let steps = steps_over(
+    steps_over(
         alloc,
         &resolved.expr,
         &resolved.series,
         &resolved.patterns,
         snap,
         run,
-    )?;
-    Ok(steps)
+    )
 }
 
 /// What a shard knows of the groups of an aggregation over a run, from the series of the shard that its selector reads.

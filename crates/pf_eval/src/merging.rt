@@ -93,8 +93,7 @@ fn steps_from_groups(
         &mut groups,
         times,
     )?;
-    let steps = steps_of(alloc, node)?;
-    Ok(steps)
+    steps_of(alloc, node)
 }
 
 /// What a query is at each step that is evaluated shard by shard.

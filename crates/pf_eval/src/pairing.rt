@@ -76,8 +76,7 @@ fn places_of(
     ensures { IfOk result (λ x. x ≡ isort place_cmp (placed 0 (column_keys matching.now columns.now))) }
 {
     let keys = keys_of(alloc, matching, columns)?;
-    let found = KeyPlaces::of(alloc, keys)?;
-    Ok(found)
+    KeyPlaces::of(alloc, keys)
 }
 
 /// The columns of a key, by the places of their keys, and how many keys are lesser: about so many as are told.
@@ -496,8 +495,7 @@ fn pair_operation(
         len,
     )?;
     let bads = pair_bads(alloc, op, matching, left, right, keys, &places, &pairs, len)?;
-    let found = normalised(alloc, pairs, bads, len)?;
-    Ok(found)
+    normalised(alloc, pairs, bads, len)
 }
 
 /// An operator between two vectors. Of two errors of a step the left one comes.
@@ -516,6 +514,5 @@ pub(crate) fn joined(
         let found = set_operation(alloc, op, matching, left, right, len)?;
         return Ok(found);
     }
-    let found = pair_operation(alloc, op, matching, left, right, len)?;
-    Ok(found)
+    pair_operation(alloc, op, matching, left, right, len)
 }

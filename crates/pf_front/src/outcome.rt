@@ -103,8 +103,7 @@ pub(crate) fn found_of_whole(alloc: Global, core: &Core, query: u64) -> Result<F
     ensures whole { IfOk result (λ found. (o : Open) → open_at query (machine_of core.now).queries ≡ Some o → IsWholeFound core.now.limits o found) }
 {
     let gathered = whole_parts(alloc, core, query)?;
-    let found = found_of_parts(alloc, core, query, gathered)?;
-    Ok(found)
+    found_of_parts(alloc, core, query, gathered)
 }
 
 /// The matrix of the cells of an open query's pieces.

@@ -36,8 +36,7 @@ fn part_of(alloc: Global, held: &Held) -> Result<Part, OutOfMemory>
     requires bound { AreBoundOver (arc_value held.now.legs) (arc_value held.now.snap).labels }
     ensures { IfOk result (λ p. (c : CoreData) → StandsForAsk c held.now → IsPartOf c held.now p) }
 {
-    let part = eval_leg(alloc, &held.legs, held.head.leg, &held.snap, &held.run)?;
-    Ok(part)
+    eval_leg(alloc, &held.legs, held.head.leg, &held.snap, &held.run)
 }
 
 /// Lets a job whose way failed wait again.

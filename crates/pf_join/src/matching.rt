@@ -91,8 +91,7 @@ fn index_of(
     ensures { IfOk result (λ x. x ≡ isort keyed_cmp (keyed matching.now elements.now)) }
 {
     let entries = keyed(alloc, matching, elements)?;
-    let index = KeyIndex::of(entries)?;
-    Ok(index)
+    KeyIndex::of(entries)
 }
 
 fn has_match(matching: &Matching, others: &KeyIndex, element: &Element) -> Result<bool, OutOfMemory>
@@ -148,8 +147,7 @@ fn matched(
     ensures { IfOk result (λ v. v.items ≡ filter (has_match matching.now others.now) elements.now) }
 {
     let index = index_of(alloc, matching, others)?;
-    let found = those_with(alloc, matching, &index, elements)?;
-    Ok(found)
+    those_with(alloc, matching, &index, elements)
 }
 
 fn copies_of(alloc: Global, elements: &[Element]) -> Result<Vec<Element>, OutOfMemory>
@@ -432,8 +430,7 @@ fn joined_pairs(
 {
     let entries = keyed(alloc, matching, lefts)?;
     let index = index_of(alloc, matching, rights)?;
-    let cell = joined_keyed(alloc, op, matching, &entries, &index)?;
-    Ok(cell)
+    joined_keyed(alloc, op, matching, &entries, &index)
 }
 
 /// The value of an operator at two vectors.

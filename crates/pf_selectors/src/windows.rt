@@ -235,8 +235,7 @@ fn absent_cells(
         labels: labels.clone()?,
         values: absent_values(alloc, range, snap, ids, times)?,
     })?;
-    let found = normalised(alloc, columns, Vec::new(alloc), times.len)?;
-    Ok(found)
+    normalised(alloc, columns, Vec::new(alloc), times.len)
 }
 
 /// What another function is at each step.
@@ -255,8 +254,7 @@ fn over_each(
     ensures { IfOk result (λ s. (k : ℕ) → k < times.now.len → step_at s k ≡ cell_of (cell_at (map (range_column f range snap.now times.now) ids.now) k)) }
 {
     let columns = range_columns(alloc, f, range, snap, ids, times)?;
-    let found = normalised(alloc, columns, Vec::new(alloc), times.len)?;
-    Ok(found)
+    normalised(alloc, columns, Vec::new(alloc), times.len)
 }
 
 /// What a function of a range selector is at each step, where `ids` are the series that its matchers accept, in label

@@ -59,8 +59,7 @@ fn evaluated(
     let pin = pinned(alloc, batch)?;
     let asked = query.asked(alloc, When::Range(grid))?;
     let body = evaluate(alloc, &asked, &pin.snap)?;
-    let text = printed(alloc, &body)?;
-    Ok(text)
+    printed(alloc, &body)
 }
 
 /// What is printed of a refusal.
@@ -68,24 +67,21 @@ fn evaluated(
 fn refused(alloc: Global, message: Text) -> Result<Vec<u8>, OutOfMemory>
     ensures { IfOk result (λ v. v.items ≡ evaluation_text (codes "400") (refused_body message)) }
 {
-    let text = printed(alloc, &Body::Refused(message))?;
-    Ok(text)
+    printed(alloc, &Body::Refused(message))
 }
 
 fn refused_query(alloc: Global, error: &QueryError) -> Result<Vec<u8>, OutOfMemory>
     ensures { IfOk result (λ v. v.items ≡ evaluation_text (codes "400") (refused_body (words_of_error error.now))) }
 {
     let message = error_text(alloc, error)?;
-    let text = refused(alloc, message)?;
-    Ok(text)
+    refused(alloc, message)
 }
 
 fn refused_grid(alloc: Global, error: GridError) -> Result<Vec<u8>, OutOfMemory>
     ensures { IfOk result (λ v. v.items ≡ evaluation_text (codes "400") (refused_body (grid_text error))) }
 {
     let message = grid_text(alloc, error)?;
-    let text = refused(alloc, message)?;
-    Ok(text)
+    refused(alloc, message)
 }
 
 /// What is printed over a grid.
