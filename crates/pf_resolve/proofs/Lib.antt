@@ -1,8 +1,10 @@
+pub mod Edges
 pub mod Kept
 pub mod Levels
 pub mod Multiples
 pub mod Readings
 pub mod Resolved
+pub mod Rising
 pub mod Selectors
 pub mod Settling
 pub mod Variants

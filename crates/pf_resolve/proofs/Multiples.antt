@@ -10,12 +10,12 @@ use Rattle.pf_model.specs.Reach.{Times, all_together, together}
 up_times : (a d : ℕ) → pos a *ℤ pos d ≡ pos (a * d)
 up_times a d = refl
 
-down_times : (a d : ℕ) → negsuc a *ℤ pos d ≡ neg_ℤ (pos (suc a * d))
+pub down_times : (a d : ℕ) → negsuc a *ℤ pos d ≡ neg_ℤ (pos (suc a * d))
 down_times a d = refl
 
 -- a step that isn't 0
 module _ (d : ℕ) (s : 0 < d) where
-  up_to : (m z : ℤ) → m ≤ℤ cut_down z d → (m *ℤ pos d) ≤ℤ z
+  pub up_to : (m z : ℤ) → m ≤ℤ cut_down z d → (m *ℤ pos d) ≤ℤ z
   up_to (pos a) (pos n) h =
       let p : a * d ≤ (n / d) * d = mul-le-mul_right d (omega (arith, ints, h)) in omega (arith, ints, p, div-add-mod' n d)
   up_to (pos a) (negsuc n) h = absurd (omega (arith, ints, h))
@@ -24,7 +24,7 @@ module _ (d : ℕ) (s : 0 < d) where
       let p : suc (n / d) * d ≤ suc a * d = mul-le-mul_right d (omega (arith, ints, h)) in
       omega (arith, ints, p, div-add-mod' n d, mod-lt n s, down_times a d)
 
-  above : (m z : ℤ) → cut_down z d <ℤ m → z <ℤ (m *ℤ pos d)
+  pub above : (m z : ℤ) → cut_down z d <ℤ m → z <ℤ (m *ℤ pos d)
   above (pos a) (pos n) h =
       let p : suc (n / d) * d ≤ a * d = mul-le-mul_right d (omega (arith, ints, h)) in omega (arith, ints, p, div-add-mod' n d, mod-lt n s)
   above (pos a) (negsuc n) h = omega (arith, ints)

@@ -1,5 +1,6 @@
 pub mod Bounds
+pub mod Ends
 pub mod Forms
 pub mod Reading
 pub mod Settled
-pub mod TimesRead
+pub mod Steady

@@ -4,11 +4,13 @@ ghost use Rattle.std.specs.Prelude.{◌≡◌, ◌+◌, ◌*◌, ◌<◌, ◌≤
 ghost use Rattle.pf_base.specs.Limits.{greatest_time};
 ghost use Rattle.pf_model.specs.Evaluation.{fixed_time, multiples, read_time};
 ghost use Rattle.pf_model.specs.Micros.{cut_down};
-ghost use Rattle.pf_model.specs.Reach.{all_times_read, all_together, lowest, reach, times_read, together, window_times};
+ghost use Rattle.pf_model.specs.Reach.{all_times_read, all_together, lowest, reach, times_read};
 ghost use Rattle.pf_model.specs.Trees.{height, heights, tree_of, trees_of};
 ghost use Rattle.pf_resolve.specs.Bounds.{HasRoom, are_small, are_small_mods, is_small, is_small_at};
-ghost use Rattle.pf_resolve.specs.TimesRead.{times_in};
+ghost use Rattle.pf_resolve.specs.Ends.{behind, end_of, farther, farther_of, window_end};
+ghost use Rattle.pf_resolve.specs.Steady.{are_steady, is_steady};
 
+use crate::steady::is_steady;
 use pf_model::{At, Expr, Mods};
 
 /// How far back an instant selector reads, in milliseconds.
@@ -17,16 +19,25 @@ const LOOKBACK: u64 = 300_000;
 /// One minute, in milliseconds.
 const MINUTE: u64 = 60_000;
 
-/// The least and the greatest of some times.
+/// Which end of the times that are read.
 #[derive(Clone, Copy)]
-struct Times {
-    earliest: i64,
-    latest: i64,
+enum End {
+    Earliest,
+    Latest,
 }
 
-/// Both together, where there is one.
-fn together(left: Option<Times>, right: Option<Times>) -> Option<Times>
-    ensures { times_in result ≡ together (times_in left) (times_in right) }
+fn farther(end: End, left: i64, right: i64) -> i64
+    ensures { result ≡ farther end left right }
+{
+    match end {
+        End::Earliest => left.min(right),
+        End::Latest => left.max(right),
+    }
+}
+
+/// The one that lies farther out, where there is one.
+fn farther_of(end: End, left: Option<i64>, right: Option<i64>) -> Option<i64>
+    ensures { result ≡ farther_of end left right }
 {
     let Some(a) = left else {
         return right;
@@ -34,10 +45,7 @@ fn together(left: Option<Times>, right: Option<Times>) -> Option<Times>
     let Some(b) = right else {
         return left;
     };
-    Some(Times {
-        earliest: a.earliest.min(b.earliest),
-        latest: a.latest.max(b.latest),
-    })
+    Some(farther(end, a, b))
 }
 
 fn fixed_time(at: Option<At>, t: i64) -> i64
@@ -74,15 +82,15 @@ fn cut_down(time: i64, step: u64) -> i64
     time.div_euclid(step as i64)
 }
 
-/// The times that a selector reads whose window ends at a time.
-fn window_times(range: u64, to: i64) -> Times
+/// An end of the times that a selector reads whose window ends at a time.
+fn window_end(end: End, range: u64, to: i64) -> i64
     requires small { range ≤ greatest_time }
     requires room { unsigned_abs to ≤ 2251799813685248 }
-    ensures { times_in (Some result) ≡ window_times range to }
+    ensures { result ≡ window_end end range to }
 {
-    Times {
-        earliest: to - range as i64 + 1,
-        latest: to,
+    match end {
+        End::Earliest => to - range as i64 + 1,
+        End::Latest => to,
     }
 }
 
@@ -139,52 +147,91 @@ fn window_start(range: u64, to: i64) -> i64
     to - range as i64
 }
 
-/// The times that a subquery's expression reads whose window ends at a time, at the multiples of a step.
+/// How many of some times stand behind the first or the last of them.
+fn behind(end: End, count: u64) -> u64
+    requires some { 0 < count }
+    ensures value { result ≡ behind end count }
+    ensures within { result < count }
+{
+    match end {
+        End::Earliest => count - 1,
+        End::Latest => 0,
+    }
+}
+
+/// An end of the times that a steady subquery's expression reads whose window ends at a time. It is asked at one multiple of the
+/// step, the first or the last.
 #[cycle(times)]
-fn times_at_multiples(arg: &Expr, range: u64, step: u64, to: i64) -> Option<Times>
+fn end_at_edge(arg: &Expr, end: End, range: u64, step: u64, to: i64) -> Option<i64>
+    requires steady { is_steady (tree_of arg.now) ≡ true }
     requires small { is_small (tree_of arg.now) ≡ true }
     requires range { range ≤ greatest_time }
     requires step { step ≤ greatest_time }
     requires room { unsigned_abs to + greatest_time + 17592186044416 * height (tree_of arg.now) ≤ 2251799813685248 }
-    ensures { times_in result ≡ all_together (map (λ u. times_read (tree_of arg.now) u) (multiples step (to -ℤ pos range) to)) }
+    ensures { result ≡ end_of end (all_together (map (λ u. times_read (tree_of arg.now) u) (multiples step (to -ℤ pos range) to))) }
 {
     let from = window_start(range, to);
-    let mut times = None;
-    for k in 0..count_of(step, from, to) {
-        times = together(times_read(arg, multiple(step, from, to, k)), times);
+    let count = count_of(step, from, to);
+    if count == 0 {
+        return None;
     }
-    times
+    read_end(arg, end, true, multiple(step, from, to, behind(end, count)))
+}
+
+/// The same of any expression, which is asked at each multiple.
+#[cycle(times)]
+fn end_at_multiples(arg: &Expr, end: End, range: u64, step: u64, to: i64) -> Option<i64>
+    requires small { is_small (tree_of arg.now) ≡ true }
+    requires range { range ≤ greatest_time }
+    requires step { step ≤ greatest_time }
+    requires room { unsigned_abs to + greatest_time + 17592186044416 * height (tree_of arg.now) ≤ 2251799813685248 }
+    ensures { result ≡ end_of end (all_together (map (λ u. times_read (tree_of arg.now) u) (multiples step (to -ℤ pos range) to))) }
+{
+    let from = window_start(range, to);
+    let mut found = None;
+    for k in 0..count_of(step, from, to) {
+        let read = read_end(arg, end, false, multiple(step, from, to, k));
+        found = farther_of(end, read, found);
+    }
+    found
 }
 
 #[cycle(times)]
-fn all_times_read(args: &[Expr], t: i64) -> Option<Times>
+fn end_of_all(args: &[Expr], end: End, steady: bool, t: i64) -> Option<i64>
+    requires steady { steady ≡ true → are_steady (trees_of (map tree_of args.now)) ≡ true }
     requires small { are_small (trees_of (map tree_of args.now)) ≡ true }
     requires room { unsigned_abs t + 17592186044416 * heights (trees_of (map tree_of args.now)) ≤ 2251799813685248 }
-    ensures { times_in result ≡ all_times_read (trees_of (map tree_of args.now)) t }
+    ensures { result ≡ end_of end (all_times_read (trees_of (map tree_of args.now)) t) }
 {
-    let mut times = None;
+    let mut found = None;
     for arg in args {
-        times = together(times, times_read(arg, t));
+        found = farther_of(end, found, read_end(arg, end, steady, t));
     }
-    times
+    found
 }
 
-/// The times that a query may read at a time; none where it reads nothing.
+/// An end of the times that a query may read at a time, none where it reads nothing. `steady` is true only of a steady one.
 #[cycle(times)]
-fn times_read(expr: &Expr, t: i64) -> Option<Times>
+fn read_end(expr: &Expr, end: End, steady: bool, t: i64) -> Option<i64>
+    requires steady { steady ≡ true → is_steady (tree_of expr.now) ≡ true }
     requires small { is_small (tree_of expr.now) ≡ true }
     requires room { HasRoom (tree_of expr.now) t }
-    ensures { times_in result ≡ times_read (tree_of expr.now) t }
+    ensures { result ≡ end_of end (times_read (tree_of expr.now) t) }
 {
     match expr {
         Expr::Number { .. } => None,
         Expr::Text { .. } => None,
-        Expr::Unary { arg, .. } => times_read(arg, t),
-        Expr::Binary { left, right, .. } => together(times_read(left, t), times_read(right, t)),
-        Expr::Call { args, .. } => all_times_read(args, t),
-        Expr::Aggregate { args, .. } => all_times_read(args, t),
+        Expr::Unary { arg, .. } => read_end(arg, end, steady, t),
+        Expr::Binary { left, right, .. } => farther_of(
+            end,
+            read_end(left, end, steady, t),
+            read_end(right, end, steady, t),
+        ),
+        Expr::Call { args, .. } => end_of_all(args, end, steady, t),
+        Expr::Aggregate { args, .. } => end_of_all(args, end, steady, t),
         Expr::Select { range, mods, .. } => {
-            Some(window_times(range.unwrap_or(LOOKBACK), read_time(*mods, t)))
+            let to = read_time(*mods, t);
+            Some(window_end(end, range.unwrap_or(LOOKBACK), to))
         }
         Expr::Subquery {
             arg,
@@ -193,31 +240,34 @@ fn times_read(expr: &Expr, t: i64) -> Option<Times>
             mods,
         } => {
             let to = read_time(*mods, t);
-            times_at_multiples(arg, *range, resolution.unwrap_or(MINUTE), to)
+            let step = resolution.unwrap_or(MINUTE);
+            if steady || is_steady(arg) {
+                end_at_edge(arg, end, *range, step, to)
+            } else {
+                end_at_multiples(arg, end, *range, step, to)
+            }
         }
     }
 }
 
 /// The latest time in milliseconds that a query may read at a time, none where it reads nothing. It takes no memory, and calls
-/// itself as deep as the tree is high; a subquery's expression is asked at each of its times.
+/// itself as deep as the tree is high. A subquery's expression is asked at one of its times where it is steady, else at each.
 pub fn reach(expr: &Expr, t: i64) -> Option<i64>
     requires tall { height (tree_of expr.now) ≤ 64 }
     requires small { is_small (tree_of expr.now) ≡ true }
     requires time { (pos 0 ≤ℤ t) × (t ≤ℤ pos greatest_time) }
     ensures { result ≡ reach (tree_of expr.now) t }
 {
-    let times = times_read(expr, t)?;
-    Some(times.latest)
+    read_end(expr, End::Latest, false, t)
 }
 
 /// The earliest time in milliseconds that a query may read at a time, none where it reads nothing. It takes no memory, and calls
-/// itself as deep as the tree is high; a subquery's expression is asked at each of its times.
+/// itself as deep as the tree is high. A subquery's expression is asked at one of its times where it is steady, else at each.
 pub fn lowest(expr: &Expr, t: i64) -> Option<i64>
     requires tall { height (tree_of expr.now) ≤ 64 }
     requires small { is_small (tree_of expr.now) ≡ true }
     requires time { (pos 0 ≤ℤ t) × (t ≤ℤ pos greatest_time) }
     ensures { result ≡ lowest (tree_of expr.now) t }
 {
-    let times = times_read(expr, t)?;
-    Some(times.earliest)
+    read_end(expr, End::Earliest, false, t)
 }

@@ -1,19 +1,21 @@
 use Rattle.std.proofs.Common.{◌≡◌, ◌+◌, ◌*◌, ◌≤◌, ◌-ℤ◌, pos, true, map, drop, unsigned_abs}
 use Rattle.pf_model.specs.Evaluation.{multiples_behind}
 use Rattle.pf_model.specs.Micros.{cut_down}
-use Rattle.pf_model.specs.Reach.{all_times_read, all_together, times_read, together}
+use Rattle.pf_model.specs.Reach.{all_times_read, all_together, times_read}
 use Rattle.pf_model.specs.Trees.{heights, tree_of, trees_of}
 use Rattle.pf_resolve.specs.Bounds.{are_small}
-use Rattle.pf_resolve.specs.TimesRead.{times_in}
+use Rattle.pf_resolve.specs.Ends.{end_of, farther_of}
+use Rattle.pf_resolve.specs.Steady.{are_steady}
 use Rattle.pf_resolve.proofs.reading.+times.Given as goal
 
-abbrev pub invariant-times_at_multiples-loop-k : goal.invariant-times_at_multiples-loop-k
-invariant-times_at_multiples-loop-k l =
-    times_in l.times ≡ all_together (map (λ u. times_read (tree_of l.arg) u) (multiples_behind (pos l.step) (cut_down l.to l.step -ℤ pos l.k) l.k))
+abbrev pub invariant-end_at_multiples-loop-k : goal.invariant-end_at_multiples-loop-k
+invariant-end_at_multiples-loop-k l =
+    l.found ≡ end_of l.end (all_together (map (λ u. times_read (tree_of l.arg) u) (multiples_behind (pos l.step) (cut_down l.to l.step -ℤ pos l.k) l.k)))
 
-abbrev pub invariant-all_times_read-loop-arg : goal.invariant-all_times_read-loop-arg
-invariant-all_times_read-loop-arg l = record {
+abbrev pub invariant-end_of_all-loop-arg : goal.invariant-end_of_all-loop-arg
+invariant-end_of_all-loop-arg l = record {
+  steady : l.steady ≡ true → are_steady (trees_of (map tree_of (drop l.arg-index l.args))) ≡ true;
   small : are_small (trees_of (map tree_of (drop l.arg-index l.args))) ≡ true;
   room : unsigned_abs l.t + 17592186044416 * heights (trees_of (map tree_of (drop l.arg-index l.args))) ≤ 2251799813685248;
-  read : together (times_in l.times) (all_times_read (trees_of (map tree_of (drop l.arg-index l.args))) l.t) ≡ all_times_read (trees_of (map tree_of l.args)) l.t;
+  read : farther_of l.end l.found (end_of l.end (all_times_read (trees_of (map tree_of (drop l.arg-index l.args))) l.t)) ≡ end_of l.end (all_times_read (trees_of (map tree_of l.args)) l.t);
 }

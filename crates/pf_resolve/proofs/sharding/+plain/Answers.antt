@@ -1,7 +1,7 @@
 use Rattle.std.proofs.Common.{◌∙◌, refl, sym, arith}
 use Rattle.std.proofs.lemmas.Grind.{common_steps}
 use Rattle.pf_model.specs.Sharding.{is_plain}
-use Rattle.pf_resolve.proofs.Variants.{number_is, text_is, unary_is, call_is, aggregate_is, select_is, subquery_is}
+use Rattle.pf_resolve.proofs.Variants.{number_is, text_is, unary_is, call_is, aggregate_is, subquery_is}
 use Rattle.pf_resolve.proofs.sharding.+plain.Goals as goal
 
 pub is_plain-returns-in-Number : goal.is_plain-returns-in-Number
