@@ -1,5 +1,5 @@
 -- What another queue of one tenant leaves of all queues. This project's own.
-use Rattle.std.proofs.Common.{◌≡◌, ◌≢◌, ◌∙◌, ℕ, zero, suc, ◌+◌, ◌≤◌, ◌<◌, Bool, true, false, not, eqb, nat_lt, List, [], ◌∷◌, ◌++◌, filter, length, get_or, slice_set, sum_by, refl, sym, ap, subst, arith, length-append}
+use Rattle.std.proofs.Common.{◌≡◌, ◌≢◌, ◌∙◌, ℕ, zero, suc, ◌+◌, ◌≤◌, ◌<◌, Bool, true, false, cond, not, eqb, nat_lt, List, [], ◌∷◌, ◌++◌, filter, length, get_or, slice_set, sum_by, refl, sym, ap, subst, arith, length-append}
 use Rattle.std.proofs.lemmas.Bool.{eqb-true, eqb-false}
 use Rattle.std.proofs.lemmas.Bool.Decides.{nat_tests}
 use Rattle.std.proofs.lemmas.List.{get_or-set_same, get_or-set_other, get_or_default, length-set}
@@ -7,12 +7,12 @@ use Rattle.std.proofs.lemmas.List.Filters.{sum_by-filter_both}
 use Rattle.std.proofs.lemmas.List.Sums.{sum_by-append, sum_by-set}
 use Rattle.std.proofs.Math.ListN.{get_or-eq_default}
 use Rattle.pf_queue.specs.Rings.{AreDifferent, waits, without}
-use Rattle.pf_query.specs.Jobs.{QueueData, is_empty, no_queue, tries_left_in, tries_left_of}
+use Rattle.pf_query.specs.Jobs.{QueueData, is_empty, is_other_hand, is_other_job, no_queue, tries_left_in, tries_left_of}
 use Rattle.pf_journal.specs.Machine.{most_tenants}
-use Rattle.pf_query.specs.Queueing.{AreEmpty, AreQueues, AreWith, queue_in, ring_in, tries_left, waiting_in}
+use Rattle.pf_query.specs.Queueing.{AreEmpty, AreNotInHand, AreNotWaiting, AreQueues, AreWith, hands_in, queue_in, ring_in, tries_left, waiting_in}
 use Rattle.pf_query.specs.declared.job.Job.{Job}
 use Rattle.pf_query.specs.declared.queues.Queues.{Queues}
-use Rattle.pf_query.proofs.Turns.{Turns, last_in, taken_out}
+use Rattle.pf_query.proofs.Turns.{Turns, last_in, taken_out, without_other}
 
 below_by : (v n : ℕ) (b : Bool) → nat_lt v n ≡ b → (n ≤ v → ⊥) → v < n
 below_by v n true e h = grind (arith, nat_tests)
@@ -152,6 +152,25 @@ fewer old u d e q below was p h =
     let w : tries_left_in (waiting_in old u) ≡ tries_left_in d.waiting = ap (λ x. tries_left_in x.waiting) (sym (read old u d known was)) in
     let v : tries_left_in e.waiting ≡ tries_left_in (filter p d.waiting) = ap tries_left_in h in
     omega (arith, k, s, w, v)
+
+-- ---- a query has no job
+
+same_ring : (q : Queues) (u : ℕ) (b : Bool) → is_empty (waiting_in q u) ≡ b → AreQueues q → ring_in q ≡ cond b (without u (ring_in q)) (ring_in q)
+same_ring q u true e h = sym (without_other u (ring_in q) (h.in_ring u ∙ ap not e))
+same_ring q u false e h = refl
+
+-- where none of its jobs waits, none is taken out
+pub none_waited : (q : Queues) (u query : ℕ) → AreQueues q → filter (is_other_job query) (waiting_in q u) ≡ waiting_in q u → AreNotWaiting q u query q
+none_waited q u query h e = record {
+  waiting = sym e;
+  hands = refl;
+  others = λ v d. record { waiting = refl; hands = refl };
+  ring = same_ring q u (is_empty (filter (is_other_job query) (waiting_in q u))) (ap is_empty (sym e)) h;
+}
+
+-- and where none is in hand
+pub none_held : (q : Queues) (u query : ℕ) → filter (is_other_hand query) (hands_in q u) ≡ hands_in q u → AreNotInHand q u query q
+none_held q u query e = record { waiting = refl; hands = sym e; others = λ v d. record { waiting = refl; hands = refl }; ring = refl }
 
 -- ---- no tenant has a job yet
 

@@ -1,5 +1,6 @@
 -- Every table stays one: calls that open, plan, close and look. This project's own.
-use Rattle.std.proofs.Common.{◌≡◌, ◌∙◌, ℕ, ◌+◌, ◌<◌, ◌≤◌, inl, inr, Bool, true, false, cond, nat_eq, Option, Some, None, List, length, filter, refl, sym, ap, subst, arith}
+use Rattle.std.proofs.Common.{◌≡◌, ◌∙◌, ℕ, ◌+◌, ◌<◌, ◌≤◌, inl, inr, Bool, true, false, cond, nat_eq, Option, Some, None, List, length, filter, nat_lt, refl, sym, ap, subst, arith}
+use Rattle.std.proofs.lemmas.Bool.Decides.{nat_tests}
 use Rattle.std.specs.HashMap.{get}
 use Rattle.std.specs.Option.{option_map}
 use Rattle.std.specs.Prelude.{IfErr, Result, Err}
@@ -8,10 +9,10 @@ use Rattle.pf_block.specs.Snaps.{SnapData}
 use Rattle.pf_queue.specs.Rings.{without}
 use Rattle.pf_shard.specs.Lawful.{IsLawful, ResolvedLegs, legs_data}
 use Rattle.pf_journal.specs.Machine.{most_tenants}
-use Rattle.pf_query.specs.Entries.{is_planned, opened_entry, planned_entry, state_of, with_change}
+use Rattle.pf_query.specs.Entries.{is_planned, may_be_in_hand, may_wait, opened_entry, planned_entry, state_of, with_change}
 use Rattle.pf_query.specs.Jobs.{is_empty, is_other_hand, is_other_job, tries_left_in}
 use Rattle.pf_query.specs.Queueing.{AreAdded, AreNotInHand, AreNotWaiting, AreQueues, AreSame, AreWith, IsSameQueue, hands_in, ring_in, tries_left, waiting_in}
-use Rattle.pf_query.specs.Tables.{AreLeft, AreTried, EntryData, Ends, IsCounted, IsOpened, IsPlannedOver, IsSameTable, IsTable, IsUnplanned, data_of, entry_in, hands_with, jobs_in, ring_without, tried_by, tries_in_hand, tries_waiting}
+use Rattle.pf_query.specs.Tables.{AreLeft, AreTried, EntryData, Ends, IsCounted, IsOpened, IsPlannedOver, IsSameTable, IsTable, IsUnplanned, IsWaiting, data_of, entry_in, hands_with, is_of, jobs_in, ring_without, tried_by, tries_in_hand, tries_waiting}
 use Rattle.pf_query.specs.Works.{ArePlanned, WorkData, planned_work}
 use Rattle.pf_query.specs.declared.answers.PlanError.{PlanError}
 use Rattle.pf_query.specs.declared.answers.PlanError.TheVariants as plan_error
@@ -29,7 +30,7 @@ use Rattle.pf_query.proofs.Counting.{counted_after, counted_equal, counted_stopp
 use Rattle.pf_query.proofs.Entering.{Raw, Told, data_else, data_here, data_sets, raw_else, raw_here, told}
 use Rattle.pf_query.proofs.Naming.{eq_apart, eq_same, num_cases, of_other}
 use Rattle.pf_query.proofs.Opening.{agree_closed, agree_equal, agree_opened, agree_planned, planned_each}
-use Rattle.pf_query.proofs.Tallies.{count_all, count_append, count_none}
+use Rattle.pf_query.proofs.Tallies.{count_all, count_append, count_none, each_map, filter_all}
 use Rattle.pf_query.proofs.Trying.{AreAllTried, fewer_added, fewer_same, hands_fewer, fewer_left, keeps_tried, none_in_hand, none_waiting, planned_untried, tried_after, tried_as, tried_equal}
 
 abbrev pub raw_of : Table → Raw
@@ -188,6 +189,46 @@ module _ (old new : Table) (query tenant : ℕ) (t : IsTable old) (fresh : entry
             (λ p d. ap (λ xs. hands_with p xs) (s.queues tenant).hands) (λ e h n. opened_count e h);
         tried = opened_covered s;
       }
+
+-- ---- a query has no job that waits or is in hand
+
+kept_stop : (e : Entry) (u : ℕ) (w : WorkData) (why : Stop) → e.stop ≡ Some why → Some (data_of e) ≡ Some (entry_with u None (Some w)) → ⊥
+kept_stop e u w why s h =
+    let same : e.stop ≡ None = ap (λ (x : EntryData). x.stop) (one_data (data_of e) (entry_with u None (Some w)) h) in cc where
+      one_data : (x y : EntryData) → Some x ≡ Some y → x ≡ y
+      one_data x y k = cc
+
+none_left : (n : ℕ) → nat_lt 0 n ≡ false → n ≡ 0
+none_left n h = grind (arith, nat_tests, h)
+
+module _ (old : Table) (query : ℕ) (e : Entry) (t : IsTable old) (was : raw_of old query ≡ Some e) where
+  -- the entry of a stopped query isn't that of a job that waits
+  stopped_waits_not : (why : Stop) → e.stop ≡ Some why → (j : Job) → IsWaiting (entry_in old) e.tenant j → is_of query j.head ≡ false
+  stopped_waits_not why s j k =
+      eq_apart j.head.query query
+      (λ h. kept_stop e e.tenant k.work why s
+      (sym (ap (λ (o : Option Entry). option_map data_of o) was) ∙ subst (λ q. entry_in old q ≡ Some (entry_with e.tenant None (Some k.work))) h k.entry))
+
+  none_waits_by : (stop : Option Stop) → e.stop ≡ stop → may_wait stop e.queued ≡ false → jobs_in query (waiting_in old.queues e.tenant) ≡ 0
+  none_waits_by None s h = sym (t.counted query e was s).queued ∙ none_left e.queued h
+  none_waits_by (Some why) s h =
+      count_none (λ j. is_of query j.head) (waiting_in old.queues e.tenant)
+      (each_map (IsWaiting (entry_in old) e.tenant) (λ j. is_of query j.head ≡ false) (stopped_waits_not why s) (waiting_in old.queues e.tenant)
+      (t.agree.all_waiting e.tenant))
+
+  pub none_waits : may_wait e.stop e.queued ≡ false → filter (is_other_job query) (waiting_in old.queues e.tenant) ≡ waiting_in old.queues e.tenant
+  none_waits h = filter_all (λ j. is_of query j.head) (waiting_in old.queues e.tenant) (none_waits_by e.stop refl h)
+
+  none_is_held_by : (stop : Option Stop) → e.stop ≡ stop → may_be_in_hand stop e.in_hand ≡ false → hands_with query (hands_in old.queues e.tenant) ≡ 0
+  none_is_held_by None s h = sym (t.counted query e was s).in_hand ∙ none_left e.in_hand h
+  none_is_held_by (Some why) s h = absurd cc
+
+  -- also once none of its jobs waits
+  pub none_is_held : (mid : Queues) → AreNotWaiting old.queues e.tenant query mid → may_be_in_hand e.stop e.in_hand ≡ false
+      → filter (is_other_hand query) (hands_in mid e.tenant) ≡ hands_in mid e.tenant
+  none_is_held mid a h =
+      subst (λ (xs : List Hand). filter (is_other_hand query) xs ≡ xs) (sym a.hands)
+      (filter_all (λ x. is_of query x.head) (hands_in old.queues e.tenant) (none_is_held_by e.stop refl h))
 
 -- ---- a query is closed
 

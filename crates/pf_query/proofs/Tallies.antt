@@ -1,5 +1,5 @@
 -- Facts of each element of a list, and how many of its elements pass a test. This project's own.
-use Rattle.std.proofs.Common.{◌≡◌, ℕ, suc, ◌+◌, ◌≤◌, ◌⊎◌, inl, inr, Bool, true, false, cond, List, [], ◌∷◌, ◌++◌, length, filter, refl, arith}
+use Rattle.std.proofs.Common.{◌≡◌, ℕ, suc, ◌+◌, ◌≤◌, ◌⊎◌, inl, inr, Bool, true, false, not, cond, List, [], ◌∷◌, ◌++◌, length, filter, refl, ap, arith}
 use Rattle.std.proofs.lemmas.List.Sums.{sum_by-cons, sum_by-append}
 use Rattle.std.specs.Prelude.{count_by}
 use Rattle.pf_model.specs.Lists.{Each}
@@ -94,3 +94,14 @@ module _ {X : Type 0} where
   pub count_dropped : (p r : X → Bool) (f : (x : X) → r x ≡ true → p x ≡ false) (xs : List X) → count_by p (filter r xs) ≡ 0
   count_dropped p r f xs =
       count_none p (filter r xs) (each_filter (λ y. Unit {0}) (λ y. p y ≡ false) r (λ y t u. f y t) xs (all_units xs))
+
+  filter_none : (p : X → Bool) (x : X) (xs ys : List X) (b : Bool) (n m : ℕ) → n ≡ one_if b + m → n ≡ 0 → (m ≡ 0 → ys ≡ xs)
+      → cond (not b) (x ∷ ys) ys ≡ x ∷ xs
+  filter_none p x xs ys true n m e h f = absurd (omega (arith, e, h))
+  filter_none p x xs ys false n m e h f = ap (λ zs. x ∷ zs) (f (omega (arith, e, h)))
+
+  -- all others are all where none passes
+  pub filter_all : (p : X → Bool) (xs : List X) → count_by p xs ≡ 0 → filter (λ x. not (p x)) xs ≡ xs
+  filter_all p [] h = refl
+  filter_all p (x ∷ xs) h =
+      filter_none p x xs (filter (λ y. not (p y)) xs) (p x) (count_by p (x ∷ xs)) (count_by p xs) (count_cons p x xs) h (filter_all p xs)

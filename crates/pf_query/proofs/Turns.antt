@@ -87,3 +87,12 @@ first_last u us d =
       others = λ v k. back.others v k ∙ out.others v k;
       different = back.different;
     }
+
+stays_by : (u x : ℕ) (us vs : List ℕ) (b : Bool) → (b || waits u us) ≡ false → (waits u us ≡ false → vs ≡ us) → cond (not b) (x ∷ vs) vs ≡ x ∷ us
+stays_by u x us vs true h f = absurd cc
+stays_by u x us vs false h f = ap (λ ws. x ∷ ws) (f h)
+
+-- who isn't in a list is not taken out
+pub without_other : (u : ℕ) (us : List ℕ) → waits u us ≡ false → without u us ≡ us
+without_other u [] h = refl
+without_other u (x ∷ us) h = stays_by u x us (without u us) (eqb x u) h (without_other u us)

@@ -1,7 +1,7 @@
 -- What is kept of each query with the numbers of its jobs, and how calls change it: this project's own.
 use Rattle.std.specs.Arc.{arc_value}
 use Rattle.std.specs.Option.{option_map}
-use Rattle.std.specs.Prelude.{◌≡◌, ℕ, ◌+◌, ◌-◌, Bool, true, false, Option, Some, None, cond, nat_eq, map, min}
+use Rattle.std.specs.Prelude.{◌≡◌, ℕ, ◌+◌, ◌-◌, Bool, true, false, Option, Some, None, cond, nat_eq, nat_lt, map, min}
 use Rattle.pf_shard.specs.declared.parts.Part.{Part}
 use Rattle.pf_query.specs.Works.{WorkData, filled, handed_out, offered}
 use Rattle.pf_query.specs.declared.entry.Entry.{Entry}
@@ -57,6 +57,15 @@ offered_entry e = record e { work = option_map offered e.work }
 -- the entry of one query is changed so
 abbrev pub with_change : ℕ → (Entry → Entry) → (ℕ → Option Entry) → ℕ → Option Entry
 with_change query change entries q = cond (nat_eq query q) (option_map change (entries q)) (entries q)
+
+-- whether a job of a query may wait or be in hand, by its numbers, which are kept until it is stopped: then none waits any more
+abbrev pub may_wait : Option Stop → (queued : ℕ) → Bool
+may_wait None queued = nat_lt 0 queued
+may_wait (Some why) queued = false
+
+abbrev pub may_be_in_hand : Option Stop → (in_hand : ℕ) → Bool
+may_be_in_hand None in_hand = nat_lt 0 in_hand
+may_be_in_hand (Some why) in_hand = true
 
 -- what is told of a query
 abbrev pub is_planned : Option WorkData → Bool

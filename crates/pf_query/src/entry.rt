@@ -4,7 +4,7 @@ ghost use Rattle.std.specs.HashMap.{get};
 ghost use Rattle.std.specs.Option.{option_map};
 ghost use Rattle.std.specs.Prelude.{◌≡◌, ℕ, ◌<◌, false, IfSome, OnErr, OnOk, Some, cond, length, nat_eq};
 ghost use Rattle.pf_model.specs.Lists.{Each};
-ghost use Rattle.pf_query.specs.Entries.{GathersAt, back_entry, exhausted_entry, given_entry, offered_entry, opened_entry, planned_entry, state_of, stop_after, stopped_entry, stored_entry, taken_entry, tried_entry, with_change};
+ghost use Rattle.pf_query.specs.Entries.{GathersAt, back_entry, exhausted_entry, given_entry, may_be_in_hand, may_wait, offered_entry, opened_entry, planned_entry, state_of, stop_after, stopped_entry, stored_entry, taken_entry, tried_entry, with_change};
 ghost use Rattle.pf_query.specs.Tables.{data_of, is_covered_in};
 ghost use Rattle.pf_query.specs.Works.{IsFilled};
 
@@ -31,6 +31,20 @@ pub struct Entry {
 
 /// Entries by their queries.
 pub type Entries = HashMap<u64, Entry>;
+
+/// Whether a job of a query may wait, of which so many waited until it was stopped. Once it is, none waits.
+pub fn may_wait(stop: Option<Stop>, queued: u32) -> bool
+    ensures { result ≡ may_wait stop queued }
+{
+    stop.is_none() && queued > 0
+}
+
+/// Whether a job of a query may be in hand, of which so many were until it was stopped.
+pub fn may_be_in_hand(stop: Option<Stop>, in_hand: u32) -> bool
+    ensures { result ≡ may_be_in_hand stop in_hand }
+{
+    stop.is_some() || in_hand > 0
+}
 
 /// What is told of a query.
 pub fn state(entries: &Entries, query: u64) -> Option<EntryState>

@@ -1,9 +1,9 @@
 //! The jobs of all tenants.
 
-ghost use Rattle.std.specs.Prelude.{◌≡◌, ◌+◌, ◌-◌, ◌<◌, ◌≤◌, true, false, cond, IfOk, OnErr, OnOk};
+ghost use Rattle.std.specs.Prelude.{◌≡◌, ◌+◌, ◌-◌, ◌<◌, ◌≤◌, true, false, cond, filter, IfOk, OnErr, OnOk};
 ghost use Rattle.pf_journal.specs.Machine.{most_tenants};
-ghost use Rattle.pf_query.specs.Jobs.{has_hand, hand_of, tries_left_in};
-ghost use Rattle.pf_query.specs.Queueing.{AreAdded, AreEmpty, AreNotInHand, AreNotWaiting, AreQueues, AreSame, IsPutBack, IsReleased, Takes, TakesTries, hands_in, tries_left};
+ghost use Rattle.pf_query.specs.Jobs.{has_hand, hand_of, is_other_hand, is_other_job, tries_left_in};
+ghost use Rattle.pf_query.specs.Queueing.{AreAdded, AreEmpty, AreNotInHand, AreNotWaiting, AreQueues, AreSame, IsPutBack, IsReleased, Takes, TakesTries, hands_in, tries_left, waiting_in};
 
 use crate::job::{Held, Job};
 use crate::queue::Queue;
@@ -139,5 +139,33 @@ impl Queues {
     {
         let queue = &mut self.by_tenant[tenant as usize];
         queue.drop_hands(query);
+    }
+
+    /// Takes out the jobs of a query that wait, as `drop_waiting` does. Where none of them waits, no job is gone over.
+    pub(crate) fn drop_some_waiting(&mut self, tenant: u32, query: u64, some: bool)
+        requires queues { AreQueues self.old }
+        requires known { tenant < most_tenants }
+        requires none { some ≡ false → filter (is_other_job query) (waiting_in self.old tenant) ≡ waiting_in self.old tenant }
+        ensures dropped { AreNotWaiting self.old tenant query self.new }
+        ensures tries { tries_left self.new ≤ tries_left self.old }
+        ensures queues { AreQueues self.new }
+    {
+        if some {
+            self.drop_waiting(tenant, query);
+        }
+    }
+
+    /// Takes out the jobs of a query in hand, as `drop_hands` does. Where none of them is in hand, no hand is gone over.
+    pub(crate) fn drop_some_hands(&mut self, tenant: u32, query: u64, some: bool)
+        requires queues { AreQueues self.old }
+        requires known { tenant < most_tenants }
+        requires none { some ≡ false → filter (is_other_hand query) (hands_in self.old tenant) ≡ hands_in self.old tenant }
+        ensures dropped { AreNotInHand self.old tenant query self.new }
+        ensures tries { tries_left self.new ≡ tries_left self.old }
+        ensures queues { AreQueues self.new }
+    {
+        if some {
+            self.drop_hands(tenant, query);
+        }
     }
 }

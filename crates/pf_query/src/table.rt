@@ -71,8 +71,10 @@ impl Table {
         let Some(entry) = self.entries.remove(&query) else {
             return;
         };
-        self.queues.drop_waiting(entry.tenant, query);
-        self.queues.drop_hands(entry.tenant, query);
+        let waits = entry::may_wait(entry.stop, entry.queued);
+        let is_in_hand = entry::may_be_in_hand(entry.stop, entry.in_hand);
+        self.queues.drop_some_waiting(entry.tenant, query, waits);
+        self.queues.drop_some_hands(entry.tenant, query, is_in_hand);
     }
 
     /// Plans a query over its runs, with the cells of its other steps: from then on one job waits for each run and each leg, run by

@@ -1,0 +1,5 @@
+use Rattle.pf_query.proofs.Changing.{none_held}
+use Rattle.pf_query.proofs.queues.Queues.drop_some_hands.Goals as goal
+
+pub returns-else-some-clause-dropped : goal.returns-else-some-clause-dropped
+returns-else-some-clause-dropped c = none_held c.args.self.now c.args.tenant c.args.query (c.requires.none c.if-some.false)
