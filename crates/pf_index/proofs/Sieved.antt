@@ -2,7 +2,7 @@
 use Rattle.std.proofs.Common.{◌≡◌, ℕ, zero, suc, ◌+◌, ◌<◌, Bool, true, false, cond, not, ◌&&◌, List, [], ◌∷◌, ◌++◌, length, take, replicate, get_or, eqb, nat_eq, IfSome, refl, sym, ap, ◌∙◌, subst, arith, Option, Some, None}
 use Rattle.std.specs.Bool.{beq}
 use Rattle.std.specs.List.{All, Contains, list_any}
-use Rattle.std.specs.Option.{option_eq}
+use Rattle.std.specs.Option.{is_some, option_eq}
 use Rattle.std.proofs.lemmas.Bool.{eqb-true, not-false}
 use Rattle.std.proofs.lemmas.List.{append-nil, get_or-drop, take_more}
 use Rattle.std.proofs.lemmas.List.Elements.{All-contains, All-filter, filter-append}
@@ -108,6 +108,20 @@ pub listed_left : (listed : Option ℕ) (ms : List Matcher) (ls : List Pairs) (a
     → IfSome listed (λ i. (d : Matcher) → All (λ id. holds_of (get_or ms i d) ls id ≡ true) ids) → IfSome listed (λ i. (d : Matcher) → All (λ id. holds_of (get_or ms i d) ls id ≡ true) cur)
 listed_left None ms ls asked ids cur e h = tt
 listed_left (Some i) ms ls asked ids cur e h = λ d. left_within (λ id. holds_of (get_or ms i d) ls id ≡ true) asked ls ids cur e (h d)
+
+one_of_one : (m : Matcher) (i : ℕ) → get_or (m ∷ []) i m ≡ m
+one_of_one m zero = refl
+one_of_one m (suc i) = refl
+
+-- where the only matcher holds of all of them, all are accepted
+pub only_listed : (listed : Option ℕ) (ms : List Matcher) (ls : List Pairs) (ids : List ℕ) → is_some listed ≡ true → length ms ≡ 1
+    → IfSome listed (λ i. (d : Matcher) → All (λ id. holds_of (get_or ms i d) ls id ≡ true) ids) → ids ≡ accepted_in ms ls ids
+only_listed None ms ls ids s n h = cc
+only_listed (Some i) [] ls ids s n h = absurd (omega (arith, n))
+only_listed (Some i) (m ∷ []) ls ids s n h =
+    let all : All (λ id. holds_of m ls id ≡ true) ids = subst (λ x. All (λ id. holds_of x ls id ≡ true) ids) (one_of_one m i) (h m) in
+    sym (filter_whole (λ id. accepts (m ∷ []) (labels_at ls id)) ids (λ k d b. and_true (holds_of m ls (get_or ids k d)) ∙ all k d b))
+only_listed (Some i) (m ∷ k ∷ ms) ls ids s n h = absurd (omega (arith, n))
 
 -- ---- what is known
 

@@ -34,7 +34,7 @@ pub fn select_all(
     ensures bound { IfOk result (λ v. (tree : Tree) → matchers.now ≡ selectors_of tree → map (λ ids. ids.items) v.items ≡ bound_series tree snap.now.labels) }
     ensures within { IfOk result (λ v. All (λ ids. All (λ id. id < length snap.now.labels) ids.items) v.items) }
 {
-    let mut lists = Vec::new(alloc);
+    let mut lists = Vec::with_capacity(alloc, matchers.len())?;
     for one in matchers {
         lists.push(select(alloc, snap, one)?)?;
     }

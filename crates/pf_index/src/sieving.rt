@@ -190,6 +190,9 @@ pub fn sieved(
     requires listed { IfSome listed (λ i. (d : Matcher) → All (λ id. holds_of (slice_index_or matchers.now i d) snap.now.labels id ≡ true) ids.items) }
     ensures { IfOk result (λ v. v.items ≡ accepted_in matchers.now snap.now.labels ids.items) }
 {
+    if matchers.count() == 1 && listed.is_some() {
+        return Ok(ids);
+    }
     let mut ids = ids;
     let mut asker = matchers.asker()?;
     sieve_by(alloc, snap, matchers, &mut asker, listed, true, &mut ids)?;

@@ -1,7 +1,7 @@
-use Rattle.std.proofs.Common.{◌<◌, true, false, length, ap, ◌∙◌}
+use Rattle.std.proofs.Common.{◌<◌, true, false, length, sym, ap, arith, ◌∙◌}
 use Rattle.pf_index.specs.Listing.{accepted_in}
 use Rattle.pf_index.specs.Sieving.{asked}
-use Rattle.pf_index.proofs.Sieved.{all_asked, left_within, listed_left}
+use Rattle.pf_index.proofs.Sieved.{all_asked, left_within, listed_left, only_listed}
 use Rattle.pf_index.proofs.sieving.sieved.Goals as goal
 
 pub sieve_by-requires-2-clause-within : goal.sieve_by-requires-2-clause-within
@@ -11,6 +11,11 @@ sieve_by-requires-2-clause-within c =
 pub sieve_by-requires-2-clause-listed : goal.sieve_by-requires-2-clause-listed
 sieve_by-requires-2-clause-listed c =
     listed_left c.args.listed c.args.matchers.now c.args.snap.now.labels (asked true c.args.matchers.now) c.args.ids.items c.sieve_by.new.ids.items c.in_ok-sieve_by.ensures.sieved c.requires.listed
+
+pub returns-then-is_some : goal.returns-then-is_some
+returns-then-is_some c =
+    only_listed c.args.listed c.args.matchers.now c.args.snap.now.labels c.args.ids.items (sym c.is_some.ensures ∙ c.if-is_some.true)
+    (omega (arith, c.count.ensures, c.if-count-eq1.true)) c.requires.listed
 
 pub returns : goal.returns
 returns c =
