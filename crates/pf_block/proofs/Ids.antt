@@ -44,7 +44,7 @@ module _ {K : Type 0} (t : K → Bool) where
   push_other i (x ∷ xs) y h = ap (λ o. cond (t x) (Some i) o) (push_other (i + 1) xs y h)
 
 -- what a map from labels to ids has after a new label set
-found_by : (l q : Pairs) (ls : List Pairs) (n : ℕ) (v : Bool) → is_eq (labels_cmp l q) ≡ v → id_of l ls ≡ None → n ≡ length ls → cond v (Some n) (id_of q ls) ≡ id_of q (ls ++ l ∷ [])
+pub found_by : (l q : Pairs) (ls : List Pairs) (n : ℕ) (v : Bool) → is_eq (labels_cmp l q) ≡ v → id_of l ls ≡ None → n ≡ length ls → cond v (Some n) (id_of q ls) ≡ id_of q (ls ++ l ∷ [])
 found_by l q ls n true e h k =
     let s = same_is l q e in
     let m : id_of q ls ≡ None = ap (λ x. id_of x ls) (sym s) ∙ h in

@@ -5,6 +5,7 @@ pub mod Keeping
 pub mod LabelOrdering
 mod Merging
 mod Numbering
+mod Handing
 mod Runs
 mod Parts
 mod Pairing

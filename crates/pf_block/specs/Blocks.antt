@@ -70,6 +70,17 @@ abbrev pub entries_of : List Pairs → List Row → Entries
 entries_of labels [] = []
 entries_of labels (r ∷ rs) = (number_of_labels labels r.labels, sample_of r) ∷ entries_of (noted labels r.labels) rs
 
+-- the ids of the rows' series
+abbrev pub row_ids : List Pairs → List Row → List ℕ
+row_ids labels [] = []
+row_ids labels (r ∷ rs) = number_of_labels labels r.labels ∷ row_ids (noted labels r.labels) rs
+
+-- rows with such ids
+abbrev pub entries_with : List ℕ → List Row → Entries
+entries_with [] rows = []
+entries_with (id ∷ ids) [] = []
+entries_with (id ∷ ids) (r ∷ rs) = (id, sample_of r) ∷ entries_with ids rs
+
 -- an entry as it is sorted
 abbrev pub entry_of : ℕ × (ℤ × ℤ) → ℕ × Sample
 entry_of k = (k.0, record { time = k.1.0; value = k.1.1 })

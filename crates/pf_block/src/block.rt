@@ -154,7 +154,7 @@ fn note_run(runs: &mut Vec<Run>, id: u32, start: usize) -> Result<(), OutOfMemor
 }
 
 /// Whether an entry stands before another one, or is of its series and time.
-fn is_upto(one: (u32, Sample), other: (u32, Sample)) -> bool
+pub fn is_upto(one: (u32, Sample), other: (u32, Sample)) -> bool
     ensures { result ≡ is_upto one other }
 {
     one.0 < other.0 || one.0 == other.0 && one.1.time <= other.1.time
@@ -185,7 +185,7 @@ impl Block {
     }
 
     /// A block without samples, with room for so many.
-    fn with_room(alloc: Global, rows: usize) -> Result<Block, OutOfMemory>
+    pub fn with_room(alloc: Global, rows: usize) -> Result<Block, OutOfMemory>
         ensures { IfOk result (λ b. b ≡ []) }
     {
         Ok(Block {

@@ -12,10 +12,12 @@
 #![tactic(auto)]
 
 mod block;
+mod grown;
 mod index;
 mod layer;
 mod part;
 mod ranked;
+mod rows;
 mod samples;
 mod sizes;
 mod snap;

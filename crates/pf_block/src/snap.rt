@@ -1,22 +1,24 @@
 //! A tenant's series and samples at a point of its log.
 
-ghost use Rattle.std.specs.Prelude.{◌≡◌, ◌<◌, ◌≤◌, ◌++◌, true, IfOk, length, vec_len, slice_index_or, nat_le, nat_lt, map, drop};
+ghost use Rattle.std.specs.Prelude.{◌≡◌, ◌<◌, ◌≤◌, ◌++◌, ◌^◌, ℕ, true, IfOk, length, vec_len, slice_index_or, nat_lt, map, drop};
 ghost use Rattle.std.specs.List.{All, list_all};
 ghost use Rattle.std.specs.Arc.{arc_value};
-ghost use Rattle.pf_block.specs.Blocks.{entries_of, entry_of, labels_with, noted, number_of_labels};
+ghost use Rattle.pf_base.specs.declared.plain.Sample.{Sample};
+ghost use Rattle.pf_block.specs.Blocks.{ascends, entries_of, entry_of, labels_with, noted, number_of_labels, row_ids, samples_in, times_in};
 ghost use Rattle.pf_block.specs.Samples.{window_of, last_of};
 ghost use Rattle.pf_base.specs.LabelSets.{IsLabels};
-ghost use Rattle.pf_base.specs.Limits.{greatest_time};
 ghost use Rattle.pf_base.specs.ShardHash.{shard_of};
 ghost use Rattle.pf_block.specs.LabelOrders.{ids_by_label};
 ghost use Rattle.pf_block.specs.SeriesIds.{id_of, ids_with};
 ghost use Rattle.pf_block.specs.Stacks.{doubles, total};
-ghost use Rattle.pf_block.specs.Snaps.{IsSnap, empty_snap, labels_of, samples_of, held_at, with_rows, are_new, are_timed, without_rows, sample_of};
+ghost use Rattle.pf_block.specs.Snaps.{IsSnap, empty_snap, labels_of, samples_of, held_at, with_rows, are_new, are_timed, without_rows};
 
 use crate::block::{Block, Entry};
+use crate::grown::grown;
 use crate::index::Index;
 use crate::layer::Layer;
 use crate::ranked::Ranked;
+use crate::rows::{block_of, entry, new_labels};
 use crate::sizes::BlockSizes;
 use crate::stack::{clear_of, cut, last_within, stacked};
 use crate::window::Window;
@@ -45,13 +47,6 @@ impl Model for Snap {
     ghost view = { λ s. snap_of (arc_value s.index) (map arc_value s.blocks.items) };
 
     ghost invariant = { λ s. IsKept (arc_value s.index) (map arc_value s.blocks.items) s.sizes.items };
-}
-
-fn entry(row: &Row, id: u32) -> Entry
-    requires { nat_le row.now.time greatest_time ≡ true }
-    ensures { entry_of result ≡ (id, sample_of row.now) }
-{
-    (id, (row.time as i64, row.value))
 }
 
 /// The first rows that are of known series, as entries.
@@ -146,6 +141,33 @@ impl Snap {
         let (index, entries) = numbered(self.alloc, &self.index, rows)?;
         let _few = index.index().count();
         let block = Block::of(self.alloc, entries)?;
+        self.put(rows, index, block)
+    }
+
+    /// The same, where `ids` are those of the rows' series: the ones that it has, and for new series the next ones in the
+    /// order of their first rows. No label set is searched for.
+    pub fn with_ids(&self, rows: &[Row], ids: &[u32]) -> Result<Arc<Snap>, OutOfMemory>
+        requires timed { are_timed rows.now ≡ true }
+        requires fresh { are_new self.now rows.now ≡ true }
+        requires numbered { ids.now ≡ row_ids self.now.labels rows.now }
+        ensures { IfOk result (λ s. arc_value s ≡ with_rows self.now rows.now) }
+    {
+        let fresh = new_labels(self.alloc, self, rows, ids)?;
+        let index = grown(self.alloc, &self.index, &fresh)?;
+        let block = block_of(self.alloc, rows, ids)?;
+        self.put(rows, index, block)
+    }
+
+    /// With rows of which an index has the series and a block the samples.
+    fn put(&self, rows: &[Row], index: Arc<Ranked>, block: Block) -> Result<Arc<Snap>, OutOfMemory>
+        requires timed { are_timed rows.now ≡ true }
+        requires fresh { are_new self.now rows.now ≡ true }
+        requires labels { arc_value index ≡ labels_with self.now.labels rows.now }
+        requires few { length (arc_value index) < 2 ^ 32 }
+        requires ascends { ascends block ≡ true }
+        requires samples { (id : ℕ) → (x : Sample) → times_in x (samples_in id block) ≡ times_in x (samples_in id (entries_of self.now.labels rows.now)) }
+        ensures { IfOk result (λ s. arc_value s ≡ with_rows self.now rows.now) }
+    {
         let clear = clear_of(&self.blocks, &block);
         let (blocks, sizes) = stacked(self.alloc, &self.blocks, &self.sizes, clear, block)?;
         let snap = Snap {
