@@ -14,6 +14,7 @@ mod Canonical
 mod Taking
 mod Stacking
 mod Layering
+mod LentWindows
 pub mod Walks
 mod Totals
 mod Worked

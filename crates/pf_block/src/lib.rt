@@ -8,13 +8,14 @@
 //! samples of the next; beside each block, what deletions left of the series that they touched there; and an index that is
 //! shared as long as no series is new: a map from label sets to ids, a list of ids for each pair of a name and a value, the
 //! ids in label order with the place of each, and by id the hash that gives each one's shard. Windows and look-ups search by
-//! halves and take no memory.
+//! halves and take no memory. `lent` gives a window as it lies in the one block that has all of its samples.
 #![tactic(auto)]
 
 mod block;
 mod grown;
 mod index;
 mod layer;
+mod lending;
 mod part;
 mod ranked;
 mod rows;

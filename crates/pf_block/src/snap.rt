@@ -1,11 +1,11 @@
 //! A tenant's series and samples at a point of its log.
 
-ghost use Rattle.std.specs.Prelude.{◌≡◌, ◌<◌, ◌≤◌, ◌++◌, ◌^◌, ℕ, true, IfOk, length, vec_len, slice_index_or, nat_lt, map, drop};
+ghost use Rattle.std.specs.Prelude.{◌≡◌, ◌<◌, ◌≤◌, ◌++◌, ◌^◌, ℕ, true, IfOk, IfSome, length, vec_len, slice_index_or, nat_lt, map, drop};
 ghost use Rattle.std.specs.List.{All, list_all};
 ghost use Rattle.std.specs.Arc.{arc_value};
 ghost use Rattle.pf_base.specs.declared.plain.Sample.{Sample};
 ghost use Rattle.pf_block.specs.Blocks.{ascends, entries_of, entry_of, labels_with, noted, number_of_labels, row_ids, samples_in, times_in};
-ghost use Rattle.pf_block.specs.Samples.{window_of, last_of};
+ghost use Rattle.pf_block.specs.Samples.{rises, window_of, last_of};
 ghost use Rattle.pf_base.specs.LabelSets.{IsLabels};
 ghost use Rattle.pf_base.specs.ShardHash.{shard_of};
 ghost use Rattle.pf_block.specs.LabelOrders.{ids_by_label};
@@ -17,6 +17,7 @@ use crate::block::{Block, Entry};
 use crate::grown::grown;
 use crate::index::Index;
 use crate::layer::Layer;
+use crate::lending::lent;
 use crate::ranked::Ranked;
 use crate::rows::{block_of, entry, new_labels};
 use crate::sizes::BlockSizes;
@@ -259,6 +260,15 @@ impl Snap {
         ensures { result ≡ window_of (samples_of self.now id) after upto }
     {
         Window::over(&self.blocks, id, after, upto)
+    }
+
+    /// The samples that `window` gives, where one block has them all. There are none where several blocks have some.
+    pub fn lent(&self, id: u32, after: i64, upto: i64) -> Option<&[Sample]>
+        requires { id < length self.now.labels }
+        ensures window { IfSome result (λ xs. xs.now ≡ window_of (samples_of self.now id) after upto) }
+        ensures rises { IfSome result (λ xs. rises xs.now ≡ true) }
+    {
+        lent(&self.blocks, id, after, upto)
     }
 
     /// The last of the samples that `window` gives.
