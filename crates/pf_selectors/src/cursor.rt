@@ -1,6 +1,6 @@
 //! A place among the samples of a series, which moves as times move on.
 
-ghost use Rattle.std.specs.Prelude.{◌≡◌, ◌<◌, ◌≤◌, true, take, filter, length, int_lt, OnOk};
+ghost use Rattle.std.specs.Prelude.{◌≡◌, ◌<◌, ◌≤◌, true, take, filter, length, int_lt, IfOk, OnOk};
 ghost use Rattle.pf_block.specs.Samples.{last_of, rises, until, window_of};
 ghost use Rattle.pf_block.specs.Snaps.{samples_of};
 
@@ -69,22 +69,42 @@ pub(crate) fn newest(samples: &[Sample], count: usize, after: i64) -> Option<Sam
     }
 }
 
-/// Reads the samples of a series after `after`, up to and with `upto`, in place of those that `samples` holds.
-pub(crate) fn read(
+/// Copies the samples of a series after `after`, up to and with `upto`, in place of those that `room` holds.
+fn copy(
     snap: &Snap,
     id: u32,
     after: i64,
     upto: i64,
-    samples: &mut Vec<Sample>,
+    room: &mut Vec<Sample>,
 ) -> Result<(), OutOfMemory>
     requires { id < length snap.now.labels }
-    ensures samples { OnOk result (samples.new.items ≡ window_of (samples_of snap.now id) after upto) }
-    ensures rises { OnOk result (rises samples.new.items ≡ true) }
+    ensures samples { OnOk result (room.new.items ≡ window_of (samples_of snap.now id) after upto) }
+    ensures rises { OnOk result (rises room.new.items ≡ true) }
 {
     let _count = snap.series_count();
-    samples.clear();
+    room.clear();
     for sample in snap.window(id, after, upto) {
-        samples.push(sample)?;
+        room.push(sample)?;
     }
     Ok(())
+}
+
+/// The samples of a series after `after`, up to and with `upto`. They are lent where one block has them all, else copied in
+/// place of those that `room` holds.
+pub(crate) fn read<'a>(
+    snap: &'a Snap,
+    id: u32,
+    after: i64,
+    upto: i64,
+    room: &'a mut Vec<Sample>,
+) -> Result<&'a [Sample], OutOfMemory>
+    requires { id < length snap.now.labels }
+    ensures samples { IfOk result (λ xs. xs.now ≡ window_of (samples_of snap.now id) after upto) }
+    ensures rises { IfOk result (λ xs. rises xs.now ≡ true) }
+{
+    if let Some(lent) = snap.lent(id, after, upto) {
+        return Ok(lent);
+    }
+    copy(snap, id, after, upto, room)?;
+    Ok(room.as_slice())
 }

@@ -97,8 +97,8 @@ fn put_values(
     Ok(())
 }
 
-/// Puts what is read of a series at each step in place of what `values` holds, where the times are within a span. `samples` is
-/// overwritten.
+/// Puts what is read of a series at each step in place of what `values` holds, where the times are within a span. `samples` may
+/// be overwritten.
 fn read_steps(
     reading: Reading,
     snap: &Snap,
@@ -116,12 +116,12 @@ fn read_steps(
     requires high { (k : ℕ) → k < times.now.len → int_le (time_at times.now k) span.last ≡ true }
     ensures { OnOk result (values.new.items ≡ values_read reading (samples_of snap.now id) times.now) }
 {
-    read(snap, id, span.first - LOOKBACK, span.last, samples)?;
+    let samples = read(snap, id, span.first - LOOKBACK, span.last, samples)?;
     put_values(reading, samples, times, values)?;
     Ok(())
 }
 
-/// The column of a series, whose times are within a span. `samples` is overwritten.
+/// The column of a series, whose times are within a span. `samples` may be overwritten.
 fn read_column(
     alloc: Global,
     reading: Reading,
@@ -167,7 +167,7 @@ fn read_columns(
 }
 
 /// Reads the values of an instant selector for one series at each step, in place of those that `values` holds, where `span` has
-/// all times of the run. `samples` is overwritten.
+/// all times of the run. `samples` may be overwritten.
 pub fn read_values(
     snap: &Snap,
     id: u32,

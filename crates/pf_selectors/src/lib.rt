@@ -13,7 +13,7 @@
 //!   put in before, so that a constant `@` has step 0.
 //!
 //! Series are named by their ids in the snapshot. Each one's samples in the run's range are read once, and walked as the
-//! times move on.
+//! times move on. Where one block of the snapshot has them all they are lent, and not copied.
 #![tactic(auto)]
 
 mod cursor;

@@ -79,30 +79,30 @@ pub(crate) fn values_over(
     Ok(found)
 }
 
-/// Reads the samples of a series in all windows of so many milliseconds, in place of those that `samples` holds.
-fn read_windows(
-    snap: &Snap,
+/// The samples of a series in all windows of so many milliseconds. They are lent where one block has them all, else copied in
+/// place of those that `room` holds.
+fn read_windows<'a>(
+    snap: &'a Snap,
     id: u32,
     range: u64,
     times: &Times,
     span: Span,
-    samples: &mut Vec<Sample>,
-) -> Result<(), OutOfMemory>
+    room: &'a mut Vec<Sample>,
+) -> Result<&'a [Sample], OutOfMemory>
     requires inside { id < length snap.now.labels }
     requires first { IsTime span.first }
     requires start { IsTime (span.first -ℤ pos range) }
     requires last { IsTime span.last }
     requires low { (k : ℕ) → k < times.now.len → int_le span.first (time_at times.now k) ≡ true }
     requires high { (k : ℕ) → k < times.now.len → int_le (time_at times.now k) span.last ≡ true }
-    ensures rises { OnOk result (rises samples.new.items ≡ true) }
-    ensures windows { OnOk result ((k : ℕ) → k < times.now.len → window_at range samples.new.items times.now k ≡ window_at range (samples_of snap.now id) times.now k) }
+    ensures rises { IfOk result (λ xs. rises xs.now ≡ true) }
+    ensures windows { IfOk result (λ xs. (k : ℕ) → k < times.now.len → window_at range xs.now times.now k ≡ window_at range (samples_of snap.now id) times.now k) }
 {
     let first = span.first - range as i64;
-    read(snap, id, first, span.last, samples)?;
-    Ok(())
+    read(snap, id, first, span.last, room)
 }
 
-/// The column of a series. `samples` is overwritten.
+/// The column of a series. `room` may be overwritten.
 fn range_column(
     alloc: Global,
     f: RangeFn,
@@ -111,7 +111,7 @@ fn range_column(
     id: u32,
     times: &Times,
     span: Span,
-    samples: &mut Vec<Sample>,
+    room: &mut Vec<Sample>,
 ) -> Result<Column, OutOfMemory>
     requires inside { id < length snap.now.labels }
     requires times { AreTimes times.now }
@@ -123,7 +123,7 @@ fn range_column(
     requires high { (k : ℕ) → k < times.now.len → int_le (time_at times.now k) span.last ≡ true }
     ensures { IfOk result (λ c. c ≡ range_column f range snap.now times.now id) }
 {
-    read_windows(snap, id, range, times, span, samples)?;
+    let samples = read_windows(snap, id, range, times, span, room)?;
     Ok(Column {
         labels: labels_over(f, snap.labels(id))?,
         values: values_over(alloc, f, range, samples, times)?,
@@ -146,9 +146,9 @@ fn range_columns(
 {
     let span = times.span();
     let mut columns = Vec::with_capacity(alloc, ids.len())?;
-    let mut samples = Vec::new(alloc);
+    let mut room = Vec::new(alloc);
     for id in ids {
-        columns.push(range_column(alloc, f, range, snap, *id, times, span, &mut samples)?)?;
+        columns.push(range_column(alloc, f, range, snap, *id, times, span, &mut room)?)?;
     }
     Ok(columns)
 }
@@ -198,11 +198,11 @@ fn absent_values(
     ensures { IfOk result (λ v. (k : ℕ) → k < times.now.len → value_in v.items k ≡ unless_present range snap.now times.now k ids.now (Some one)) }
 {
     let mut values = vec![in alloc; Some(unit()); times.len as usize]?;
-    let mut samples = Vec::new(alloc);
+    let mut room = Vec::new(alloc);
     let span = times.span();
     for id in ids {
-        read_windows(snap, *id, range, times, span, &mut samples)?;
-        note_present(&mut values, range, &samples, times);
+        let samples = read_windows(snap, *id, range, times, span, &mut room)?;
+        note_present(&mut values, range, samples, times);
     }
     Ok(values)
 }
