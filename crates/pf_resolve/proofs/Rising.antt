@@ -17,7 +17,7 @@ use Rattle.pf_model.specs.Reach.{Times, all_times_read, all_together, reach, tim
 use Rattle.pf_model.specs.Trees as tree
 use Rattle.pf_model.specs.Trees.{Tree, Trees}
 use Rattle.pf_resolve.proofs.Multiples.{above, down_times, in_steps, up_to}
-use Rattle.pf_resolve.specs.Steady.{Rises, are_steady, is_steady}
+use Rattle.pf_resolve.specs.Steady.{ReachRises, Rises, are_steady, is_steady}
 
 -- both are none, or neither is and both ends rise
 abbrev pub Rise : Option Times → Option Times → Type 0
@@ -205,5 +205,5 @@ latest_rises None (Some b) h = elim h [ ]
 latest_rises (Some a) None h = elim h [ ]
 latest_rises (Some a) (Some b) h = h.1
 
-pub reach_rises : (query : Tree) → is_steady query ≡ true → (t u : ℤ) → t ≤ℤ u → Rises (reach query t) (reach query u)
+pub reach_rises : (query : Tree) → is_steady query ≡ true → ReachRises query
 reach_rises query s t u h = latest_rises (times_read query t) (times_read query u) (times_rise_with query s t u h)

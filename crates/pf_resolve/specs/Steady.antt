@@ -1,6 +1,7 @@
 -- Queries whose subqueries have a time to be evaluated at in each of their windows: this project's own.
 use Rattle.std.specs.Prelude.{ℤ, ◌≤ℤ◌, Bool, true, ◌&&◌, nat_le, nat_lt, Option, Some, None}
 use Rattle.pf_model.specs.Evaluation.{resolution_or_minute}
+use Rattle.pf_model.specs.Reach.{reach}
 use Rattle.pf_model.specs.Trees as tree
 use Rattle.pf_model.specs.Trees.{Tree, Trees}
 
@@ -26,3 +27,7 @@ abbrev pub Rises : Option ℤ → Option ℤ → Type 0
 Rises None None = Unit {0}
 Rises (Some a) (Some b) = a ≤ℤ b
 Rises _ _ = ⊥
+
+-- the latest time that a query may read rises with the time, and whether it reads anything doesn't depend on the time
+abbrev pub ReachRises : Tree → Type 0
+ReachRises query = (t u : ℤ) → t ≤ℤ u → Rises (reach query t) (reach query u)

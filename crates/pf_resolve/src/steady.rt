@@ -1,10 +1,9 @@
 //! Queries whose subqueries have a time to be evaluated at in each of their windows.
 
-ghost use Rattle.std.specs.Prelude.{◌≡◌, ◌≤ℤ◌, ◌&&◌, ℤ, true, map, nat_le, nat_lt};
+ghost use Rattle.std.specs.Prelude.{◌≡◌, ◌&&◌, true, map, nat_le, nat_lt};
 ghost use Rattle.pf_model.specs.Evaluation.{resolution_or_minute};
-ghost use Rattle.pf_model.specs.Reach.{reach};
 ghost use Rattle.pf_model.specs.Trees.{tree_of, trees_of};
-ghost use Rattle.pf_resolve.specs.Steady.{Rises, are_steady, is_steady};
+ghost use Rattle.pf_resolve.specs.Steady.{ReachRises, are_steady, is_steady};
 
 use pf_model::Expr;
 
@@ -57,7 +56,7 @@ fn is_all_steady(expr: &Expr) -> bool
 #[tactic(auto, using(crate::proofs::Rising::reach_rises))]
 pub fn is_steady(expr: &Expr) -> bool
     ensures value { result ≡ is_steady (tree_of expr.now) }
-    ensures rises { result ≡ true → (t u : ℤ) → t ≤ℤ u → Rises (reach (tree_of expr.now) t) (reach (tree_of expr.now) u) }
+    ensures rises { result ≡ true → ReachRises (tree_of expr.now) }
 {
     is_all_steady(expr)
 }

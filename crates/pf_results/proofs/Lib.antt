@@ -18,3 +18,5 @@ pub mod ServedParts
 pub mod Pieced
 -- what is kept is true, for whoever uses it, once more is kept, and while logs grow
 pub mod Growing
+-- the fixed steps of a run
+pub mod Edges

@@ -1,5 +1,5 @@
 -- What is kept of a run that was evaluated: its frozen steps. This project's own; Cortex and Mimir do not keep very recent results.
-use Rattle.std.specs.Prelude.{◌≡◌, ◌⊎◌, ◌≤◌, ℕ, zero, suc, pos, ◌+◌, ◌-◌, ◌*◌, ◌/◌, ◌<◌, Bool, true, Option, Some, None, List, [], ◌∷◌, map, take, drop, slice_index_or}
+use Rattle.std.specs.Prelude.{◌≡◌, ◌⊎◌, ◌≤◌, ℕ, zero, suc, pos, ◌+◌, ◌-◌, ◌*◌, ◌/◌, ◌<◌, Bool, true, Option, Some, None, List, [], ◌∷◌, map, take, drop, slice_index_or, nat_lt}
 use Rattle.pf_base.specs.GridLists.{GridData}
 use Rattle.pf_base.specs.Grids.{points}
 use Rattle.pf_extent.specs.Combining.{combined}
@@ -9,11 +9,15 @@ use Rattle.pf_extent.specs.declared.extent.Extent.{Extent}
 use Rattle.pf_model.specs.declared.cell.Element.{Element}
 use Rattle.pf_model.specs.Reach.{is_frozen}
 use Rattle.pf_model.specs.Trees.{Tree}
-use Rattle.pf_results.specs.Runs.{lengths, part_of, runs_of}
+use Rattle.pf_results.specs.Runs.{lengths, part_of, runs_of, time_of}
 
 -- no later sample changes what the query is at the time, as the asker's floor says
 abbrev pub is_fixed : Tree → Asker → ℕ → Bool
 is_fixed query asker t = is_frozen query (pos t) asker.floor
+
+-- the fixed steps of a run are those before one
+abbrev pub IsEdge : Tree → Asker → GridData → ℕ → Type 0
+IsEdge query asker run edge = (k : ℕ) → k < run.len → is_fixed query asker (time_of run k) ≡ nat_lt k edge
 
 -- the extent of a part of an evaluated run
 abbrev pub extent_of : Asker → GridData → List (List Element) → GridData → Extent

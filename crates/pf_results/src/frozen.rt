@@ -2,39 +2,37 @@
 
 ghost use Rattle.std.specs.Prelude.{◌≡◌, ℕ, ◌+◌, ◌<◌, ◌≤◌, ◌++◌, not, IfOk, IfSome, length};
 ghost use Rattle.pf_base.specs.Grids.{points};
-ghost use Rattle.pf_base.specs.Limits.{greatest_time};
 ghost use Rattle.pf_extent.specs.Combining.{combined};
 ghost use Rattle.pf_extent.specs.Steps.{AreSpaced, Extents, IsLawful};
 ghost use Rattle.pf_model.specs.Trees.{tree_of};
-ghost use Rattle.pf_results.specs.Keeping.{KeepsOthers, KnowsNoOthers, KnowsParts, extent_of, extents_of, fixed_count, is_fixed, kept_list, now_list, part_extents, with_kept};
+ghost use Rattle.pf_results.specs.Keeping.{IsEdge, KeepsOthers, KnowsNoOthers, KnowsParts, extent_of, extents_of, fixed_count, is_fixed, kept_list, now_list, part_extents, with_kept};
 ghost use Rattle.pf_results.specs.Runs.{CanBeAsked, part_of, time_of};
 
+use crate::fixed::{edge_of, is_step_fixed};
 use pf_base::{Grid, OutOfMemory};
 use pf_columns::Cells;
-use pf_extent::{Asker, Extent, List, combine, is_below};
+use pf_extent::{Asker, Extent, List, combine};
 use pf_model::Expr;
-use pf_resolve::reach;
 use std::alloc::Global;
 
-/// Whether no later sample changes what a query is at a time.
-fn is_fixed(expr: &Expr, asker: &Asker, time: u64) -> bool
-    requires query { CanBeAsked (tree_of expr.now) }
-    requires time { time ≤ greatest_time }
-    ensures { result ≡ is_fixed (tree_of expr.now) asker.now time }
-{
-    is_below(reach(expr, time as i64), asker.floor)
-}
-
 /// How many steps of a run from one on are fixed, or how many aren't.
-fn count_fixed(expr: &Expr, asker: &Asker, run: Grid, from: u32, wanted: bool) -> u32
+fn count_fixed(
+    expr: &Expr,
+    asker: &Asker,
+    run: Grid,
+    edge: Option<u32>,
+    from: u32,
+    wanted: bool,
+) -> u32
     requires query { CanBeAsked (tree_of expr.now) }
+    requires edge { IfSome edge (IsEdge (tree_of expr.now) asker.now run) }
     requires within { from ≤ run.len }
     ensures within { from + result ≤ run.len }
     ensures are { (k : ℕ) → from ≤ k → k < from + result → is_fixed (tree_of expr.now) asker.now (time_of run k) ≡ wanted }
     ensures stops { from + result < run.len → is_fixed (tree_of expr.now) asker.now (time_of run (from + result)) ≡ not wanted }
 {
     for i in from..run.len() {
-        if is_fixed(expr, asker, run.at(i)) != wanted {
+        if is_step_fixed(expr, asker, run, edge, i) != wanted {
             return i - from;
         }
     }
@@ -136,12 +134,13 @@ pub fn add(
     ensures known { IfOk result (λ a. IfSome a.list (KeepsOthers (tree_of expr.now) asker.now run cells.now list.now)) }
     ensures spaced { IfOk result (λ a. IfSome a.list (AreSpaced run.step)) }
 {
+    let edge = edge_of(expr, asker, run);
     let mut kept = None;
     let mut steps = 0;
     let mut from = 0;
     while from < run.len() {
-        let first = from + count_fixed(expr, asker, run, from, false);
-        let count = count_fixed(expr, asker, run, first, true);
+        let first = from + count_fixed(expr, asker, run, edge, from, false);
+        let count = count_fixed(expr, asker, run, edge, first, true);
         kept = with_part(alloc, kept, list, asker, run, cells, first, count)?;
         steps += count;
         from = first + count;

@@ -6,6 +6,7 @@
 //! (`stay_true`).
 #![tactic(auto)]
 
+mod fixed;
 mod frozen;
 mod law;
 mod results;

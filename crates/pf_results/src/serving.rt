@@ -1,17 +1,18 @@
 //! Which steps of a run can be used of what is kept, and which runs the others are.
 
-ghost use Rattle.std.specs.Prelude.{◌≡◌, ℕ, ◌+◌, ◌-◌, ◌/◌, ◌<◌, ◌≤◌, ◌++◌, pos, not, true, false, IfOk, MatchOption, length};
+ghost use Rattle.std.specs.Prelude.{◌≡◌, ℕ, ◌+◌, ◌-◌, ◌/◌, ◌<◌, ◌≤◌, ◌++◌, pos, not, true, false, IfOk, IfSome, MatchOption, length};
 ghost use Rattle.pf_base.specs.Grids.{points};
-ghost use Rattle.pf_base.specs.Limits.{greatest_time};
 ghost use Rattle.pf_extent.specs.Steps.{AreSpaced, IsKept, IsLawful, extent_at, has_step};
 ghost use Rattle.pf_extent.specs.Uses.{is_usable};
 ghost use Rattle.pf_model.specs.Reach.{reach};
 ghost use Rattle.pf_model.specs.Trees.{tree_of};
 ghost use Rattle.pf_extent.specs.Done.{AreWhole, steps_in};
+ghost use Rattle.pf_results.specs.Keeping.{IsEdge};
 ghost use Rattle.pf_results.specs.Runs.{CanBeAsked, lengths, runs_of, time_of};
 ghost use Rattle.pf_results.specs.Serving.{IsServedPart, is_served, served_steps, steps_of};
 ghost use Rattle.pf_results.specs.Woven.{AreWovenIn};
 
+use crate::fixed::edge_of;
 use crate::runs::part;
 use pf_base::{Grid, OutOfMemory};
 use pf_extent::{Asker, DoneCells, Extent, List, usable};
@@ -25,33 +26,85 @@ pub struct Found {
     pub runs: Vec<Grid>,
 }
 
-/// Whether an asker can use an extent's cell of a step. The query's reach is asked only where the extent is of later samples.
-fn serves(extent: &Extent, expr: &Expr, asker: &Asker, time: u64) -> bool
+/// Whether an extent is of later samples than an asker's.
+fn has_later(list: &List, asker: &Asker) -> bool {
+    for extent in list.extents() {
+        if extent.pin > asker.pin {
+            return true;
+        }
+    }
+    false
+}
+
+/// The first step of a run that isn't fixed, or the number of steps. None where no step asks for it, and where the query isn't
+/// steady.
+fn edge_over(list: &List, expr: &Expr, asker: &Asker, run: Grid) -> Option<u32>
     requires query { CanBeAsked (tree_of expr.now) }
-    requires time { time ≤ greatest_time }
-    ensures { result ≡ is_usable extent.now (reach (tree_of expr.now) (pos time)) asker.now }
+    ensures { IfSome result (IsEdge (tree_of expr.now) asker.now run) }
+{
+    if has_later(list, asker) {
+        edge_of(expr, asker, run)
+    } else {
+        None
+    }
+}
+
+/// Whether an asker can use an extent's cell of a step of a run. The query's reach is asked only where the extent is of later
+/// samples and the edge isn't known.
+fn serves(
+    extent: &Extent,
+    expr: &Expr,
+    asker: &Asker,
+    run: Grid,
+    edge: Option<u32>,
+    step: u32,
+) -> bool
+    requires query { CanBeAsked (tree_of expr.now) }
+    requires edge { IfSome edge (IsEdge (tree_of expr.now) asker.now run) }
+    requires within { step < run.len }
+    ensures { result ≡ is_usable extent.now (reach (tree_of expr.now) (pos (time_of run step))) asker.now }
 {
     if extent.pin <= asker.pin {
         return usable(extent, None, asker);
     }
+    if let Some(edge) = edge {
+        return step < edge && usable(extent, None, asker);
+    }
+    let time = run.at(step);
     usable(extent, reach(expr, time as i64), asker)
 }
 
-/// Whether some extent has a step that an asker can use.
-fn is_served(list: &List, expr: &Expr, asker: &Asker, time: u64) -> bool
+/// Whether some extent has a step of a run that an asker can use.
+fn is_served(
+    list: &List,
+    expr: &Expr,
+    asker: &Asker,
+    run: Grid,
+    edge: Option<u32>,
+    step: u32,
+) -> bool
     requires query { CanBeAsked (tree_of expr.now) }
-    requires time { time ≤ greatest_time }
-    ensures { result ≡ is_served list.now (tree_of expr.now) asker.now time }
+    requires edge { IfSome edge (IsEdge (tree_of expr.now) asker.now run) }
+    requires within { step < run.len }
+    ensures { result ≡ is_served list.now (tree_of expr.now) asker.now (time_of run step) }
 {
-    match list.at(time) {
-        Some(extent) => serves(extent, expr, asker, time),
+    match list.at(run.at(step)) {
+        Some(extent) => serves(extent, expr, asker, run, edge, step),
         None => false,
     }
 }
 
 /// How many steps of a run from one on an extent has and an asker can use.
-fn count_usable(extent: &Extent, expr: &Expr, asker: &Asker, run: Grid, from: u32) -> u32
+fn count_usable(
+    extent: &Extent,
+    expr: &Expr,
+    asker: &Asker,
+    run: Grid,
+    edge: Option<u32>,
+    from: u32,
+) -> u32
     requires query { CanBeAsked (tree_of expr.now) }
+    requires edge { IfSome edge (IsEdge (tree_of expr.now) asker.now run) }
     requires within { from ≤ run.len }
     ensures within { from + result ≤ run.len }
     ensures last { (k : ℕ) → from ≤ k → k < from + result → time_of run k ≤ extent.now.last }
@@ -59,8 +112,8 @@ fn count_usable(extent: &Extent, expr: &Expr, asker: &Asker, run: Grid, from: u3
     ensures none { result ≡ 0 → from < run.len → time_of run from ≤ extent.now.last → is_usable extent.now (reach (tree_of expr.now) (pos (time_of run from))) asker.now ≡ false }
 {
     for i in from..run.len() {
-        let time = run.at(i);
-        if time > extent.last || !serves(extent, expr, asker, time) {
+        let is_had = run.at(i) <= extent.last;
+        if !is_had || !serves(extent, expr, asker, run, edge, i) {
             return i - from;
         }
     }
@@ -87,9 +140,11 @@ fn served_part(
     expr: &Expr,
     asker: &Asker,
     run: Grid,
+    edge: Option<u32>,
     from: u32,
 ) -> Result<Option<DoneCells>, OutOfMemory>
     requires query { CanBeAsked (tree_of expr.now) }
+    requires edge { IfSome edge (IsEdge (tree_of expr.now) asker.now run) }
     requires step { 1 ≤ run.step }
     requires spaced { AreSpaced run.step list.now }
     requires within { from < run.len }
@@ -100,7 +155,7 @@ fn served_part(
     let Some(extent) = list.at(time) else {
         return Ok(None);
     };
-    let count = count_usable(extent, expr, asker, run, from);
+    let count = count_usable(extent, expr, asker, run, edge, from);
     if count == 0 {
         return Ok(None);
     }
@@ -111,15 +166,23 @@ fn served_part(
 }
 
 /// How many steps of a run from one on no extent has that an asker can use.
-fn count_missing(list: &List, expr: &Expr, asker: &Asker, run: Grid, from: u32) -> u32
+fn count_missing(
+    list: &List,
+    expr: &Expr,
+    asker: &Asker,
+    run: Grid,
+    edge: Option<u32>,
+    from: u32,
+) -> u32
     requires query { CanBeAsked (tree_of expr.now) }
+    requires edge { IfSome edge (IsEdge (tree_of expr.now) asker.now run) }
     requires within { from ≤ run.len }
     ensures within { from + result ≤ run.len }
     ensures missing { (k : ℕ) → from ≤ k → k < from + result → is_served list.now (tree_of expr.now) asker.now (time_of run k) ≡ false }
     ensures stops { from + result < run.len → is_served list.now (tree_of expr.now) asker.now (time_of run (from + result)) ≡ true }
 {
     for i in from..run.len() {
-        if is_served(list, expr, asker, run.at(i)) {
+        if is_served(list, expr, asker, run, edge, i) {
             return i - from;
         }
     }
@@ -148,13 +211,14 @@ pub fn find(
         mut cached,
         mut runs,
     } = found;
+    let edge = edge_over(list, expr, asker, run);
     let mut from = 0;
     while from < run.len() {
-        if let Some(done) = served_part(list, expr, asker, run, from)? {
+        if let Some(done) = served_part(list, expr, asker, run, edge, from)? {
             from += done.run.len();
             cached.push(done)?;
         } else {
-            let count = count_missing(list, expr, asker, run, from);
+            let count = count_missing(list, expr, asker, run, edge, from);
             runs.push(part(run, from, count))?;
             from += count;
         }
