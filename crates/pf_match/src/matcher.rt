@@ -11,7 +11,7 @@ use std::marker::Model;
 #[derive(Drop)]
 pub struct PatternMatcher<'p> {
     pub(crate) text: &'p str,
-    pub(crate) matcher: Matcher<'p>,
+    pub(crate) matcher: Box<Matcher<'p>>,
 }
 
 impl<'p> Model for PatternMatcher<'p> {
@@ -23,7 +23,7 @@ impl<'p> Model for PatternMatcher<'p> {
 
     ghost view = { λ m. m.text.now };
 
-    ghost invariant = { λ m. IsReadAs m.text.now (matcher_pattern m.matcher) (matcher_names m.matcher) };
+    ghost invariant = { λ m. IsReadAs m.text.now (matcher_pattern m.matcher.value) (matcher_names m.matcher.value) };
 }
 
 impl<'p> PatternMatcher<'p> {

@@ -15,7 +15,7 @@ use std::marker::Model;
 #[derive(Drop)]
 pub struct Pattern {
     text: String,
-    regex: Regex,
+    regex: Box<Regex>,
 }
 
 impl Model for Pattern {
@@ -27,7 +27,7 @@ impl Model for Pattern {
 
     ghost view = { λ p. string_bytes p.text };
 
-    ghost invariant = { λ p. IsReadAs (string_bytes p.text) (regex_pattern p.regex) (regex_names p.regex) };
+    ghost invariant = { λ p. IsReadAs (string_bytes p.text) (regex_pattern p.regex.value) (regex_names p.regex.value) };
 }
 
 fn anchored(alloc: Global, text: &str) -> Result<String, AllocError>
@@ -39,6 +39,12 @@ fn anchored(alloc: Global, text: &str) -> Result<String, AllocError>
     Ok(source)
 }
 
+fn boxed(alloc: Global, regex: Regex) -> Result<Box<Regex>, AllocError>
+    ensures { IfOk result (λ r. r.value ≡ regex) }
+{
+    Ok(Box::new(alloc, regex)?)
+}
+
 impl Pattern {
     /// Reads `^(?s:text)$`, as Prometheus does, with the syntax of the crate `regex`. A text that closes the group itself,
     /// as `a)|(?:b`, is read so too.
@@ -47,7 +53,8 @@ impl Pattern {
         ensures read { IfOk result (λ p. is_pattern text.now ≡ true) }
     {
         let source = anchored(alloc, text)?;
-        let regex = Regex::new(alloc, source.as_str())?;
+        let engine = Regex::new(alloc, source.as_str())?;
+        let regex = boxed(alloc, engine)?;
         let text = String::from_str(alloc, text)?;
         Ok(Pattern { text, regex })
     }
@@ -64,10 +71,11 @@ impl Pattern {
     pub fn matcher(&self) -> Result<PatternMatcher<'_>, AllocError>
         ensures { IfOk result (λ m. m ≡ self.now) }
     {
-        let matcher = self.regex.matcher(*self.text.allocator())?;
+        let alloc = *self.text.allocator();
+        let engine = self.regex.matcher(alloc)?;
         Ok(PatternMatcher {
             text: self.text.as_str(),
-            matcher,
+            matcher: Box::new(alloc, engine)?,
         })
     }
 

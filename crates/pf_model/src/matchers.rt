@@ -151,7 +151,7 @@ fn tests_of(alloc: Global, matchers: &[Matcher]) -> Result<Vec<Test>, PatternErr
     ensures meant { IfOk result (λ v. all_meant matchers.now ≡ true) }
     ensures refused { result ≡ Err pattern.BadPattern → all_compared matchers.now ≡ false }
 {
-    let mut tests = Vec::new(alloc);
+    let mut tests = Vec::with_capacity(alloc, matchers.len())?;
     for matcher in matchers {
         let test = test_of(alloc, matcher)?;
         if tests.push(test).is_err() {
@@ -241,7 +241,7 @@ impl<'m> Asking<'m> {
 fn all_asking<'m>(alloc: Global, tests: &'m [Test]) -> Result<Vec<Asking<'m>>, OutOfMemory>
     ensures { IfOk result (λ v. v.items ≡ tests.now) }
 {
-    let mut asking = Vec::new(alloc);
+    let mut asking = Vec::with_capacity(alloc, tests.len())?;
     for test in tests {
         asking.push(test.asking()?)?;
     }

@@ -7,15 +7,16 @@ use Rattle.pf_match.specs.Meaning.{anchored}
 
 pub invariant_of-result : goal.invariant_of-result
 invariant_of-result c =
-    let made = c.in_ok-regex.ensures in
+    let made = c.in_ok-engine.ensures in
     let source = made.source ∙ c.as_str.ensures.value ∙ c.in_ok-source.ensures in
-    built_is_read_as c.in_ok-regex.regex _ (source ∙ ap anchored (sym c.in_ok-text.ensures.ok)) made.config made.read
+    rw c.in_ok-regex.ensures
+    (built_is_read_as c.in_ok-engine.engine _ (source ∙ ap anchored (sym c.in_ok-text.ensures.ok)) made.config made.read)
 
 pub returns-clause-read : goal.returns-clause-read
 returns-clause-read c =
-    let made = c.in_ok-regex.ensures in
+    let made = c.in_ok-engine.ensures in
     let source = made.source ∙ c.as_str.ensures.value ∙ c.in_ok-source.ensures in
-    is_pattern_of c.args.text.now _ _ (built_is_read_as c.in_ok-regex.regex _ source made.config made.read)
+    is_pattern_of c.args.text.now _ _ (built_is_read_as c.in_ok-engine.engine _ source made.config made.read)
 
 pub returns-clause-built : goal.returns-clause-built
 returns-clause-built c = grind (arith, common_steps)
