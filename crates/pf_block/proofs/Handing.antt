@@ -1,14 +1,12 @@
 -- Rows with the ids of their series, which are handed on.
-use Rattle.std.proofs.Common.{◌≡◌, ℕ, zero, suc, ◌+◌, ◌-◌, ◌<◌, ◌≤◌, ℤ, pos, Bool, true, false, ◌&&◌, Option, Some, None, List, [], ◌∷◌, ◌++◌, length, take, drop, get_or, refl, sym, ap, ◌∙◌, subst, append_assoc, arith}
-use Rattle.std.specs.Prelude.{nat_le}
-use Rattle.std.specs.Cmp.{first_so, second_so}
+use Rattle.std.proofs.Common.{◌≡◌, ℕ, zero, suc, ◌+◌, ◌-◌, ◌<◌, ◌≤◌, pos, true, Option, Some, None, List, [], ◌∷◌, ◌++◌, length, take, drop, get_or, refl, sym, ap, ◌∙◌, append_assoc, arith}
 use Rattle.std.proofs.lemmas.List.{get_or_default, length-append}
 use Rattle.pf_base.specs.declared.plain.Row.{Row}
 use Rattle.pf_base.specs.declared.plain.Sample.{Sample}
 use Rattle.pf_base.specs.LabelSets.{Pairs}
-use Rattle.pf_block.specs.Blocks.{Entries, ascends, ascends_after, entries_of, entries_with, is_upto, labels_with, noted, noted_at, number_at, number_of_labels, row_ids}
+use Rattle.pf_block.specs.Blocks.{ascends, entries_of, entries_with, labels_with, noted, noted_at, number_at, number_of_labels, row_ids}
 use Rattle.pf_block.specs.SeriesIds.{id_of}
-use Rattle.pf_block.specs.Snaps.{are_apart, are_timed, sample_of}
+use Rattle.pf_block.specs.Snaps.{are_apart, sample_of}
 use Rattle.pf_block.proofs.Ids.{apart_at, apart_push}
 use Rattle.pf_block.proofs.Keeping.{id_within}
 use Rattle.pf_block.proofs.Pairing.{drop_at}

@@ -1,5 +1,5 @@
 -- Verdicts on rows.
-use Rattle.std.proofs.Common.{◌≡◌, ℕ, suc, ◌+◌, ◌<◌, ◌≤◌, ℤ, Bool, true, false, cond, ◌&&◌, List, [], ◌∷◌, ◌++◌, length, refl, sym, ap, ◌∙◌, arith, Some, None, Option, nat_le, nat_lt, append_assoc, append-nil, get_or, drop, drop-cons, map, Result, Ok, Err, IfOk}
+use Rattle.std.proofs.Common.{◌≡◌, ℕ, zero, suc, ◌+◌, ◌<◌, ◌≤◌, ℤ, Bool, true, false, cond, ◌&&◌, List, [], ◌∷◌, ◌++◌, length, refl, sym, ap, ◌∙◌, arith, Some, None, Option, nat_le, nat_lt, append_assoc, append-nil, get_or, drop, drop-cons, map, Result, Ok, Err, IfOk}
 use Rattle.std.specs.List.{list_all}
 use Rattle.std.proofs.lemmas.List.{map-append}
 use Rattle.std.specs.Cmp.{first_so, second_so}
@@ -78,3 +78,9 @@ drop_at rows i r l e =
 
 pub map_more : {A B : Type 0} (f : A → B) (xs ys : List A) (x : A) → ys ≡ xs ++ x ∷ [] → map f ys ≡ map f xs ++ f x ∷ []
 map_more f xs ys x e = ap (map f) e ∙ map-append f xs (x ∷ [])
+
+pub at_end : (rows : List Row) (i : ℕ) → length rows ≤ i → drop i rows ≡ []
+at_end [] zero l = refl
+at_end [] (suc i) l = refl
+at_end (r ∷ rs) zero l = absurd (omega arith)
+at_end (r ∷ rs) (suc i) l = at_end rs i (omega arith)

@@ -5,3 +5,4 @@ pub mod Judging
 pub mod Logs
 pub mod Snapshots
 pub mod Numbers
+mod Giving

@@ -16,7 +16,7 @@ use Rattle.pf_store.specs.declared.taken.Numbered.{Numbered}
 use Rattle.pf_store.proofs.Holding.{either, either_none, held_value-append, is_at, is_at_labels, is_at_time, nat_exact, nat_own, same_exact, same_own}
 use Rattle.pf_store.proofs.Snapshots.{found}
 
-same_some : {X : Type 0} (x y : X) → Some x ≡ Some y → x ≡ y
+pub same_some : {X : Type 0} (x y : X) → Some x ≡ Some y → x ≡ y
 same_some x y e = cc
 
 pub one_more : (a b : ℕ) (o : Option Numbered) → a ≡ b + (if is_some o then 0 else 1) → o ≡ None → a ≡ b + 1
@@ -39,14 +39,14 @@ taken_none (Some x) v h = absurd (by (int_eq x v) h)
 -- ---- a label set that is new
 
 module _ {S : Type 0} (series new : HashMap Pairs Numbered S) (l : Pairs) (n : Numbered) (u : Updates labels_eq series new l (Some n)) where
-  got : (m : Pairs) (s : Numbered) → get labels_eq new m ≡ Some s → ((l ≡ m) × (n ≡ s)) ⊎ (get labels_eq series m ≡ Some s)
+  pub got : (m : Pairs) (s : Numbered) → get labels_eq new m ≡ Some s → ((l ≡ m) × (n ≡ s)) ⊎ (get labels_eq series m ≡ Some s)
   got m s e = by (labels_eq l m) refl (sym (u.0 m) ∙ e)
     where
       by : (b : Bool) → labels_eq l m ≡ b → cond (labels_eq l m) (Some n) (get labels_eq series m) ≡ Some s → ((l ≡ m) × (n ≡ s)) ⊎ (get labels_eq series m ≡ Some s)
       by true k g = let h = rw k at g in inl ((labels_decides l m).0 k, same_some n s h)
       by false k g = inr (let h = rw k at g in h)
 
-  absent : (m : Pairs) → get labels_eq new m ≡ None → get labels_eq series m ≡ None
+  pub absent : (m : Pairs) → get labels_eq new m ≡ None → get labels_eq series m ≡ None
   absent m e = by (labels_eq l m) refl (sym (u.0 m) ∙ e)
     where
       by : (b : Bool) → labels_eq l m ≡ b → cond (labels_eq l m) (Some n) (get labels_eq series m) ≡ None → get labels_eq series m ≡ None

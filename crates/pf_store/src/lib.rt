@@ -7,6 +7,7 @@
 //! The code keeps no list: it keeps the snapshot of the samples, the greatest time ever taken, and two counts.
 #![tactic(auto)]
 
+mod given;
 mod judged;
 mod taken;
 mod tenant_log;

@@ -157,7 +157,7 @@ impl TenantLog {
             });
         }
         let entries = with_entry(self.entries)?;
-        self.snap = self.snap.with(&judged.taken)?;
+        self.snap = self.snap.with_ids(&judged.taken, &judged.ids)?;
         self.newest = newest_with(self.newest, &judged.taken);
         self.entries = entries;
         Ok(Verdicts {

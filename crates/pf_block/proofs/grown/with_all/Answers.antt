@@ -1,4 +1,4 @@
-use Rattle.std.proofs.Common.{◌≡◌, ◌++◌, ◌∷◌, [], length, ap, ◌∙◌, arith}
+use Rattle.std.proofs.Common.{ap, ◌∙◌, arith}
 use Rattle.pf_block.specs.SeriesIds.{id_of}
 use Rattle.pf_block.proofs.Handing.{next_apart}
 use Rattle.pf_block.proofs.grown.with_all.Goals as goal

@@ -1,9 +1,9 @@
-use Rattle.std.proofs.Common.{◌≡◌, ℕ, ◌+◌, ◌++◌, ◌∷◌, ◌∙◌, ap, subst, arith, drop, length, ◌<◌, List, [], map, true}
+use Rattle.std.proofs.Common.{◌≡◌, ℕ, ◌+◌, ◌++◌, ◌∷◌, ◌∙◌, append-nil, ap, subst, sym, arith, drop, length, ◌<◌, List, [], map, true}
 use Rattle.pf_base.specs.declared.plain.Row.{Row}
 use Rattle.pf_block.specs.Snaps.{are_timed}
 use Rattle.pf_model.specs.Log.{Verdict, is_taken, taken_rows, verdicts_on}
 use Rattle.pf_store.specs.Verdicts.{verdict_of}
-use Rattle.pf_store.proofs.Judging.{drop_at, map_more, judged_more, taken_more, timed_more, timed_rest, fresh_more}
+use Rattle.pf_store.proofs.Judging.{at_end, drop_at, map_more, judged_more, taken_more, timed_more, timed_rest, fresh_more}
 use Rattle.pf_store.proofs.judged.judge_rows.Goals as goal
 
 pub loop-row-preserved : goal.loop-row-preserved
@@ -25,6 +25,7 @@ loop-row-preserved c =
     record {
       found = h.found;
       ids = h.ids;
+      gives = h.gives;
       judged = λ xs f.
           ap (λ n. n ++ verdicts_on c.args.floor (xs ++ new) rest) m
           ∙ judged_more c.args.floor xs r rest rows tk new v vs (h.verdict xs f) h.rows (subst (λ n. vs ++ verdicts_on c.args.floor (xs ++ tk) n ≡ verdicts_on c.args.floor xs rows) d (k.judged xs f));
@@ -35,3 +36,19 @@ loop-row-preserved c =
       timed = timed_more tk new r rest (is_taken v) h.rows k.timed t;
       rest = timed_rest r rest t;
     }
+
+pub returns-clause-list : goal.returns-clause-list
+returns-clause-list c =
+    let vs : List Verdict = map verdict_of c.loop-row.list.items in
+    λ xs f.
+    sym (append-nil vs)
+    ∙ ap (λ n. vs ++ verdicts_on c.args.floor (xs ++ c.loop-row.taken.rows.items) n) (sym (at_end c.args.rows.now c.loop-row.row-index (omega arith)))
+    ∙ c.loop-row.invariant.judged xs f
+
+pub returns-clause-taken : goal.returns-clause-taken
+returns-clause-taken c =
+    let tk : List Row = c.loop-row.taken.rows.items in
+    λ xs f.
+    sym (append-nil tk)
+    ∙ ap (λ n. tk ++ taken_rows n (verdicts_on c.args.floor (xs ++ tk) n)) (sym (at_end c.args.rows.now c.loop-row.row-index (omega arith)))
+    ∙ c.loop-row.invariant.took xs f

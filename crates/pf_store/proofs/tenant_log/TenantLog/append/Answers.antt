@@ -80,7 +80,7 @@ returns-clause-stands c =
     let z : 0 < length tk = grind (arith, nat_tests, c.is_empty.ensures, c.if-is_empty.false) in
     let n : are_new d.snap tk ≡ true = subst (λ s. are_new s tk ≡ true) c.deref.ensures c.in_ok-judged.ensures.fresh in
     let snap : arc_value c.in_ok-self-inside.field-0 ≡ with_rows d.snap tk = c.in_ok-self-inside.ensures ∙ (λ i. with_rows (c.deref-3.ensures i) (c.deref-4.ensures.value i)) in
-    let newest : c.newest_with-self-inside.result ≡ newest_with d.newest tk = c.newest_with-self-inside.ensures ∙ (λ i. newest_with d.newest (c.deref-5.ensures.value i)) in
+    let newest : c.newest_with-self-inside.result ≡ newest_with d.newest tk = c.newest_with-self-inside.ensures ∙ (λ i. newest_with d.newest (c.deref-6.ensures.value i)) in
     let new : LogData = record { window = d.window; entries = c.in_ok-entries.entries; newest = c.newest_with-self-inside.result; generation = d.generation; snap = arc_value c.in_ok-self-inside.field-0 } in
     let grown : LogData = record { window = d.window; entries = d.entries + 1; newest = newest_with d.newest tk; generation = d.generation; snap = with_rows d.snap tk } in
     let p : new ≡ grown = (λ i. record { window = d.window; entries = c.in_ok-entries.ensures i; newest = newest i; generation = d.generation; snap = snap i }) in
