@@ -1,6 +1,6 @@
 //! Samples walked in order of time.
 
-ghost use Rattle.std.specs.Prelude.{◌≡◌, ◌++◌, true, map, []};
+ghost use Rattle.std.specs.Prelude.{◌≡◌, ◌++◌, true, IfSome, map, []};
 ghost use Rattle.std.specs.Arc.{arc_value};
 ghost use Rattle.std.specs.Iterator.{YieldsFirst, item_count};
 ghost use Rattle.pf_block.specs.Stacks.{series_in};
@@ -74,6 +74,17 @@ impl<'a> Window<'a> {
             id: 0,
             after: 0,
             upto: 0,
+        }
+    }
+
+    /// The samples that are left, where they lie together. There are none where blocks are behind them.
+    pub fn lent(&self) -> Option<&'a [Sample]>
+        ensures { IfSome result (λ xs. xs.now ≡ self.now) }
+    {
+        if self.more.is_empty() {
+            Some(self.rest)
+        } else {
+            None
         }
     }
 

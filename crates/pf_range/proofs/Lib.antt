@@ -1,4 +1,5 @@
 pub mod Extremes
+pub mod SamplePlaces
 pub mod Quotients
 pub mod Stretches
 pub mod Sums

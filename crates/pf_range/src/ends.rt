@@ -26,8 +26,23 @@ pub(crate) struct Counter {
     pub(crate) growth: i128,
 }
 
-/// The ends of a window. None of one without a sample.
-pub(crate) fn ends_in(mut window: Window<'_>) -> Option<Ends>
+/// The ends of samples that lie together. None of no samples.
+fn ends_of(samples: &[Sample]) -> Option<Ends>
+    ensures { MatchOption result (length samples.now < 1) (λ e. (e ≡ ends_of samples.now) × (1 ≤ length samples.now)) }
+{
+    let count = samples.len();
+    if count == 0 {
+        return None;
+    }
+    Some(Ends {
+        first: samples[0],
+        last: samples[count - 1],
+        count: count as u64,
+    })
+}
+
+/// The ends of a window that is walked to its end. None of one without a sample.
+fn ends_walked(mut window: Window<'_>) -> Option<Ends>
     requires { IsFew window }
     ensures { MatchOption result (length window.entry < 1) (λ e. (e ≡ ends_of window.entry) × (1 ≤ length window.entry)) }
 {
@@ -39,6 +54,17 @@ pub(crate) fn ends_in(mut window: Window<'_>) -> Option<Ends>
         count += 1;
     }
     Some(Ends { first, last, count })
+}
+
+/// The ends of a window. None of one without a sample.
+pub(crate) fn ends_in(window: Window<'_>) -> Option<Ends>
+    requires { IsFew window }
+    ensures { MatchOption result (length window.entry < 1) (λ e. (e ≡ ends_of window.entry) × (1 ≤ length window.entry)) }
+{
+    match window.lent() {
+        Some(samples) => ends_of(samples),
+        None => ends_walked(window),
+    }
 }
 
 /// What a counter lost from one sample to the next: all, where it began anew.

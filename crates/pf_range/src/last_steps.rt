@@ -9,8 +9,19 @@ use super::quotient::quotient;
 use pf_base::{Sample, Value};
 use pf_block::Window;
 
-/// The last sample but one, and the last. None of fewer than two samples.
-fn last_two(mut window: Window<'_>) -> Option<(Sample, Sample)>
+/// The last two of samples that lie together. None of fewer.
+fn two_of(samples: &[Sample]) -> Option<(Sample, Sample)>
+    ensures { MatchOption result (length samples.now < 2) (λ s. (s.0 ≡ last (but_last samples.now)) × (s.1 ≡ last samples.now) × (2 ≤ length samples.now)) }
+{
+    let count = samples.len();
+    if count < 2 {
+        return None;
+    }
+    Some((samples[count - 2], samples[count - 1]))
+}
+
+/// The last two samples of a window that is walked to its end. None of fewer.
+fn two_walked(mut window: Window<'_>) -> Option<(Sample, Sample)>
     ensures { MatchOption result (length window.entry < 2) (λ s. (s.0 ≡ last (but_last window.entry)) × (s.1 ≡ last window.entry) × (2 ≤ length window.entry)) }
 {
     let mut before = window.next()?;
@@ -20,6 +31,16 @@ fn last_two(mut window: Window<'_>) -> Option<(Sample, Sample)>
         last = sample;
     }
     Some((before, last))
+}
+
+/// The last sample but one, and the last. None of fewer than two samples.
+fn last_two(window: Window<'_>) -> Option<(Sample, Sample)>
+    ensures { MatchOption result (length window.entry < 2) (λ s. (s.0 ≡ last (but_last window.entry)) × (s.1 ≡ last window.entry) × (2 ≤ length window.entry)) }
+{
+    match window.lent() {
+        Some(samples) => two_of(samples),
+        None => two_walked(window),
+    }
 }
 
 /// What a counter grew by from one sample to the next, which is not moved into the bounds of values.

@@ -1,7 +1,8 @@
 //! Functions of range vectors: what each gives of the samples of one series in a window.
 //!
 //! What the layers above use: `range_value` is the value of any of them, by the table of the definitions. It walks the
-//! window once, keeps a few numbers of it and takes no memory.
+//! window once, keeps a few numbers of it and takes no memory. What asks of its ends alone looks at these, where the samples
+//! lie together.
 #![tactic(auto)]
 
 ghost use Rattle.std.specs.Prelude.{◌≡◌, true};

@@ -1,6 +1,6 @@
 use Rattle.std.proofs.Common.{◌∷◌, length, sym, ap, ◌∙◌, arith}
 use Rattle.pf_model.specs.RangeFunctions.{but_last, last}
-use Rattle.pf_range.proofs.last_steps.last_two.Goals as goal
+use Rattle.pf_range.proofs.last_steps.two_walked.Goals as goal
 
 -- one sample more
 pub loop-sample-preserved : goal.loop-sample-preserved

@@ -1,6 +1,6 @@
 use Rattle.std.proofs.Common.{◌≡◌, ◌∷◌}
 use Rattle.pf_model.specs.RangeFunctions.{but_last, last}
-use Rattle.pf_range.proofs.last_steps.last_two.Given as goal
+use Rattle.pf_range.proofs.last_steps.two_walked.Given as goal
 
 abbrev pub invariant-loop-sample : goal.invariant-loop-sample
 invariant-loop-sample l = record {

@@ -1,6 +1,6 @@
 use Rattle.std.proofs.Common.{◌≡◌, ◌≤◌, ◌+◌, ◌∷◌, length}
 use Rattle.pf_model.specs.RangeFunctions.{first, last}
-use Rattle.pf_range.proofs.ends.ends_in.Given as goal
+use Rattle.pf_range.proofs.ends.ends_walked.Given as goal
 
 abbrev pub invariant-loop-sample : goal.invariant-loop-sample
 invariant-loop-sample l = record {

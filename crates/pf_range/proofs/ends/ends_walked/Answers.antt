@@ -1,6 +1,6 @@
 use Rattle.std.proofs.Common.{◌≡◌, ◌∷◌, length, sym, ap, ◌∙◌, arith}
 use Rattle.pf_model.specs.RangeFunctions.{last}
-use Rattle.pf_range.proofs.ends.ends_in.Goals as goal
+use Rattle.pf_range.proofs.ends.ends_walked.Goals as goal
 
 -- one sample more
 pub loop-sample-preserved : goal.loop-sample-preserved
