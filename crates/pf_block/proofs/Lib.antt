@@ -12,6 +12,10 @@ mod Pairing
 mod SortedEntries
 mod Canonical
 mod Taking
+mod MergedSamples
+mod Stretches
+mod Series
+mod Reading
 mod Stacking
 mod Layering
 mod LentWindows

@@ -5,10 +5,10 @@ use Rattle.std.specs.Cmp.{first_so, second_so}
 use Rattle.std.specs.List.{list_all}
 use Rattle.std.proofs.Math.Nat.{pow-suc}
 use Rattle.std.proofs.lemmas.Bool.Decides.{nat_tests}
-use Rattle.std.proofs.lemmas.List.{length-append}
 use Rattle.pf_base.specs.declared.plain.Sample.{Sample}
 use Rattle.pf_block.specs.Blocks.{Entries, samples_in}
 use Rattle.pf_block.specs.Stacks.{doubles, series_from, series_in, total}
+use Rattle.pf_block.proofs.MergedSamples.{merged_length}
 
 -- the samples that a block has of some series
 abbrev part : ℕ → ℕ → Entries → ℕ
@@ -49,7 +49,7 @@ none_total i (suc n) = let r = none_total (i + 1) n in omega (arith, r)
 
 more_total : (i n : ℕ) (b : Entries) (bs : List Entries) → total (map length (series_from i n (b ∷ bs))) ≡ part i n b + total (map length (series_from i n bs))
 more_total i zero b bs = omega arith
-more_total i (suc n) b bs = let r = more_total (i + 1) n b bs in let a = length-append (samples_in i b) (series_in i bs) in omega (arith, r, a)
+more_total i (suc n) b bs = let r = more_total (i + 1) n b bs in let a = merged_length (samples_in i b) (series_in i bs) in omega (arith, r, a)
 
 pub total_most : (i n : ℕ) (bs : List Entries) → total (map length (series_from i n bs)) ≤ total (map length bs)
 total_most i n [] = let r = none_total i n in omega (arith, r)

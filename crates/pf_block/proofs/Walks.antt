@@ -8,11 +8,13 @@ use Rattle.std.proofs.lemmas.Bool.Decides.{nat_tests}
 use Rattle.pf_base.specs.declared.plain.Sample.{Sample}
 use Rattle.pf_block.specs.Blocks.{Entries, ascends, ascends_after, is_upto, merged, samples_in}
 use Rattle.pf_block.specs.Samples.{is_within, last_of, last_onto, rises, rises_after, window_of}
-use Rattle.pf_block.specs.Stacks.{IsStacked, doubles, is_clear, is_not_after, merged_into, series_in, takes_in, topped}
+use Rattle.pf_block.specs.declared.stack.Order.{Order}
+use Rattle.pf_block.specs.Stacks.{IsStacked, doubles, is_clear, is_not_after, merged_into, joined_in, order_on, takes_in, topped}
 use Rattle.pf_block.proofs.Canonical.{rises_back, rises_front}
 use Rattle.pf_block.proofs.Pairing.{drop_at}
 use Rattle.pf_block.proofs.Searches.{both, last_is}
-use Rattle.pf_block.proofs.Stacking.{filter_append, series_append, series_split}
+use Rattle.pf_block.proofs.Series.{front_less, joined_append, joined_split}
+use Rattle.pf_block.proofs.Stacking.{filter_append}
 
 pub map_take : {X Y : Type 0} (f : X → Y) (n : ℕ) (xs : List X) → map f (take n xs) ≡ take n (map f xs)
 map_take f zero xs = refl
@@ -44,14 +46,14 @@ append_none (x ∷ xs) = ap (λ l. x ∷ l) (append_none xs)
 -- ---- the samples of a series up to a block
 
 module _ (id : ℕ) (bs : List Entries) (n : ℕ) (b : Entries) (l : n < length bs) (h : b ≡ get_or bs n []) where
-  pub series_next : series_in id (take (suc n) bs) ≡ series_in id (take n bs) ++ samples_in id b
-  series_next = ap (series_in id) (take_next n bs b [] l h) ∙ series_append id (take n bs) (b ∷ []) ∙ ap (λ x. series_in id (take n bs) ++ x) (append_none (samples_in id b))
+  pub series_next : joined_in id (take (suc n) bs) ≡ joined_in id (take n bs) ++ samples_in id b
+  series_next = ap (joined_in id) (take_next n bs b [] l h) ∙ joined_append id (take n bs) (b ∷ []) ∙ ap (λ x. joined_in id (take n bs) ++ x) (append_none (samples_in id b))
 
-  front_rises : rises (series_in id bs) ≡ true → rises (series_in id (take (suc n) bs)) ≡ true
-  front_rises r = rises_front (series_in id (take (suc n) bs)) (series_in id (drop (suc n) bs)) (subst (λ x. rises x ≡ true) (sym (series_split id (suc n) bs)) r)
+  front_rises : rises (joined_in id bs) ≡ true → rises (joined_in id (take (suc n) bs)) ≡ true
+  front_rises r = rises_front (joined_in id (take (suc n) bs)) (joined_in id (drop (suc n) bs)) (subst (λ x. rises x ≡ true) (sym (joined_split id (suc n) bs)) r)
 
-  pub block_rises : rises (series_in id bs) ≡ true → rises (samples_in id b) ≡ true
-  block_rises r = rises_back (series_in id (take n bs)) (samples_in id b) (subst (λ x. rises x ≡ true) series_next (front_rises r))
+  pub block_rises : rises (joined_in id bs) ≡ true → rises (samples_in id b) ≡ true
+  block_rises r = rises_back (joined_in id (take n bs)) (samples_in id b) (subst (λ x. rises x ≡ true) series_next (front_rises r))
 
 -- ---- the last of two lists
 
@@ -75,20 +77,20 @@ last_missing [] h = refl
 last_missing (y ∷ ys) h = absurd (some_onto y ys h)
 
 module _ (id : ℕ) (after upto : ℤ) (bs : List Entries) (n : ℕ) (b : Entries) (l : n < length bs) (h : b ≡ get_or bs n []) (ws : List Sample) (w : ws ≡ window_of (samples_in id b) after upto) where
-  pub window_next : window_of (series_in id (take (suc n) bs)) after upto ≡ window_of (series_in id (take n bs)) after upto ++ ws
+  pub window_next : window_of (joined_in id (take (suc n) bs)) after upto ≡ window_of (joined_in id (take n bs)) after upto ++ ws
   window_next =
-      ap (λ x. window_of x after upto) (series_next id bs n b l h) ∙ filter_append (is_within after upto) (series_in id (take n bs)) (samples_in id b)
-      ∙ ap (λ x. window_of (series_in id (take n bs)) after upto ++ x) (sym w)
+      ap (λ x. window_of x after upto) (series_next id bs n b l h) ∙ filter_append (is_within after upto) (joined_in id (take n bs)) (samples_in id b)
+      ∙ ap (λ x. window_of (joined_in id (take n bs)) after upto ++ x) (sym w)
 
-  pub last_here : (s : Sample) → Some s ≡ slice_get ws (length ws - 1) → last_of (window_of (series_in id (take (suc n) bs)) after upto) ≡ Some s
+  pub last_here : (s : Sample) → Some s ≡ slice_get ws (length ws - 1) → last_of (window_of (joined_in id (take (suc n) bs)) after upto) ≡ Some s
   last_here s g =
-      ap last_of window_next ∙ last_kept None (window_of (series_in id (take n bs)) after upto) ws
-      ∙ last_found (last_of (window_of (series_in id (take n bs)) after upto)) ws s (last_is ws ∙ sym g)
+      ap last_of window_next ∙ last_kept None (window_of (joined_in id (take n bs)) after upto) ws
+      ∙ last_found (last_of (window_of (joined_in id (take n bs)) after upto)) ws s (last_is ws ∙ sym g)
 
-  pub last_before : None ≡ slice_get ws (length ws - 1) → last_of (window_of (series_in id (take (suc n) bs)) after upto) ≡ last_of (window_of (series_in id (take n bs)) after upto)
+  pub last_before : None ≡ slice_get ws (length ws - 1) → last_of (window_of (joined_in id (take (suc n) bs)) after upto) ≡ last_of (window_of (joined_in id (take n bs)) after upto)
   last_before g =
       let e : ws ≡ [] = last_missing ws (last_is ws ∙ sym g) in
-      ap last_of (window_next ∙ ap (λ x. window_of (series_in id (take n bs)) after upto ++ x) e ∙ append_none (window_of (series_in id (take n bs)) after upto))
+      ap last_of (window_next ∙ ap (λ x. window_of (joined_in id (take n bs)) after upto ++ x) e ∙ append_none (window_of (joined_in id (take n bs)) after upto))
 
 -- ---- not after a time
 
@@ -111,19 +113,6 @@ all_upto_last : (xs : List Sample) (s : Sample) (t : ℤ) → rises xs ≡ true 
 all_upto_last [] s t r h u = refl
 all_upto_last (x ∷ xs) s t r h u = last_most x xs s t r h u
 
-module _ (id : ℕ) (bs : List Entries) (clear n : ℕ) (b : Entries) (l : n < length bs) (h : b ≡ get_or bs n []) (same : series_in id (take clear bs) ≡ series_in id (take (suc n) bs)) (ys : List Sample) (w : ys ≡ samples_in id b) where
-  pub clear_here : (s : Sample) (t : ℤ) → rises (series_in id bs) ≡ true → Some s ≡ slice_get ys (length ys - 1) → int_le s.time t ≡ true → list_all (is_not_after t) (series_in id (take clear bs)) ≡ true
-  clear_here s t r g u =
-      let last : last_of (series_in id (take (suc n) bs)) ≡ Some s =
-      ap last_of (series_next id bs n b l h) ∙ last_kept None (series_in id (take n bs)) (samples_in id b)
-      ∙ last_found (last_of (series_in id (take n bs))) (samples_in id b) s (ap last_of (sym w) ∙ last_is ys ∙ sym g) in
-      ap (list_all (is_not_after t)) same ∙ all_upto_last (series_in id (take (suc n) bs)) s t (front_rises id bs n b l h r) last u
-
-  pub clear_before : None ≡ slice_get ys (length ys - 1) → series_in id (take clear bs) ≡ series_in id (take n bs)
-  clear_before g =
-      let e : samples_in id b ≡ [] = sym w ∙ last_missing ys (last_is ys ∙ sym g) in
-      same ∙ series_next id bs n b l h ∙ ap (λ x. series_in id (take n bs) ++ x) e ∙ append_none (series_in id (take n bs))
-
 -- fewer blocks, or a later time
 module _ (t u : ℤ) (m : int_le t u ≡ true) where
   not_after_later : (xs : List Sample) → list_all (is_not_after t) xs ≡ true → list_all (is_not_after u) xs ≡ true
@@ -145,28 +134,50 @@ module _ (p : Sample → Bool) where
   all_both [] ys h g = g
   all_both (x ∷ xs) ys h g = both (p x) (list_all p (xs ++ ys)) (first_so (p x) (list_all p xs) h) (all_both xs ys (second_so (p x) (list_all p xs) h) g)
 
-  all_fewer : (id m n : ℕ) (bs : List Entries) → m ≤ n → list_all p (series_in id (take n bs)) ≡ true → list_all p (series_in id (take m bs)) ≡ true
+  all_fewer : (id m n : ℕ) (bs : List Entries) → m ≤ n → list_all p (joined_in id (take n bs)) ≡ true → list_all p (joined_in id (take m bs)) ≡ true
   all_fewer id zero n bs l h = refl
   all_fewer id (suc m) zero bs l h = absurd (omega arith)
   all_fewer id (suc m) (suc n) [] l h = refl
   all_fewer id (suc m) (suc n) (b ∷ bs) l h =
-      all_both (samples_in id b) (series_in id (take m bs)) (all_front (samples_in id b) (series_in id (take n bs)) h) (all_fewer id m n bs (omega arith) (all_back (samples_in id b) (series_in id (take n bs)) h))
+      all_both (samples_in id b) (joined_in id (take m bs)) (all_front (samples_in id b) (joined_in id (take n bs)) h) (all_fewer id m n bs (omega arith) (all_back (samples_in id b) (joined_in id (take n bs)) h))
+
+-- the first blocks have no sample after a time
+abbrev pub AreBefore : ℕ → ℤ → List Entries → ℕ → Type 0
+AreBefore id t bs m = list_all (is_not_after t) (joined_in id (take m bs)) ≡ true
+
+module _ (id : ℕ) (t : ℤ) (bs : List Entries) (n : ℕ) (b : Entries) (l : n < length bs) (h : b ≡ get_or bs n []) (ys : List Sample) (w : ys ≡ samples_in id b) where
+  pub clear_here : (s : Sample) (ordered : ℕ) → n < ordered → rises (joined_in id (take ordered bs)) ≡ true → Some s ≡ slice_get ys (length ys - 1) → int_le s.time t ≡ true → AreBefore id t bs (suc n)
+  clear_here s ordered m r g u =
+      let last : last_of (joined_in id (take (suc n) bs)) ≡ Some s =
+      ap last_of (series_next id bs n b l h) ∙ last_kept None (joined_in id (take n bs)) (samples_in id b)
+      ∙ last_found (last_of (joined_in id (take n bs))) (samples_in id b) s (ap last_of (sym w) ∙ last_is ys ∙ sym g) in
+      all_upto_last (joined_in id (take (suc n) bs)) s t (front_less id (suc n) ordered bs (omega (arith, m)) r) last u
+
+  pub clear_none : None ≡ slice_get ys (length ys - 1) → AreBefore id t bs n → AreBefore id t bs (suc n)
+  clear_none g a =
+      let e : samples_in id b ≡ [] = sym w ∙ last_missing ys (last_is ys ∙ sym g) in
+      ap (list_all (is_not_after t)) (series_next id bs n b l h ∙ ap (λ x. joined_in id (take n bs) ++ x) e ∙ append_none (joined_in id (take n bs))) ∙ a
+
+  pub clear_upto : (s : Sample) → rises (samples_in id b) ≡ true → Some s ≡ slice_get ys (length ys - 1) → int_le s.time t ≡ true → AreBefore id t bs n → AreBefore id t bs (suc n)
+  clear_upto s r g u a =
+      ap (list_all (is_not_after t)) (series_next id bs n b l h)
+      ∙ all_both (is_not_after t) (joined_in id (take n bs)) (samples_in id b) a (all_upto_last (samples_in id b) s t r (ap last_of (sym w) ∙ last_is ys ∙ sym g) u)
 
 pub clear_fewer : (m n : ℕ) (bs : List Entries) (es : Entries) → m ≤ n → is_clear (take n bs) es ≡ true → is_clear (take m bs) es ≡ true
 clear_fewer m n bs [] l h = refl
 clear_fewer m n bs (e ∷ es) l h =
-    let one = list_all (is_not_after e.1.time) (series_in e.0 (take n bs)) in
-    both (list_all (is_not_after e.1.time) (series_in e.0 (take m bs))) (is_clear (take m bs) es) (all_fewer (is_not_after e.1.time) e.0 m n bs l (first_so one (is_clear (take n bs) es) h))
+    let one = list_all (is_not_after e.1.time) (joined_in e.0 (take n bs)) in
+    both (list_all (is_not_after e.1.time) (joined_in e.0 (take m bs))) (is_clear (take m bs) es) (all_fewer (is_not_after e.1.time) e.0 m n bs l (first_so one (is_clear (take n bs) es) h))
     (clear_fewer m n bs es l (second_so one (is_clear (take n bs) es) h))
 
-clear_push : (bs : List Entries) (es : Entries) (e : ℕ × Sample) → is_clear bs es ≡ true → list_all (is_not_after e.1.time) (series_in e.0 bs) ≡ true → is_clear bs (es ++ e ∷ []) ≡ true
-clear_push bs [] e h k = both (list_all (is_not_after e.1.time) (series_in e.0 bs)) true k refl
+clear_push : (bs : List Entries) (es : Entries) (e : ℕ × Sample) → is_clear bs es ≡ true → list_all (is_not_after e.1.time) (joined_in e.0 bs) ≡ true → is_clear bs (es ++ e ∷ []) ≡ true
+clear_push bs [] e h k = both (list_all (is_not_after e.1.time) (joined_in e.0 bs)) true k refl
 clear_push bs (f ∷ es) e h k =
-    let one = list_all (is_not_after f.1.time) (series_in f.0 bs) in
+    let one = list_all (is_not_after f.1.time) (joined_in f.0 bs) in
     both one (is_clear bs (es ++ e ∷ [])) (first_so one (is_clear bs es) h) (clear_push bs es e (second_so one (is_clear bs es) h) k)
 
 module _ (bs : List Entries) (es : Entries) (k : ℕ) (e : ℕ × Sample) (l : k < length es) (h : e ≡ get_or es k e) where
-  pub clear_tested : (m c n : ℕ) → n ≡ min m c → is_clear (take m bs) (take k es) ≡ true → list_all (is_not_after e.1.time) (series_in e.0 (take c bs)) ≡ true → is_clear (take n bs) (take (suc k) es) ≡ true
+  pub clear_tested : (m c n : ℕ) → n ≡ min m c → is_clear (take m bs) (take k es) ≡ true → list_all (is_not_after e.1.time) (joined_in e.0 (take c bs)) ≡ true → is_clear (take n bs) (take (suc k) es) ≡ true
   clear_tested m c n q g f =
       ap (is_clear (take n bs)) (take_next k es e e l h)
       ∙ clear_push (take n bs) (take k es) e (clear_fewer n m bs (take k es) (omega (arith, q)) g) (all_fewer (is_not_after e.1.time) e.0 n c bs (omega (arith, q)) f)
@@ -186,10 +197,10 @@ next_upto (x ∷ []) k d h l = absurd (omega arith)
 next_upto (x ∷ y ∷ es) zero d h l = first_so (is_upto x y) (ascends_after y es) h
 next_upto (x ∷ y ∷ es) (suc k) d h l = next_after x (y ∷ es) k d h (omega arith)
 
-clear_one : (bs : List Entries) (es : Entries) (k : ℕ) (d : ℕ × Sample) → is_clear bs es ≡ true → k < length es → list_all (is_not_after (get_or es k d).1.time) (series_in (get_or es k d).0 bs) ≡ true
+clear_one : (bs : List Entries) (es : Entries) (k : ℕ) (d : ℕ × Sample) → is_clear bs es ≡ true → k < length es → list_all (is_not_after (get_or es k d).1.time) (joined_in (get_or es k d).0 bs) ≡ true
 clear_one bs [] k d h l = absurd (omega arith)
-clear_one bs (e ∷ es) zero d h l = first_so (list_all (is_not_after e.1.time) (series_in e.0 bs)) (is_clear bs es) h
-clear_one bs (e ∷ es) (suc k) d h l = clear_one bs es k d (second_so (list_all (is_not_after e.1.time) (series_in e.0 bs)) (is_clear bs es) h) (omega arith)
+clear_one bs (e ∷ es) zero d h l = first_so (list_all (is_not_after e.1.time) (joined_in e.0 bs)) (is_clear bs es) h
+clear_one bs (e ∷ es) (suc k) d h l = clear_one bs es k d (second_so (list_all (is_not_after e.1.time) (joined_in e.0 bs)) (is_clear bs es) h) (omega arith)
 
 take_get : {X : Type 0} (m k : ℕ) (xs : List X) (d : X) → k < m → get_or (take m xs) k d ≡ get_or xs k d
 take_get zero k xs d l = absurd (omega arith)
@@ -206,12 +217,12 @@ take_size (suc m) (x ∷ xs) l = ap suc (take_size m xs (omega arith))
 pub clear_again : (bs : List Entries) (es : Entries) (k : ℕ) (e f : ℕ × Sample) → ascends es ≡ true → suc k < length es → e ≡ get_or es (suc k) e → f ≡ get_or es k e → f.0 ≡ e.0 →
     is_clear bs (take (suc k) es) ≡ true → is_clear bs (take (suc (suc k)) es) ≡ true
 clear_again bs es k e f a l h g s c =
-    let o : list_all (is_not_after f.1.time) (series_in f.0 bs) ≡ true =
-    subst (λ z. list_all (is_not_after z.1.time) (series_in z.0 bs) ≡ true) (take_get (suc k) k es e (omega arith) ∙ sym g)
+    let o : list_all (is_not_after f.1.time) (joined_in f.0 bs) ≡ true =
+    subst (λ z. list_all (is_not_after z.1.time) (joined_in z.0 bs) ≡ true) (take_get (suc k) k es e (omega arith) ∙ sym g)
     (clear_one bs (take (suc k) es) k e c (let z = take_size (suc k) es (omega (arith, l)) in omega (arith, z))) in
     let u : is_upto f e ≡ true = ap (λ z. is_upto z e) g ∙ ap (is_upto (get_or es k e)) h ∙ next_upto es k e a l in
     let t : int_le f.1.time e.1.time ≡ true = at_time f.0 e.0 f.1.time e.1.time s u in
-    let o' : list_all (is_not_after e.1.time) (series_in e.0 bs) ≡ true = not_after_later f.1.time e.1.time t (series_in e.0 bs) (subst (λ i. list_all (is_not_after f.1.time) (series_in i bs) ≡ true) s o) in
+    let o' : list_all (is_not_after e.1.time) (joined_in e.0 bs) ≡ true = not_after_later f.1.time e.1.time t (joined_in e.0 bs) (subst (λ i. list_all (is_not_after f.1.time) (joined_in i bs) ≡ true) s o) in
     ap (is_clear bs) (take_next (suc k) es e e l h) ∙ clear_push bs (take (suc k) es) e c o'
 
 -- ---- blocks that take in those before them
@@ -254,24 +265,28 @@ topped_doubles sizes (suc k) (e ∷ es) l h d = front_doubles sizes k (length (e
 half : (m n : ℕ) → nat_lt (m / 2) n ≡ false → 2 * n ≤ m
 half m n h = grind (arith, nat_tests)
 
-pub stack_made : (bs : List Entries) (sizes : List ℕ) (clear count : ℕ) (es top : Entries) (stack : List Entries) (numbers : List ℕ) → count ≤ length sizes → top ≡ merged_into (drop count bs) es → doubles sizes ≡ true → takes_in sizes clear count top ≡ false →
-    stack ≡ take count bs ++ topped top → numbers ≡ take count sizes ++ map length (topped top) → IsStacked bs sizes clear es stack numbers
-stack_made bs sizes clear zero es top stack numbers l e h t q m = record {
+pub stack_made : (bs : List Entries) (sizes : List ℕ) (old new : Order) (kept clear count : ℕ) (es top : Entries) (stack : List Entries) (numbers : List ℕ) → count ≤ length sizes → count ≤ length bs → top ≡ merged_into (drop count bs) es → doubles sizes ≡ true →
+    takes_in sizes kept count top ≡ false → stack ≡ take count bs ++ topped top → numbers ≡ take count sizes ++ map length (topped top) → new ≡ order_on old clear count (length stack) → IsStacked bs sizes old kept clear es stack numbers new
+stack_made bs sizes old new kept clear zero es top stack numbers l i e h t q m o = record {
   count = 0;
   within = omega arith;
+  inside = i;
   same = q ∙ ap (λ x. take 0 bs ++ topped x) e;
   numbered = m ∙ ap (λ x. take 0 sizes ++ map length (topped x)) e;
   doubles = ap doubles m ∙ topped_doubles sizes 0 top l h (λ k z. absurd (omega (arith, z)));
+  ordered = o;
 }
-stack_made bs sizes clear (suc k) es top stack numbers l e h t q m =
-    let f : nat_lt clear (suc k) ≡ false = (neither (nat_lt clear (suc k)) (nat_lt (get_or sizes k 0 / 2) (length top)) t).0 in
-    let g : nat_lt (get_or sizes k 0 / 2) (length top) ≡ false = (neither (nat_lt clear (suc k)) (nat_lt (get_or sizes k 0 / 2) (length top)) t).1 in
+stack_made bs sizes old new kept clear (suc k) es top stack numbers l i e h t q m o =
+    let f : nat_lt kept (suc k) ≡ false = (neither (nat_lt kept (suc k)) (nat_lt (get_or sizes k 0 / 2) (length top)) t).0 in
+    let g : nat_lt (get_or sizes k 0 / 2) (length top) ≡ false = (neither (nat_lt kept (suc k)) (nat_lt (get_or sizes k 0 / 2) (length top)) t).1 in
     record {
       count = suc k;
       within = grind (arith, nat_tests);
+      inside = i;
       same = q ∙ ap (λ x. take (suc k) bs ++ topped x) e;
       numbered = m ∙ ap (λ x. take (suc k) sizes ++ map length (topped x)) e;
       doubles = ap doubles m ∙ topped_doubles sizes (suc k) top l h (λ j z. let i : j ≡ k = omega (arith, z) in subst (λ n. 2 * length top ≤ get_or sizes n 0) (sym i) (half (get_or sizes k 0) (length top) g));
+      ordered = o;
     } where
       neither : (a b : Bool) → (a || b) ≡ false → (a ≡ false) × (b ≡ false)
       neither true b h = cc
@@ -314,9 +329,9 @@ next_place : (bs : List Entries) (n k : ℕ) (es : Entries) → is_clear (take n
 next_place bs n k es h = let z : k + 1 ≡ suc k = omega arith in ap (λ m. is_clear (take n bs) (take m es)) z ∙ h
 
 pub clear_by_test : (bs : List Entries) (es : Entries) (k : ℕ) (e : ℕ × Sample) (m c n : ℕ) (t : ℤ) → k < length es → e ≡ get_or es k e → n ≡ min m c → t ≡ e.1.time → is_clear (take m bs) (take k es) ≡ true →
-    list_all (is_not_after t) (series_in e.0 (take c bs)) ≡ true → is_clear (take n bs) (take (k + 1) es) ≡ true
+    list_all (is_not_after t) (joined_in e.0 (take c bs)) ≡ true → is_clear (take n bs) (take (k + 1) es) ≡ true
 clear_by_test bs es k e m c n t l h q p g f =
-    next_place bs n k es (clear_tested bs es k e l h m c n q g (ap (λ u. list_all (is_not_after u) (series_in e.0 (take c bs))) (sym p) ∙ f))
+    next_place bs n k es (clear_tested bs es k e l h m c n q g (ap (λ u. list_all (is_not_after u) (joined_in e.0 (take c bs))) (sym p) ∙ f))
 
 pub clear_by_last : (bs : List Entries) (es : Entries) (k n : ℕ) → ascends es ≡ true → k < length es → ((e : ℕ × Sample) → (0 < k) × ((get_or es (k - 1) e).0 ≡ (get_or es k e).0)) → is_clear (take n bs) (take k es) ≡ true → is_clear (take n bs) (take (k + 1) es) ≡ true
 clear_by_last bs es zero n a l h g = let z : 0 < 0 = (h (get_or es 0 (0, record { time = suc_none; value = suc_none }))).0 in absurd (omega (arith, z)) where
@@ -338,35 +353,35 @@ clear_by_last bs es (suc k) n a l h g =
       get_other zero (x ∷ xs) d e l = refl
       get_other (suc j) (x ∷ xs) d e l = get_other j xs d e (omega arith)
 
-pub last_same : (id : ℕ) (bs : List Entries) (m n : ℕ) (a u : ℤ) (o : Option Sample) → m ≡ suc n → last_of (window_of (series_in id (take (suc n) bs)) a u) ≡ o → last_of (window_of (series_in id (take m bs)) a u) ≡ o
-last_same id bs m n a u o e h = ap (λ k. last_of (window_of (series_in id (take k bs)) a u)) e ∙ h
+pub last_same : (id : ℕ) (bs : List Entries) (m n : ℕ) (a u : ℤ) (o : Option Sample) → m ≡ suc n → last_of (window_of (joined_in id (take (suc n) bs)) a u) ≡ o → last_of (window_of (joined_in id (take m bs)) a u) ≡ o
+last_same id bs m n a u o e h = ap (λ k. last_of (window_of (joined_in id (take k bs)) a u)) e ∙ h
 
 pub same_window : (xs : List Sample) (a u b v : ℤ) → a ≡ b → u ≡ v → last_of (window_of xs a u) ≡ last_of (window_of xs b v)
 same_window xs a u b v p q = λ i. last_of (window_of xs (p i) (q i))
 
 -- a window over a first block and those behind it
-pub first_window : (id : ℕ) (a u : ℤ) (b : Entries) (bs : List Entries) (ws : List Sample) → ws ≡ window_of (samples_in id b) a u → ws ++ window_of (series_in id bs) a u ≡ window_of (series_in id (b ∷ bs)) a u
-first_window id a u b bs ws e = ap (λ x. x ++ window_of (series_in id bs) a u) e ∙ sym (filter_append (is_within a u) (samples_in id b) (series_in id bs))
+pub first_window : (id : ℕ) (a u : ℤ) (b : Entries) (bs : List Entries) (ws : List Sample) → ws ≡ window_of (samples_in id b) a u → ws ++ window_of (joined_in id bs) a u ≡ window_of (joined_in id (b ∷ bs)) a u
+first_window id a u b bs ws e = ap (λ x. x ++ window_of (joined_in id bs) a u) e ∙ sym (filter_append (is_within a u) (samples_in id b) (joined_in id bs))
 
-pub first_rises : (id : ℕ) (b : Entries) (bs : List Entries) → rises (series_in id (b ∷ bs)) ≡ true → rises (samples_in id b) ≡ true
-first_rises id b bs r = rises_front (samples_in id b) (series_in id bs) r
+pub first_rises : (id : ℕ) (b : Entries) (bs : List Entries) → rises (joined_in id (b ∷ bs)) ≡ true → rises (samples_in id b) ≡ true
+first_rises id b bs r = rises_front (samples_in id b) (joined_in id bs) r
 
-pub behind_rises : (id : ℕ) (b : Entries) (bs : List Entries) → rises (series_in id (b ∷ bs)) ≡ true → rises (series_in id bs) ≡ true
-behind_rises id b bs r = rises_back (samples_in id b) (series_in id bs) r
+pub behind_rises : (id : ℕ) (b : Entries) (bs : List Entries) → rises (joined_in id (b ∷ bs)) ≡ true → rises (joined_in id bs) ≡ true
+behind_rises id b bs r = rises_back (samples_in id b) (joined_in id bs) r
 
 module _ {X : Type 0} (f : X → Entries) (id : ℕ) (more behind : List X) (x : X) (b : Entries) (m : more ≡ x ∷ behind) (e : b ≡ f x) where
-  pub walk_on : (a u : ℤ) (rest ws target : List Sample) → rest ≡ [] → ws ≡ window_of (samples_in id b) a u → rest ++ window_of (series_in id (map f more)) a u ≡ target → ws ++ window_of (series_in id (map f behind)) a u ≡ target
+  pub walk_on : (a u : ℤ) (rest ws target : List Sample) → rest ≡ [] → ws ≡ window_of (samples_in id b) a u → rest ++ window_of (joined_in id (map f more)) a u ≡ target → ws ++ window_of (joined_in id (map f behind)) a u ≡ target
   walk_on a u rest ws target n w t =
-      first_window id a u b (map f behind) ws w ∙ ap (λ y. window_of (series_in id (y ∷ map f behind)) a u) e ∙ ap (λ l. window_of (series_in id (map f l)) a u) (sym m)
-      ∙ ap (λ l. l ++ window_of (series_in id (map f more)) a u) (sym n) ∙ t
+      first_window id a u b (map f behind) ws w ∙ ap (λ y. window_of (joined_in id (y ∷ map f behind)) a u) e ∙ ap (λ l. window_of (joined_in id (map f l)) a u) (sym m)
+      ∙ ap (λ l. l ++ window_of (joined_in id (map f more)) a u) (sym n) ∙ t
 
-  rises_all : rises (series_in id (map f more)) ≡ true → rises (series_in id (b ∷ map f behind)) ≡ true
-  rises_all r = ap (λ y. rises (series_in id (y ∷ map f behind))) e ∙ ap (λ l. rises (series_in id (map f l))) (sym m) ∙ r
+  rises_all : rises (joined_in id (map f more)) ≡ true → rises (joined_in id (b ∷ map f behind)) ≡ true
+  rises_all r = ap (λ y. rises (joined_in id (y ∷ map f behind))) e ∙ ap (λ l. rises (joined_in id (map f l))) (sym m) ∙ r
 
-  pub walk_first : rises (series_in id (map f more)) ≡ true → rises (samples_in id b) ≡ true
+  pub walk_first : rises (joined_in id (map f more)) ≡ true → rises (samples_in id b) ≡ true
   walk_first r = first_rises id b (map f behind) (rises_all r)
 
-  pub walk_behind : rises (series_in id (map f more)) ≡ true → rises (series_in id (map f behind)) ≡ true
+  pub walk_behind : rises (joined_in id (map f more)) ≡ true → rises (joined_in id (map f behind)) ≡ true
   walk_behind r = behind_rises id b (map f behind) (rises_all r)
 
 pub none_left : (xs : List Sample) → length xs ≡ 0 → xs ≡ []

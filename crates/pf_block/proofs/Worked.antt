@@ -3,10 +3,12 @@ use Rattle.std.specs.Prelude.{◌≡◌, ℕ, pos, List, [], ◌∷◌, Some, No
 use Rattle.pf_base.specs.declared.plain.Row.{Row}
 use Rattle.pf_base.specs.declared.plain.Sample.{Sample}
 use Rattle.pf_base.specs.LabelSets.{Pairs}
-use Rattle.pf_block.specs.Samples.{window_of, last_of}
+use Rattle.pf_block.specs.Blocks.{Entries}
+use Rattle.pf_block.specs.Samples.{window_of, last_of, later_of, rises, stretch_of}
 use Rattle.pf_block.specs.LabelOrders.{ids_by_label}
 use Rattle.pf_block.specs.SeriesIds.{id_of, ids_with}
 use Rattle.pf_block.specs.Snaps.{SnapData, empty_snap, with_rows, without_rows, held_of, are_new, rows_of}
+use Rattle.pf_block.specs.Stacks.{is_clear, joined_in, order_on, series_in}
 
 abbrev first : Pairs
 first = (codes "__name__", codes "up") ∷ (codes "job", codes "a") ∷ []
@@ -72,3 +74,33 @@ cut = refl
 -- the series that came last stands first
 by_label : ids_by_label (second ∷ first ∷ []) ≡ 1 ∷ 0 ∷ []
 by_label = refl
+
+-- a block, and one whose first series has a late sample
+abbrev blocks : List Entries
+blocks = ((0, sample 60000 1) ∷ (0, sample 180000 3) ∷ (1, sample 60000 2) ∷ []) ∷ ((0, sample 120000 4) ∷ (1, sample 90000 5) ∷ []) ∷ []
+
+by_time : series_in 0 blocks ≡ sample 60000 1 ∷ sample 120000 4 ∷ sample 180000 3 ∷ []
+by_time = refl
+
+late : rises (joined_in 0 blocks) ≡ false
+late = refl
+
+in_time : joined_in 1 blocks ≡ series_in 1 blocks
+in_time = refl
+
+not_clear : is_clear (((0, sample 60000 1) ∷ (0, sample 180000 3) ∷ []) ∷ []) ((0, sample 120000 4) ∷ []) ≡ false
+not_clear = refl
+
+-- of four blocks in order two stay, and the further one comes late behind the second, and then behind none
+loose : order_on (record { ordered = 4; clear = 4 }) 1 2 3 ≡ record { ordered = 2; clear = 1 }
+loose = refl
+
+in_order : order_on (record { ordered = 2; clear = 1 }) 3 1 2 ≡ record { ordered = 2; clear = 2 }
+in_order = refl
+
+-- what is read first of two lists
+first_read : stretch_of (sample 60000 1 ∷ sample 180000 3 ∷ []) (sample 120000 4 ∷ []) ≡ sample 60000 1 ∷ []
+first_read = refl
+
+last_read : later_of (Some (sample 180000 3)) (Some (sample 120000 4)) ≡ Some (sample 180000 3)
+last_read = refl

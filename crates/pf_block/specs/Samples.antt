@@ -1,6 +1,6 @@
 -- The samples of one series in order of time. Prometheus, Querying basics: Range vector selectors (Prometheus 3: open
 -- at the left end, closed at the right).
-use Rattle.std.specs.Prelude.{ℕ, suc, ℤ, pos, Bool, true, ◌&&◌, ◌||◌, cond, Option, None, Some, List, [], ◌∷◌, filter, int_lt, int_le}
+use Rattle.std.specs.Prelude.{ℕ, suc, ℤ, pos, Bool, true, ◌&&◌, ◌||◌, cond, Option, None, Some, List, [], ◌∷◌, filter, take, int_lt, int_le}
 use Rattle.std.specs.Ordering.{int_eq}
 use Rattle.std.specs.List.{list_all}
 use Rattle.pf_base.specs.Limits.{greatest_time}
@@ -57,3 +57,29 @@ is_outside from to s = int_lt s.time from || int_lt to s.time
 abbrev pub until : ℤ → List Sample → ℕ
 until time [] = 0
 until time (s ∷ ss) = cond (int_le s.time time) (suc (until time ss)) 0
+
+-- two lists in one: each time the earlier of the two first samples, and where these are of one time the first list's
+abbrev pub put_earlier : Sample → (List Sample → List Sample) → List Sample → List Sample
+put_earlier s rest [] = s ∷ rest []
+put_earlier s rest (x ∷ xs) = cond (int_le s.time x.time) (s ∷ rest (x ∷ xs)) (x ∷ put_earlier s rest xs)
+
+abbrev pub merged_samples : List Sample → List Sample → List Sample
+merged_samples [] others = others
+merged_samples (s ∷ ss) others = put_earlier s (merged_samples ss) others
+
+-- the first samples of two lists up to the first one of the other list
+abbrev pub stretch_of : List Sample → List Sample → List Sample
+stretch_of [] others = others
+stretch_of (s ∷ ss) [] = s ∷ ss
+stretch_of (s ∷ ss) (x ∷ xs) = cond (int_le s.time x.time) (take (until x.time (s ∷ ss)) (s ∷ ss)) (take (until s.time (x ∷ xs)) (x ∷ xs))
+
+-- the time of the last sample, where there is one
+abbrev pub ends_at : ℤ → List Sample → ℤ
+ends_at time [] = time
+ends_at time (s ∷ ss) = ends_at s.time ss
+
+-- the later of two samples
+abbrev pub later_of : Option Sample → Option Sample → Option Sample
+later_of None other = other
+later_of (Some s) None = Some s
+later_of (Some s) (Some x) = cond (int_le s.time x.time) (Some x) (Some s)

@@ -18,6 +18,7 @@ mod layer;
 mod lending;
 mod part;
 mod ranked;
+mod reads;
 mod rows;
 mod samples;
 mod sizes;

@@ -19,9 +19,10 @@ use crate::index::Index;
 use crate::layer::Layer;
 use crate::lending::lent;
 use crate::ranked::Ranked;
+use crate::reads::last_within;
 use crate::rows::{block_of, entry, new_labels};
 use crate::sizes::BlockSizes;
-use crate::stack::{clear_of, cut, last_within, stacked};
+use crate::stack::{Order, cut, put};
 use crate::window::Window;
 use pf_base::{Labels, MAXT, OutOfMemory, Row, Sample, Value};
 use std::alloc::Global;
@@ -35,6 +36,7 @@ pub struct Snap {
     index: Arc<Ranked>,
     blocks: Vec<Arc<Layer>>,
     sizes: Vec<usize>,
+    order: Order,
 }
 
 impl Model for Snap {
@@ -47,7 +49,7 @@ impl Model for Snap {
 
     ghost view = { λ s. snap_of (arc_value s.index) (map arc_value s.blocks.items) };
 
-    ghost invariant = { λ s. IsKept (arc_value s.index) (map arc_value s.blocks.items) s.sizes.items };
+    ghost invariant = { λ s. IsKept (arc_value s.index) (map arc_value s.blocks.items) s.sizes.items s.order };
 }
 
 /// The first rows that are of known series, as entries.
@@ -128,6 +130,10 @@ impl Snap {
             index: Arc::new(alloc, Ranked::of(alloc, Index::new(alloc))?)?,
             blocks: Vec::new(alloc),
             sizes: Vec::new(alloc),
+            order: Order {
+                ordered: 0,
+                clear: 0,
+            },
         };
         Ok(Arc::new(alloc, snap)?)
     }
@@ -142,7 +148,7 @@ impl Snap {
         let (index, entries) = numbered(self.alloc, &self.index, rows)?;
         let _few = index.index().count();
         let block = Block::of(self.alloc, entries)?;
-        self.put(rows, index, block)
+        self.with_block(rows, index, block)
     }
 
     /// The same, where `ids` are those of the rows' series: the ones that it has, and for new series the next ones in the
@@ -156,11 +162,11 @@ impl Snap {
         let fresh = new_labels(self.alloc, self, rows, ids)?;
         let index = grown(self.alloc, &self.index, &fresh)?;
         let block = block_of(self.alloc, rows, ids)?;
-        self.put(rows, index, block)
+        self.with_block(rows, index, block)
     }
 
     /// With rows of which an index has the series and a block the samples.
-    fn put(&self, rows: &[Row], index: Arc<Ranked>, block: Block) -> Result<Arc<Snap>, OutOfMemory>
+    fn with_block(&self, rows: &[Row], index: Arc<Ranked>, block: Block) -> Result<Arc<Snap>, OutOfMemory>
         requires timed { are_timed rows.now ≡ true }
         requires fresh { are_new self.now rows.now ≡ true }
         requires labels { arc_value index ≡ labels_with self.now.labels rows.now }
@@ -169,13 +175,13 @@ impl Snap {
         requires samples { (id : ℕ) → (x : Sample) → times_in x (samples_in id block) ≡ times_in x (samples_in id (entries_of self.now.labels rows.now)) }
         ensures { IfOk result (λ s. arc_value s ≡ with_rows self.now rows.now) }
     {
-        let clear = clear_of(&self.blocks, &block);
-        let (blocks, sizes) = stacked(self.alloc, &self.blocks, &self.sizes, clear, block)?;
+        let (blocks, sizes, order) = put(self.alloc, &self.blocks, &self.sizes, self.order, block)?;
         let snap = Snap {
             alloc: self.alloc,
             index,
             blocks,
             sizes,
+            order,
         };
         Ok(Arc::new(self.alloc, snap)?)
     }
@@ -186,12 +192,21 @@ impl Snap {
     {
         let from = from.min(MAXT + 1) as i64;
         let to = to.min(MAXT) as i64;
-        let (blocks, sizes) = cut(self.alloc, &self.blocks, &self.sizes, series, from, to)?;
+        let (blocks, sizes, order) = cut(
+            self.alloc,
+            &self.blocks,
+            &self.sizes,
+            self.order,
+            series,
+            from,
+            to,
+        )?;
         let snap = Snap {
             alloc: self.alloc,
             index: Arc::try_clone(&self.index)?,
             blocks,
             sizes,
+            order,
         };
         Ok(Arc::new(self.alloc, snap)?)
     }
@@ -259,7 +274,7 @@ impl Snap {
         requires { id < length self.now.labels }
         ensures { result ≡ window_of (samples_of self.now id) after upto }
     {
-        Window::over(&self.blocks, id, after, upto)
+        Window::over(&self.blocks, self.order.ordered, id, after, upto)
     }
 
     /// The samples that `window` gives, where one block has them all. There are none where several blocks have some.
@@ -276,7 +291,7 @@ impl Snap {
         requires { id < length self.now.labels }
         ensures { result ≡ last_of (window_of (samples_of self.now id) after upto) }
     {
-        last_within(&self.blocks, id, after, upto)
+        last_within(&self.blocks, self.order.ordered, id, after, upto)
     }
 
     /// The value of a series at a time in milliseconds.

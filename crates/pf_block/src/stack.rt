@@ -6,8 +6,8 @@ ghost use Rattle.std.specs.List.{list_all};
 ghost use Rattle.pf_base.specs.declared.plain.Sample.{Sample};
 ghost use Rattle.pf_block.specs.Blocks.{samples_in};
 ghost use Rattle.pf_block.specs.Layers.{cut_by};
-ghost use Rattle.pf_block.specs.Samples.{rises, last_of, window_of};
-ghost use Rattle.pf_block.specs.Stacks.{IsCut, IsStacked, doubles, is_clear, is_not_after, series_in, takes_in, topped};
+ghost use Rattle.pf_block.specs.Samples.{rises};
+ghost use Rattle.pf_block.specs.Stacks.{IsCut, IsPut, IsStacked, doubles, is_clear, is_not_after, joined_in, order_on, series_in, takes_in, topped};
 
 use crate::block::Block;
 use crate::layer::Layer;
@@ -15,38 +15,33 @@ use pf_base::{OutOfMemory, Sample};
 use std::alloc::Global;
 use std::sync::Arc;
 
-/// The last sample of a series after `after`, up to and with `upto`.
-pub fn last_within(blocks: &[Arc<Layer>], id: u32, after: i64, upto: i64) -> Option<Sample>
-    requires { rises (series_in id (map arc_value blocks.now)) ≡ true }
-    ensures { result ≡ last_of (window_of (series_in id (map arc_value blocks.now)) after upto) }
-{
-    let mut count = blocks.len();
-    while count > 0 {
-        count -= 1;
-        let block = &blocks[count];
-        if let Some(sample) = block.window(id, after, upto).last() {
-            return Some(*sample);
-        }
-    }
-    None
+/// How blocks lie: in the first `ordered` each series' samples rise from block to block, and none of the first `clear` has a
+/// sample after one of its series behind those.
+#[derive(Clone, Copy)]
+pub struct Order {
+    pub ordered: usize,
+    pub clear: usize,
 }
 
-/// How many of the first blocks have no sample of a series after a time.
-fn clear_below(blocks: &[Arc<Layer>], id: u32, time: i64) -> usize
-    requires { rises (series_in id (map arc_value blocks.now)) ≡ true }
+/// How many of the first blocks have no sample of a series after a time. They lie in order up to `ordered`.
+fn clear_below(blocks: &[Arc<Layer>], ordered: usize, id: u32, time: i64) -> usize
+    requires rises { rises (series_in id (map arc_value blocks.now)) ≡ true }
+    requires front { rises (joined_in id (take ordered (map arc_value blocks.now))) ≡ true }
     ensures within { result ≤ length blocks.now }
-    ensures clear { list_all (is_not_after time) (series_in id (take result (map arc_value blocks.now))) ≡ true }
+    ensures clear { list_all (is_not_after time) (joined_in id (take result (map arc_value blocks.now))) ≡ true }
 {
     let mut clear = blocks.len();
     let mut count = clear;
     while count > 0 {
         count -= 1;
         let block = &blocks[count];
-        if let Some(sample) = block.series(id).last() {
-            if sample.time <= time {
-                return clear;
-            }
+        let Some(sample) = block.series(id).last() else {
+            continue;
+        };
+        if sample.time > time {
             clear = count;
+        } else if count < ordered {
+            return clear;
         }
     }
     clear
@@ -66,12 +61,14 @@ fn follows(block: &Block, place: usize, near: usize) -> bool
 /// The run of a further entry of the block, and the same number with that entry.
 fn clear_with(
     blocks: &[Arc<Layer>],
+    ordered: usize,
     block: &Block,
     place: usize,
     near: usize,
     clear: usize,
 ) -> (usize, usize)
     requires rises { (id : ℕ) → rises (series_in id (map arc_value blocks.now)) ≡ true }
+    requires front { (id : ℕ) → rises (joined_in id (take ordered (map arc_value blocks.now))) ≡ true }
     requires inside { place < length block.now }
     requires within { clear ≤ length blocks.now }
     requires clear { is_clear (take clear (map arc_value blocks.now)) (take place block.now) ≡ true }
@@ -83,19 +80,23 @@ fn clear_with(
     if follows(block, place, near) {
         return (run, clear);
     }
-    (run, clear.min(clear_below(blocks, id, sample.time)))
+    (
+        run,
+        clear.min(clear_below(blocks, ordered, id, sample.time)),
+    )
 }
 
 /// How many of the first blocks have no sample after one of its series in a further block.
-pub fn clear_of(blocks: &[Arc<Layer>], block: &Block) -> usize
-    requires { (id : ℕ) → rises (series_in id (map arc_value blocks.now)) ≡ true }
+fn clear_of(blocks: &[Arc<Layer>], ordered: usize, block: &Block) -> usize
+    requires rises { (id : ℕ) → rises (series_in id (map arc_value blocks.now)) ≡ true }
+    requires front { (id : ℕ) → rises (joined_in id (take ordered (map arc_value blocks.now))) ≡ true }
     ensures within { result ≤ length blocks.now }
     ensures clear { is_clear (take result (map arc_value blocks.now)) block.now ≡ true }
 {
     let mut clear = blocks.len();
     let mut near = 0;
     for i in 0..block.rows() {
-        (near, clear) = clear_with(blocks, block, i, near, clear);
+        (near, clear) = clear_with(blocks, ordered, block, i, near, clear);
     }
     clear
 }
@@ -133,39 +134,79 @@ fn numbered(alloc: Global, sizes: &[usize], top: &Block) -> Result<Vec<usize>, O
 }
 
 /// Whether the last of the first `count` blocks goes into a further one.
-fn takes_in(sizes: &[usize], clear: usize, count: usize, top: &Block) -> bool
+fn takes_in(sizes: &[usize], kept: usize, count: usize, top: &Block) -> bool
     requires { count ≤ length sizes.now }
-    ensures { result ≡ takes_in sizes.now clear count top.now }
+    ensures { result ≡ takes_in sizes.now kept count top.now }
 {
     if count == 0 {
         return false;
     }
-    count > clear || sizes[count - 1] / 2 < top.rows()
+    count > kept || sizes[count - 1] / 2 < top.rows()
 }
 
-/// A further block on the first `clear` blocks. It takes in the others, and then the last one as long as that was built of
-/// fewer than twice its samples.
-pub fn stacked(
+/// The order of the first `count` blocks of some with a further one, `blocks` in all. None of the first `clear` has a sample after one
+/// of its series in that.
+fn order_on(old: Order, clear: usize, count: usize, blocks: usize) -> Order
+    ensures { result ≡ order_on old clear count blocks }
+{
+    let clear = old.clear.min(clear);
+    if count <= old.ordered && count <= clear {
+        return Order {
+            ordered: blocks,
+            clear: blocks,
+        };
+    }
+    Order {
+        ordered: old.ordered.min(count),
+        clear,
+    }
+}
+
+/// A further block on the first `kept` blocks. It takes in the others, and then the last one as long as that was built of
+/// fewer than twice its samples. None of the first `clear` has a sample after one of its series.
+fn stacked(
     alloc: Global,
     blocks: &[Arc<Layer>],
     sizes: &[usize],
+    order: Order,
+    kept: usize,
     clear: usize,
     block: Block,
-) -> Result<(Vec<Arc<Layer>>, Vec<usize>), OutOfMemory>
+) -> Result<(Vec<Arc<Layer>>, Vec<usize>, Order), OutOfMemory>
     requires count { length sizes.now ≡ length blocks.now }
-    requires within { clear ≤ length blocks.now }
+    requires within { kept ≤ length blocks.now }
     requires doubles { doubles sizes.now ≡ true }
-    ensures { IfOk result (λ p. IsStacked (map arc_value blocks.now) sizes.now clear block (map arc_value p.0.items) p.1.items) }
+    ensures { IfOk result (λ p. IsStacked (map arc_value blocks.now) sizes.now order kept clear block (map arc_value p.0.items) p.1.items p.2) }
 {
     let mut count = blocks.len();
     let mut top = block;
-    while takes_in(sizes, clear, count, &top) {
+    while takes_in(sizes, kept, count, &top) {
         count -= 1;
         top = blocks[count].merged(alloc, &top)?;
     }
     let numbers = numbered(alloc, &sizes[..count], &top)?;
     let stack = on_first(alloc, &blocks[..count], top)?;
-    Ok((stack, numbers))
+    let order = order_on(order, clear, count, stack.len());
+    Ok((stack, numbers, order))
+}
+
+/// A further block on blocks. Whether it comes late, as before a sample of its series, doesn't matter.
+pub fn put(
+    alloc: Global,
+    blocks: &[Arc<Layer>],
+    sizes: &[usize],
+    order: Order,
+    block: Block,
+) -> Result<(Vec<Arc<Layer>>, Vec<usize>, Order), OutOfMemory>
+    requires rises { (id : ℕ) → rises (series_in id (map arc_value blocks.now)) ≡ true }
+    requires front { (id : ℕ) → rises (joined_in id (take order.ordered (map arc_value blocks.now))) ≡ true }
+    requires count { length sizes.now ≡ length blocks.now }
+    requires doubles { doubles sizes.now ≡ true }
+    ensures { IfOk result (λ p. IsPut (map arc_value blocks.now) sizes.now order block (map arc_value p.0.items) p.1.items p.2) }
+{
+    let clear = clear_of(blocks, order.ordered, &block);
+    let stack = stacked(alloc, blocks, sizes, order, blocks.len(), clear, block)?;
+    Ok(stack)
 }
 
 /// How many of the first blocks need not be built anew.
@@ -222,18 +263,27 @@ pub fn cut(
     alloc: Global,
     blocks: &[Arc<Layer>],
     sizes: &[usize],
+    order: Order,
     series: &[u32],
     from: i64,
     to: i64,
-) -> Result<(Vec<Arc<Layer>>, Vec<usize>), OutOfMemory>
+) -> Result<(Vec<Arc<Layer>>, Vec<usize>, Order), OutOfMemory>
     requires from { pos 0 ≤ℤ from }
     requires rises { (id : ℕ) → rises (series_in id (map arc_value blocks.now)) ≡ true }
     requires count { length sizes.now ≡ length blocks.now }
     requires doubles { doubles sizes.now ≡ true }
-    ensures { IfOk result (λ p. IsCut series.now from to (map arc_value blocks.now) sizes.now (map arc_value p.0.items) p.1.items) }
+    ensures { IfOk result (λ p. IsCut series.now from to (map arc_value blocks.now) sizes.now order (map arc_value p.0.items) p.1.items p.2) }
 {
     let left = cut_blocks(alloc, blocks, series, from, to)?;
     let unworn = unworn(&left);
-    let stack = stacked(alloc, &left, sizes, unworn, Block::new(alloc))?;
+    let stack = stacked(
+        alloc,
+        &left,
+        sizes,
+        order,
+        unworn,
+        left.len(),
+        Block::new(alloc),
+    )?;
     Ok(stack)
 }

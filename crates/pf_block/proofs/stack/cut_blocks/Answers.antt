@@ -1,7 +1,8 @@
 use Rattle.std.proofs.Common.{map, refl, arith}
 use Rattle.std.specs.Arc.{arc_value}
 use Rattle.pf_block.specs.Layers.{cut_by}
-use Rattle.pf_block.proofs.Walks.{block_is, block_rises, in_map, push_cut}
+use Rattle.pf_block.proofs.Series.{block_rises}
+use Rattle.pf_block.proofs.Walks.{block_is, in_map, push_cut}
 use Rattle.pf_block.proofs.stack.cut_blocks.Goals as goal
 
 pub cut_block-requires-clause-rises : goal.cut_block-requires-clause-rises

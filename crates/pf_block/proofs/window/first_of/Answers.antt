@@ -1,14 +1,10 @@
-use Rattle.std.proofs.Common.{rules}
+use Rattle.std.proofs.Common.{map, rules, w64}
+use Rattle.std.proofs.lemmas.Int.{to_z-of_z}
 use Rattle.std.specs.Arc.{arc_value}
-use Rattle.pf_block.proofs.Walks.{none_left, walk_behind, walk_first, walk_on}
+use Rattle.pf_block.proofs.Reading.{stretch_lent}
 use Rattle.pf_block.proofs.window.first_of.Goals as goal
 
-pub window-rest-requires : goal.window-rest-requires
-window-rest-requires c = walk_first arc_value c.args.id c.loop-rest.more.now c.in-Some.behind.now c.in-Some.block.now c.deref.result.now c.in-Some.ensures.cases.0 c.deref.ensures c.loop-rest.invariant.rises
-
-pub loop-rest-preserved : goal.loop-rest-preserved
-loop-rest-preserved c = record {
-  left = walk_on arc_value c.args.id c.loop-rest.more.now c.in-Some.behind.now c.in-Some.block.now c.deref.result.now c.in-Some.ensures.cases.0 c.deref.ensures _ _ c.loop-rest.rest.now c.window-rest.result.now _
-      (none_left c.loop-rest.rest.now (search rules)) c.window-rest.ensures c.loop-rest.invariant.left;
-  rises = walk_behind arc_value c.args.id c.loop-rest.more.now c.in-Some.behind.now c.in-Some.block.now c.deref.result.now c.in-Some.ensures.cases.0 c.deref.ensures c.loop-rest.invariant.rises;
-}
+pub returns-in-Some-clause-left : goal.returns-in-Some-clause-left
+returns-in-Some-clause-left c =
+    stretch_lent c.args.joined c.args.id (map arc_value c.args.more.now) c.next_stretch-rest.result.now c.in-Some.last.now _ _ _ c.args.after c.args.upto c.if-joined.false c.next_stretch-rest.ensures.left c.in-Some.ensures.value
+    (to_z-of_z w64 c.in-Some.last.now.time (search rules)) (to_z-of_z w64 c.args.after c.ranges.after) (to_z-of_z w64 c.args.upto c.ranges.upto)
