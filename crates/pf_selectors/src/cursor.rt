@@ -7,12 +7,14 @@ ghost use Rattle.pf_block.specs.Snaps.{samples_of};
 use pf_base::{OutOfMemory, Sample};
 use pf_block::Snap;
 
-/// The first place from `near` on of a sample after a time, or the end.
+/// The first place from `near` on of a sample after a time, or the end. Behind `near` it is the number of samples that aren't
+/// after the time.
 fn forward(samples: &[Sample], near: usize, time: i64) -> usize
     requires rises { rises samples.now ≡ true }
     requires near { near ≤ length samples.now }
     ensures within { result ≤ length samples.now }
     ensures behind { until time samples.now ≤ result }
+    ensures passed { near < result → result ≡ until time samples.now }
 {
     for i in near..samples.len() {
         let sample = samples[i];
@@ -49,6 +51,9 @@ pub(crate) fn moved(samples: &[Sample], near: usize, time: i64) -> usize
     ensures value { result ≡ until time samples.now }
 {
     let place = forward(samples, near, time);
+    if place > near {
+        return place;
+    }
     back(samples, place, time)
 }
 
