@@ -12,7 +12,7 @@ use Rattle.pf_block.specs.Snaps.{are_apart}
 both : (s t : Bool) → s ≡ true → t ≡ true → (s && t) ≡ true
 both s t p q = λ i. p i && q i
 
-same_back : (l m : Pairs) → is_eq (labels_cmp l m) ≡ is_eq (labels_cmp m l)
+pub same_back : (l m : Pairs) → is_eq (labels_cmp l m) ≡ is_eq (labels_cmp m l)
 same_back l m = (eq_by_cmp_equiv labels_total).symm l m
 
 same_is : (l m : Pairs) → is_eq (labels_cmp l m) ≡ true → l ≡ m
@@ -92,7 +92,7 @@ apart_push (x ∷ ls) l h n =
     both (not (is_some (id_of x (ls ++ l ∷ [])))) (are_apart (ls ++ l ∷ [])) (none_not (id_of x (ls ++ l ∷ [])) p) (apart_push ls l (second_so (not (is_some (id_of x ls))) (are_apart ls) h) o)
 
 -- one of them is not among those before it
-not_at : (i : ℕ) (x d : Pairs) (n : ℕ) (ls : List Pairs) → position_from (λ y. is_eq (labels_cmp x y)) n ls ≡ None → i < length ls → is_eq (labels_cmp x (get_or ls i d)) ≡ false
+pub not_at : (i : ℕ) (x d : Pairs) (n : ℕ) (ls : List Pairs) → position_from (λ y. is_eq (labels_cmp x y)) n ls ≡ None → i < length ls → is_eq (labels_cmp x (get_or ls i d)) ≡ false
 not_at i x d n [] h l = absurd (omega arith)
 not_at zero x d n (y ∷ ls) h l = (missed_by (λ z. is_eq (labels_cmp x z)) (is_eq (labels_cmp x y)) n (position_from (λ z. is_eq (labels_cmp x z)) (n + 1) ls) h).0
 not_at (suc i) x d n (y ∷ ls) h l =

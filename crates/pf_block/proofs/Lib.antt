@@ -1,5 +1,5 @@
 pub mod Searches
-pub mod Postings
+pub mod PostingLists
 pub mod Ids
 pub mod Keeping
 pub mod LabelOrdering
@@ -21,4 +21,8 @@ mod Layering
 mod LentWindows
 pub mod Walks
 mod Totals
+mod Joining
+mod Sorts
+pub mod OrderedIds
+mod Interleaved
 mod Worked

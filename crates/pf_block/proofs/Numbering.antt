@@ -1,13 +1,16 @@
 -- Rows with the ids of their series, one by one.
-use Rattle.std.proofs.Common.{◌≡◌, ℕ, zero, suc, ◌-◌, ◌<◌, ℤ, true, List, [], ◌∷◌, ◌++◌, length, map, take, drop, get_or, refl, sym, ap, ◌∙◌, subst, Some, None, append_assoc, arith}
-use Rattle.std.proofs.lemmas.List.{length-drop, take_all}
+use Rattle.std.proofs.Common.{◌≡◌, ℕ, zero, suc, ◌+◌, ◌-◌, ◌<◌, ℤ, true, List, [], ◌∷◌, ◌++◌, length, map, take, drop, get_or, refl, sym, ap, ◌∙◌, subst, Some, None, append_assoc, arith}
+use Rattle.std.proofs.lemmas.List.{length-append, length-drop, take_all}
 use Rattle.std.specs.Prelude.{nat_le}
 use Rattle.std.specs.Cmp.{first_so, second_so}
 use Rattle.pf_base.specs.declared.plain.Row.{Row}
 use Rattle.pf_base.specs.LabelSets.{Pairs}
 use Rattle.pf_block.specs.Blocks.{Entries, entries_of, entry_of, labels_with, noted, noted_at, number_at, number_of_labels}
+use Rattle.pf_block.specs.IndexStacks.{AreBehind}
 use Rattle.pf_block.specs.SeriesIds.{id_of}
-use Rattle.pf_block.specs.Snaps.{are_timed, sample_of}
+use Rattle.pf_block.specs.Snaps.{are_apart, are_timed, sample_of}
+use Rattle.pf_block.proofs.Ids.{apart_push}
+use Rattle.pf_block.proofs.Joining.{id_left, id_none, id_right}
 use Rattle.pf_block.proofs.Pairing.{drop_at}
 use Rattle.pf_block.proofs.Searches.{both}
 
@@ -68,14 +71,42 @@ pub part_timed : (m n : ℕ) (rows : List Row) → are_timed rows ≡ true → a
 part_timed m n rows h = take_timed n (drop m rows) (drop_timed m rows h)
 
 -- the rows behind those that are known
-module _ (rows : List Row) (index copied known : List Pairs) (m n : ℕ) (c : copied ≡ index) (k : known ≡ index) (e : m ≡ n) where
-  behind_known : take (length rows - m) (drop m rows) ≡ drop n rows
-  behind_known = take_all (length rows - m) (drop m rows) (omega (arith, length-drop m rows)) ∙ ap (λ x. drop x rows) e
+pub behind_known : (rows : List Row) (n : ℕ) → take (length rows - n) (drop n rows) ≡ drop n rows
+behind_known rows n = take_all (length rows - n) (drop n rows) (omega (arith, length-drop n rows))
 
-  pub rest_numbered : (front all : Entries) → all ≡ front ++ entries_of copied (take (length rows - m) (drop m rows)) → front ++ entries_of known (drop n rows) ≡ entries_of known rows
-      → all ≡ entries_of index rows
-  rest_numbered front all h w =
-      h ∙ (λ i. front ++ entries_of (c i) (behind_known i)) ∙ subst (λ x. front ++ entries_of x (drop n rows) ≡ entries_of x rows) k w
+-- a series that may be among known ones, or among the new ones behind them
+module _ (index new : List Pairs) (l : Pairs) where
+  pub first_labels : (id : ℕ) → Some id ≡ id_of l index → index ++ new ≡ noted (index ++ new) l
+  first_labels id h = sym (known_labels (index ++ new) l id (sym (id_left l index new id h)))
 
-  pub rest_labelled : (all : List Pairs) → all ≡ labels_with copied (take (length rows - m) (drop m rows)) → labels_with known (drop n rows) ≡ labels_with known rows → all ≡ labels_with index rows
-  rest_labelled all h w = h ∙ (λ i. labels_with (c i) (behind_known i)) ∙ subst (λ x. labels_with x (drop n rows) ≡ labels_with x rows) k w
+  pub first_id : (id : ℕ) → Some id ≡ id_of l index → id ≡ number_of_labels (index ++ new) l
+  first_id id h = sym (known_id (index ++ new) l id (sym (id_left l index new id h)))
+
+  pub next_labels : (id : ℕ) → id_of l index ≡ None → Some id ≡ id_of l new → index ++ new ≡ noted (index ++ new) l
+  next_labels id h g = sym (known_labels (index ++ new) l (length index + id) (sym (id_right l index new id h g)))
+
+  pub next_id : (id n : ℕ) → id_of l index ≡ None → Some id ≡ id_of l new → n ≡ length index + id → n ≡ number_of_labels (index ++ new) l
+  next_id id n h g e = e ∙ sym (known_id (index ++ new) l (length index + id) (sym (id_right l index new id h g)))
+
+  module _ (more : List Pairs) (h : id_of l index ≡ None) (g : id_of l new ≡ None) (e : more ≡ new ++ l ∷ []) where
+    none : id_of l (index ++ new) ≡ None
+    none = id_none l index new h g
+
+    more_is : index ++ more ≡ (index ++ new) ++ l ∷ []
+    more_is = ap (λ x. index ++ x) e ∙ sym (append_assoc index new (l ∷ []))
+
+    pub more_labels : index ++ more ≡ noted (index ++ new) l
+    more_labels = more_is ∙ sym (new_labels (index ++ new) l none)
+
+    pub more_id : (n : ℕ) → n ≡ length index + length new → n ≡ number_of_labels (index ++ new) l
+    more_id n k = k ∙ sym (length-append index new) ∙ sym (new_id (index ++ new) l none)
+
+    pub more_behind : AreBehind index new → length index + length new < 4294967295 → AreBehind index more
+    more_behind b k = record {
+      apart = subst (λ x. are_apart x ≡ true) (sym more_is) (apart_push (index ++ new) l b.apart none);
+      few =
+          let n : length (index ++ more) ≡ length ((index ++ new) ++ l ∷ []) = ap length more_is in
+          let m = length-append (index ++ new) (l ∷ []) in
+          let j = length-append index new in
+          omega (arith, n, m, j, k);
+    }

@@ -3,9 +3,11 @@ use Rattle.std.specs.Prelude.{◌≡◌, ℕ, pos, List, [], ◌∷◌, Some, No
 use Rattle.pf_base.specs.declared.plain.Row.{Row}
 use Rattle.pf_base.specs.declared.plain.Sample.{Sample}
 use Rattle.pf_base.specs.LabelSets.{Pairs}
+use Rattle.std.proofs.Common.{arith}
 use Rattle.pf_block.specs.Blocks.{Entries}
+use Rattle.pf_block.specs.IndexStacks.{IsPlace, joined}
 use Rattle.pf_block.specs.Samples.{window_of, last_of, later_of, rises, stretch_of}
-use Rattle.pf_block.specs.LabelOrders.{ids_by_label}
+use Rattle.pf_block.specs.LabelOrders.{ids_by_label, in_label_order, rise_from}
 use Rattle.pf_block.specs.SeriesIds.{id_of, ids_with}
 use Rattle.pf_block.specs.Snaps.{SnapData, empty_snap, with_rows, without_rows, held_of, are_new, rows_of}
 use Rattle.pf_block.specs.Stacks.{is_clear, joined_in, order_on, series_in}
@@ -104,3 +106,21 @@ first_read = refl
 
 last_read : later_of (Some (sample 180000 3)) (Some (sample 120000 4)) ≡ Some (sample 180000 3)
 last_read = refl
+
+-- some series, given by rising id
+order : in_label_order (second ∷ first ∷ []) (0 ∷ 1 ∷ []) ≡ 1 ∷ 0 ∷ []
+order = refl
+
+rising : rise_from 0 (0 ∷ 2 ∷ []) ≡ true
+rising = refl
+
+-- an id that stands twice
+not_rising : rise_from 0 (1 ∷ 1 ∷ []) ≡ false
+not_rising = refl
+
+-- two indexes: the ids of the second follow those of the first
+two : joined ((first ∷ []) ∷ (second ∷ []) ∷ []) ≡ first ∷ second ∷ []
+two = refl
+
+second_place : IsPlace ((first ∷ []) ∷ (second ∷ []) ∷ []) 1 1 0
+second_place = record { there = omega arith; within = omega arith; behind = refl }

@@ -1,4 +1,5 @@
 pub mod Blocks
+pub mod IndexStacks
 pub mod Indexes
 pub mod LabelOrders
 pub mod Layers

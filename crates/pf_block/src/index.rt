@@ -138,15 +138,26 @@ impl Index {
         })
     }
 
+    /// With the series of another index at the end.
+    pub fn with_all(self, others: &Index) -> Result<Index, OutOfMemory>
+        requires { are_apart (self ++ others.now) ≡ true }
+        ensures { IfOk result (λ i. i ≡ self ++ others.now) }
+    {
+        let mut index = self;
+        for labels in &others.labels {
+            index = index.with(labels.clone()?)?;
+        }
+        Ok(index)
+    }
+
     /// A copy.
     pub fn copied(&self) -> Result<Index, OutOfMemory>
         ensures { IfOk result (λ i. i ≡ self.now) }
     {
-        let mut index = Index::new(*self.labels.allocator());
-        for labels in &self.labels {
-            index = index.with(labels.clone()?)?;
-        }
-        Ok(index)
+        let _labels = &self.labels;
+        let index = Index::new(*self.labels.allocator());
+        let copy = index.with_all(self)?;
+        Ok(copy)
     }
 
     /// The ids of the series in label order: the map from label sets to ids has them so.

@@ -5,18 +5,24 @@
 //! labels, and `with` and `without` give the two lists that they leave.
 //!
 //! The code keeps the samples in blocks that are shared, each sorted by series and time and built of at least twice the
-//! samples of the next; beside each block, what deletions left of the series that they touched there; and an index that is
-//! shared as long as no series is new: a map from label sets to ids, a list of ids for each pair of a name and a value, the
-//! ids in label order with the place of each, and by id the hash that gives each one's shard. Windows and look-ups search by
-//! halves and take no memory. `lent` gives a window as it lies in the one block that has all of its samples.
+//! samples of the next; beside each block, what deletions left of the series that they touched there; and indexes of series
+//! that are shared likewise, each with at least twice the series of the next. An index has a map from label sets to ids, a list
+//! of ids for each pair of a name and a value, the ids in label order with the place of each, and by id the hash that gives each
+//! one's shard. Windows and look-ups search by halves and take no memory. `lent` gives a window as it lies in the one block that
+//! has all of its samples.
 #![tactic(auto)]
 
 mod block;
 mod grown;
 mod index;
+mod index_layers;
+mod index_stack;
+mod interleaving;
 mod layer;
 mod lending;
+mod ordering;
 mod part;
+mod postings;
 mod ranked;
 mod reads;
 mod rows;
@@ -26,6 +32,7 @@ mod snap;
 mod stack;
 mod window;
 
+pub use postings::Postings;
 pub use sizes::BlockSizes;
 pub use snap::Snap;
 pub use window::Window;

@@ -2,6 +2,8 @@
 
 ghost use Rattle.std.specs.Prelude.{◌≡◌, ℕ, ◌<◌, ◌≤◌, ◌^◌, [], IfOk, length, vec_len, slice_index_or};
 ghost use Rattle.std.specs.List.{All};
+ghost use Rattle.std.specs.Ordering.{is_lt};
+ghost use Rattle.pf_base.specs.LabelOrder.{labels_cmp};
 ghost use Rattle.pf_base.specs.LabelSets.{IsLabels};
 ghost use Rattle.pf_base.specs.ShardHash.{shard_of};
 ghost use Rattle.pf_block.specs.Indexes.{hashes_of};
@@ -90,7 +92,9 @@ impl Ranked {
 
     /// The ids of the series in label order.
     pub fn by_label(&self) -> &[u32]
-        ensures { result.now ≡ ids_by_label self.now }
+        ensures value { result.now ≡ ids_by_label self.now }
+        ensures count { length result.now ≡ length self.now }
+        ensures within { All (λ id. id < length self.now) result.now }
     {
         &self.by_label
     }
@@ -102,6 +106,16 @@ impl Ranked {
         ensures place { slice_index_or (ids_by_label self.now) result 0 ≡ id }
     {
         self.ranks[id as usize]
+    }
+
+    /// Whether a series stands before another in label order.
+    pub fn is_before(&self, id: u32, other: u32) -> bool
+        requires first { id < length self.now }
+        requires second { other < length self.now }
+        ensures { result ≡ is_lt (labels_cmp (slice_index_or self.now id []) (slice_index_or self.now other [])) }
+    {
+        let _count = self.index.count();
+        self.ranks[id as usize] < self.ranks[other as usize]
     }
 
     /// The shard of a series among n.

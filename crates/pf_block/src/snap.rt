@@ -8,7 +8,10 @@ ghost use Rattle.pf_block.specs.Blocks.{ascends, entries_of, entry_of, labels_wi
 ghost use Rattle.pf_block.specs.Samples.{rises, window_of, last_of};
 ghost use Rattle.pf_base.specs.LabelSets.{IsLabels};
 ghost use Rattle.pf_base.specs.ShardHash.{shard_of};
-ghost use Rattle.pf_block.specs.LabelOrders.{ids_by_label};
+ghost use Rattle.std.specs.Ordering.{is_lt};
+ghost use Rattle.pf_base.specs.LabelOrder.{labels_cmp};
+ghost use Rattle.pf_block.specs.IndexStacks.{AreBehind};
+ghost use Rattle.pf_block.specs.LabelOrders.{in_label_order, rise_from};
 ghost use Rattle.pf_block.specs.SeriesIds.{id_of, ids_with};
 ghost use Rattle.pf_block.specs.Stacks.{doubles, total};
 ghost use Rattle.pf_block.specs.Snaps.{IsSnap, empty_snap, labels_of, samples_of, held_at, with_rows, are_new, are_timed, without_rows};
@@ -16,9 +19,10 @@ ghost use Rattle.pf_block.specs.Snaps.{IsSnap, empty_snap, labels_of, samples_of
 use crate::block::{Block, Entry};
 use crate::grown::grown;
 use crate::index::Index;
+use crate::index_stack::IndexStack;
 use crate::layer::Layer;
 use crate::lending::lent;
-use crate::ranked::Ranked;
+use crate::postings::Postings;
 use crate::reads::last_within;
 use crate::rows::{block_of, entry, new_labels};
 use crate::sizes::BlockSizes;
@@ -33,7 +37,7 @@ use std::sync::Arc;
 #[derive(Drop)]
 pub struct Snap {
     alloc: Global,
-    index: Arc<Ranked>,
+    index: Arc<IndexStack>,
     blocks: Vec<Arc<Layer>>,
     sizes: Vec<usize>,
     order: Order,
@@ -53,7 +57,7 @@ impl Model for Snap {
 }
 
 /// The first rows that are of known series, as entries.
-fn known(alloc: Global, index: &Index, rows: &[Row]) -> Result<Vec<Entry>, OutOfMemory>
+fn known(alloc: Global, index: &IndexStack, rows: &[Row]) -> Result<Vec<Entry>, OutOfMemory>
     requires { are_timed rows.now ≡ true }
     ensures entries { IfOk result (λ v. map entry_of v.items ++ entries_of index.now (drop (vec_len v) rows.now) ≡ entries_of index.now rows.now) }
     ensures labels { IfOk result (λ v. labels_with index.now (drop (vec_len v) rows.now) ≡ labels_with index.now rows.now) }
@@ -69,55 +73,68 @@ fn known(alloc: Global, index: &Index, rows: &[Row]) -> Result<Vec<Entry>, OutOf
     Ok(entries)
 }
 
-/// The id of a series, and the index with its labels.
-fn numbered_in(index: Index, labels: &Labels) -> Result<(Index, u32), OutOfMemory>
-    ensures index { IfOk result (λ p. p.0 ≡ noted index labels.now) }
-    ensures id { IfOk result (λ p. p.1 ≡ number_of_labels index labels.now) }
+/// The id of a series that may be among the new ones, and these with its labels.
+fn numbered_in(index: &IndexStack, new: Index, labels: &Labels) -> Result<(Index, u32), OutOfMemory>
+    requires { AreBehind index.now new }
+    ensures index { IfOk result (λ p. index.now ++ p.0 ≡ noted (index.now ++ new) labels.now) }
+    ensures id { IfOk result (λ p. p.1 ≡ number_of_labels (index.now ++ new) labels.now) }
+    ensures behind { IfOk result (λ p. AreBehind index.now p.0) }
 {
     if let Some(id) = index.find(labels) {
-        return Ok((index, id));
+        return Ok((new, id));
     }
-    let id = index.count();
-    Ok((index.with(labels.clone()?)?, id))
+    let first = index.count();
+    if let Some(id) = new.find(labels) {
+        return Ok((new, first + id));
+    }
+    let count = new.count();
+    if count >= u32::MAX - first {
+        return Err(OutOfMemory);
+    }
+    Ok((new.with(labels.clone()?)?, first + count))
 }
 
-/// The entries with those of further rows, and the index with their labels.
+/// The entries with those of further rows, and the labels of new series.
 fn noted(
-    index: Index,
+    index: &IndexStack,
+    new: Index,
     entries: Vec<Entry>,
     rows: &[Row],
 ) -> Result<(Index, Vec<Entry>), OutOfMemory>
-    requires { are_timed rows.now ≡ true }
-    ensures entries { IfOk result (λ p. map entry_of p.1.items ≡ map entry_of entries.items ++ entries_of index rows.now) }
-    ensures labels { IfOk result (λ p. p.0 ≡ labels_with index rows.now) }
+    requires timed { are_timed rows.now ≡ true }
+    requires behind { AreBehind index.now new }
+    ensures entries { IfOk result (λ p. map entry_of p.1.items ≡ map entry_of entries.items ++ entries_of (index.now ++ new) rows.now) }
+    ensures labels { IfOk result (λ p. index.now ++ p.0 ≡ labels_with (index.now ++ new) rows.now) }
+    ensures behind { IfOk result (λ p. AreBehind index.now p.0) }
 {
-    let mut index = index;
+    let mut new = new;
     let mut entries = entries;
     for row in rows {
-        let (next, id) = numbered_in(index, &row.labels)?;
-        index = next;
+        let (next, id) = numbered_in(index, new, &row.labels)?;
+        new = next;
         entries.push(entry(row, id))?;
     }
-    Ok((index, entries))
+    Ok((new, entries))
 }
 
 /// The rows as entries, and the index with their labels: the same one where no series is new.
 fn numbered(
     alloc: Global,
-    index: &Arc<Ranked>,
+    index: &Arc<IndexStack>,
     rows: &[Row],
-) -> Result<(Arc<Ranked>, Vec<Entry>), OutOfMemory>
+) -> Result<(Arc<IndexStack>, Vec<Entry>), OutOfMemory>
     requires { are_timed rows.now ≡ true }
     ensures entries { IfOk result (λ p. map entry_of p.1.items ≡ entries_of (arc_value index.now) rows.now) }
     ensures labels { IfOk result (λ p. arc_value p.0 ≡ labels_with (arc_value index.now) rows.now) }
 {
-    let entries = known(alloc, index.index(), rows)?;
+    let entries = known(alloc, index, rows)?;
     let place = entries.len();
     if place == rows.len() {
         return Ok((Arc::try_clone(index)?, entries));
     }
-    let (index, entries) = noted(index.index().copied()?, entries, &rows[place..])?;
-    Ok((Arc::new(alloc, Ranked::of(alloc, index)?)?, entries))
+    let _count = index.count();
+    let (new, entries) = noted(index, Index::new(alloc), entries, &rows[place..])?;
+    Ok((Arc::new(alloc, index.with(alloc, new)?)?, entries))
 }
 
 impl Snap {
@@ -127,7 +144,7 @@ impl Snap {
     {
         let snap = Snap {
             alloc,
-            index: Arc::new(alloc, Ranked::of(alloc, Index::new(alloc))?)?,
+            index: Arc::new(alloc, IndexStack::new(alloc))?,
             blocks: Vec::new(alloc),
             sizes: Vec::new(alloc),
             order: Order {
@@ -146,7 +163,7 @@ impl Snap {
         ensures { IfOk result (λ s. arc_value s ≡ with_rows self.now rows.now) }
     {
         let (index, entries) = numbered(self.alloc, &self.index, rows)?;
-        let _few = index.index().count();
+        let _few = index.count();
         let block = Block::of(self.alloc, entries)?;
         self.with_block(rows, index, block)
     }
@@ -166,7 +183,12 @@ impl Snap {
     }
 
     /// With rows of which an index has the series and a block the samples.
-    fn with_block(&self, rows: &[Row], index: Arc<Ranked>, block: Block) -> Result<Arc<Snap>, OutOfMemory>
+    fn with_block(
+        &self,
+        rows: &[Row],
+        index: Arc<IndexStack>,
+        block: Block,
+    ) -> Result<Arc<Snap>, OutOfMemory>
         requires timed { are_timed rows.now ≡ true }
         requires fresh { are_new self.now rows.now ≡ true }
         requires labels { arc_value index ≡ labels_with self.now.labels rows.now }
@@ -211,45 +233,46 @@ impl Snap {
         Ok(Arc::new(self.alloc, snap)?)
     }
 
-    /// The number of series. What each snapshot is like stands here too.
+    /// The number of series. What each snapshot and each of its label sets is like stands here too.
     pub fn series_count(&self) -> u32
         ensures value { result ≡ length self.now.labels }
         ensures snap { IsSnap self.now }
+        ensures labels { All IsLabels self.now.labels }
     {
         let _blocks = &self.blocks;
-        self.index.index().count()
+        self.index.count()
     }
 
     /// The series with these labels.
     pub fn find(&self, labels: &Labels) -> Option<u32>
         ensures { result ≡ id_of labels.now self.now.labels }
     {
-        self.index.index().find(labels)
+        self.index.find(labels)
     }
 
     /// The series whose labels have this pair of a name and a value, by rising id.
-    pub fn postings(&self, name: &str, value: &str) -> &[u32]
-        ensures { result.now ≡ ids_with name.now value.now self.now.labels }
+    pub fn postings<'a>(&'a self, name: &'a str, value: &'a str) -> Postings<'a>
+        ensures { result ≡ ids_with name.now value.now self.now.labels }
     {
-        self.index.index().postings(name, value)
+        self.index.postings(name, value)
     }
 
-    /// The series in label order. What each series' labels are like stands here too.
-    pub fn by_label(&self) -> &[u32]
-        ensures value { result.now ≡ ids_by_label self.now.labels }
-        ensures labels { All IsLabels self.now.labels }
+    /// Whether a series stands before another in label order.
+    pub fn is_before(&self, id: u32, other: u32) -> bool
+        requires first { id < length self.now.labels }
+        requires second { other < length self.now.labels }
+        ensures { result ≡ is_lt (labels_cmp (labels_of self.now id) (labels_of self.now other)) }
     {
-        let _count = self.index.index().count();
-        self.index.by_label()
+        self.index.is_before(id, other)
     }
 
-    /// The place of a series in label order, counted from 0.
-    pub fn rank(&self, id: u32) -> u32
-        requires { id < length self.now.labels }
-        ensures within { result < length self.now.labels }
-        ensures place { slice_index_or (ids_by_label self.now.labels) result 0 ≡ id }
+    /// Some series in label order, given by rising id.
+    pub fn in_label_order(&self, alloc: Global, ids: &[u32]) -> Result<Vec<u32>, OutOfMemory>
+        requires rising { rise_from 0 ids.now ≡ true }
+        requires within { All (λ id. id < length self.now.labels) ids.now }
+        ensures { IfOk result (λ v. v.items ≡ in_label_order self.now.labels ids.now) }
     {
-        self.index.rank(id)
+        self.index.in_label_order(alloc, ids)
     }
 
     /// The shard of a series among n, found without its labels.
@@ -266,7 +289,7 @@ impl Snap {
         requires { id < length self.now.labels }
         ensures { result.now ≡ labels_of self.now id }
     {
-        self.index.index().labels(id)
+        self.index.labels(id)
     }
 
     /// The samples of a series after `after`, up to and with `upto`, in milliseconds.

@@ -2,7 +2,6 @@
 #![tactic(auto)]
 
 mod listing;
-mod ordering;
 mod selection;
 mod sieving;
 

@@ -7,7 +7,6 @@ ghost use Rattle.pf_model.specs.Binding.{accepted_ids, accepted_of, bound_series
 ghost use Rattle.pf_model.specs.Trees.{Tree};
 
 use crate::listing::{all_ids, listed_ids, listed_values, shortest};
-use crate::ordering::in_label_order;
 use crate::sieving::sieved;
 use pf_base::OutOfMemory;
 use pf_block::Snap;
@@ -20,7 +19,7 @@ pub fn select(alloc: Global, snap: &Snap, matchers: &Matchers) -> Result<Vec<u32
     ensures within { IfOk result (λ v. All (λ id. id < length snap.now.labels) v.items) }
 {
     let ids = accepted(alloc, snap, matchers)?;
-    let ids = in_label_order(alloc, snap, &ids)?;
+    let ids = snap.in_label_order(alloc, &ids)?;
     Ok(ids)
 }
 
@@ -50,7 +49,7 @@ fn accepted(alloc: Global, snap: &Snap, matchers: &Matchers) -> Result<Vec<u32>,
         let matcher = matchers.matcher(place);
         let values = listed_values(alloc, matcher)?;
         if !values.is_empty() {
-            let _order = snap.by_label();
+            let _count = snap.series_count();
             let ids = listed_ids(alloc, snap, matcher.label.as_str(), &values)?;
             let found = sieved(alloc, snap, matchers, Some(place), ids)?;
             return Ok(found);

@@ -8,7 +8,7 @@ ghost use Rattle.pf_model.specs.Selection.{is_compared};
 ghost use Rattle.pf_model.specs.declared.expr.Matcher.{Matcher};
 
 use pf_base::OutOfMemory;
-use pf_block::Snap;
+use pf_block::{Postings, Snap};
 use pf_model::{MatchSign, Matcher, Matchers, MatchersAsker, is_plain};
 use std::alloc::Global;
 
@@ -37,12 +37,12 @@ fn noted(known: &[Option<bool>], id: u32) -> Option<bool>
 }
 
 /// Notes a verdict on some series.
-fn note(known: &mut Vec<Option<bool>>, ids: &[u32], verdict: bool)
+fn note(known: &mut Vec<Option<bool>>, ids: Postings<'_>, verdict: bool)
     ensures count { length known.new.items ≡ length known.old.items }
-    ensures noted { (k : ℕ) → k < length known.old.items → slice_index_or known.new.items k None ≡ cond (list_any (nat_eq k) ids.now) (Some verdict) (slice_index_or known.old.items k None) }
+    ensures noted { (k : ℕ) → k < length known.old.items → slice_index_or known.new.items k None ≡ cond (list_any (nat_eq k) ids) (Some verdict) (slice_index_or known.old.items k None) }
 {
     for id in ids {
-        let place = *id as usize;
+        let place = id as usize;
         if place < known.len() {
             known[place] = Some(verdict);
         }
@@ -107,7 +107,7 @@ impl Verdicts {
         }
         let verdict = asker.holds(place, value);
         if self.spare > 0 {
-            let _order = snap.by_label();
+            let _count = snap.series_count();
             self.spare -= 1;
             note(&mut self.by_series, snap.postings(name, value), verdict);
         }

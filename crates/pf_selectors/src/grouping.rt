@@ -9,7 +9,7 @@ ghost use Rattle.pf_model.specs.Aggregation.{group_key};
 ghost use Rattle.pf_selectors.specs.Grouping.{Adds, AreNoted, AreNumbered, key_at, keys_at};
 
 use pf_base::{Labels, OutOfMemory};
-use pf_block::Snap;
+use pf_block::{Postings, Snap};
 use pf_columns::{GroupIds, key_behind};
 use pf_model::Grouping;
 use std::alloc::Global;
@@ -39,12 +39,12 @@ fn noted(known: &[Option<u32>], id: u32) -> Option<u32>
 }
 
 /// Notes a number on some series.
-fn note(known: &mut Vec<Option<u32>>, ids: &[u32], number: u32)
+fn note(known: &mut Vec<Option<u32>>, ids: Postings<'_>, number: u32)
     ensures count { length known.new.items ≡ length known.old.items }
-    ensures noted { (k : ℕ) → k < length known.old.items → slice_index_or known.new.items k None ≡ cond (list_any (nat_eq k) ids.now) (Some number) (slice_index_or known.old.items k None) }
+    ensures noted { (k : ℕ) → k < length known.old.items → slice_index_or known.new.items k None ≡ cond (list_any (nat_eq k) ids) (Some number) (slice_index_or known.old.items k None) }
 {
     for id in ids {
-        let place = *id as usize;
+        let place = id as usize;
         if place < known.len() {
             known[place] = Some(number);
         }
@@ -79,7 +79,7 @@ fn note_alike(known: &mut Vec<Option<u32>>, snap: &Snap, grouping: &Grouping, id
     if value.is_empty() {
         return;
     }
-    let _order = snap.by_label();
+    let _count = snap.series_count();
     note(known, snap.postings(name, value), number);
 }
 

@@ -196,13 +196,12 @@ fn are_in_order(snap: &Snap, ids: &[u32]) -> bool
     let _count = snap.series_count();
     let mut last: Option<u32> = None;
     for id in ids {
-        let rank = snap.rank(*id);
         if let Some(last) = last {
-            if rank <= last {
+            if !snap.is_before(last, *id) {
                 return false;
             }
         }
-        last = Some(rank);
+        last = Some(*id);
     }
     true
 }

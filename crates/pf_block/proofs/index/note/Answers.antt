@@ -2,7 +2,7 @@ use Rattle.std.proofs.Common.{rules, ◌++◌, ◌∷◌, [], cond, ap, ◌∙�
 use Rattle.std.specs.String.{string_bytes}
 use Rattle.std.specs.Str.{bytes_eq}
 use Rattle.pf_block.specs.Indexes.{listed_in}
-use Rattle.pf_block.proofs.Postings.{note_is, note_new}
+use Rattle.pf_block.proofs.PostingLists.{note_is, note_new}
 use Rattle.pf_block.proofs.index.note.Goals as goal
 
 pub returns-in-Some : goal.returns-in-Some

@@ -1,6 +1,6 @@
 use Rattle.std.proofs.Common.{arith}
 use Rattle.pf_block.specs.Indexes.{listed}
-use Rattle.pf_block.proofs.Postings.{hits_more, hits_all}
+use Rattle.pf_block.proofs.PostingLists.{hits_more, hits_all}
 use Rattle.pf_block.proofs.index.note_all.Goals as goal
 
 pub loop-i-preserved : goal.loop-i-preserved

@@ -1,6 +1,6 @@
 use Rattle.std.proofs.Common.{◌≡◌, ℕ, List, ◌++◌, take}
 use Rattle.pf_block.specs.Indexes.{listed}
-use Rattle.pf_block.proofs.Postings.{hits}
+use Rattle.pf_block.proofs.PostingLists.{hits}
 use Rattle.pf_block.proofs.index.note_all.Given as goal
 
 abbrev pub invariant-loop-i : goal.invariant-loop-i

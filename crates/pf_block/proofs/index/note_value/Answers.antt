@@ -1,7 +1,7 @@
 use Rattle.std.proofs.Common.{rules, ◌++◌, ◌∷◌, [], ap, ◌∙◌}
 use Rattle.std.specs.String.{string_bytes}
 use Rattle.pf_block.specs.Indexes.{listed_by}
-use Rattle.pf_block.proofs.Postings.{noted, noted_new}
+use Rattle.pf_block.proofs.PostingLists.{noted, noted_new}
 use Rattle.pf_block.proofs.index.note_value.Goals as goal
 
 pub returns-in-Some : goal.returns-in-Some

@@ -18,7 +18,7 @@ sieved-requires-clause-listed c = λ d.
     let values : map (λ x. x.now) c.deref.result.now ≡ listed_values m = ap (map (λ x. x.now)) c.deref.ensures.value ∙ c.in_ok-values.ensures in
     let ids : c.in_ok-ids.ids.items ≡ listed_in m.label (listed_values m) ls = c.in_ok-ids.ensures ∙ (λ i. listed_in (c.as_str.ensures i) (values i) ls) in
     subst (λ x. All (λ id. holds_of x ls id ≡ true) c.in_ok-ids.ids.items) (c.matcher-matcher.ensures d)
-    (subst (All (λ id. holds_of m ls id ≡ true)) (sym ids) (listed_holds m ls c.by_label-order.ensures.labels))
+    (subst (All (λ id. holds_of m ls id ≡ true)) (sym ids) (listed_holds m ls c.series_count-count.ensures.labels))
 
 pub returns-then-not-is_empty : goal.returns-then-not-is_empty
 returns-then-not-is_empty c =

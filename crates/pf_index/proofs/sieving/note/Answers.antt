@@ -1,6 +1,18 @@
-use Rattle.std.proofs.Common.{arith}
-use Rattle.std.proofs.lemmas.Grind.{common_steps}
+use Rattle.std.proofs.Common.{◌≡◌, ℕ, cond, length, get_or, Some, None, nat_eq, refl, sym, ap, ◌∙◌, arith}
+use Rattle.std.specs.List.{list_any}
+use Rattle.pf_block.proofs.PostingLists.{noted_next}
 use Rattle.pf_index.proofs.sieving.note.Goals as goal
 
+pub loop-id-init : goal.loop-id-init
+loop-id-init c = record {
+  goes = (tt, tt);
+  count = refl;
+  noted = λ k l. ap (λ ids. cond (list_any (nat_eq k) ids) (Some c.args.verdict) (get_or c.args.known.now.items k None)) c.into_iter-id-iterator.ensures.into_iter_gives;
+}
+
 pub loop-id-preserved : goal.loop-id-preserved
-loop-id-preserved c = grind (arith, common_steps)
+loop-id-preserved c = ?
+
+pub returns-clause-noted : goal.returns-clause-noted
+returns-clause-noted c = λ k l.
+    ap (λ ids. cond (list_any (nat_eq k) ids) (Some c.args.verdict) (get_or c.loop-id.known.items k None)) (sym c.in-None.ensures.steps.0) ∙ c.loop-id.invariant.noted k l

@@ -10,5 +10,5 @@ returns c =
     let of = c.get-value.ensures ∙ ap (λ l. value_of l name) c.labels.ensures in
     let some = sym c.is_empty-2.ensures ∙ c.if-is_empty-2.false in
     λ keys there is old.
-    noted_alike g.without g.labels name c.get-value.result.now c.args.snap.now.labels keys c.args.known.now.items c.note.new.known.items c.postings.result.now c.args.id c.args.number
-    c.in-Some.ensures.without c.in-Some.ensures.labels c.by_label-order.ensures.labels c.requires of some c.postings.ensures c.note.ensures.count c.note.ensures.noted there is old
+    noted_alike g.without g.labels name c.get-value.result.now c.args.snap.now.labels keys c.args.known.now.items c.note.new.known.items c.postings.result c.args.id c.args.number
+    c.in-Some.ensures.without c.in-Some.ensures.labels c.series_count-count.ensures.labels c.requires of some c.postings.ensures c.note.ensures.count c.note.ensures.noted there is old

@@ -1,29 +1,10 @@
-use Rattle.std.proofs.Common.{◌≡◌, ◌++◌, ◌∷◌, [], true, length, get_or, take, sym, ap, ◌∙◌, subst, arith}
-use Rattle.std.proofs.lemmas.List.{take_more}
-use Rattle.std.proofs.Math.Seq.{take-length}
-use Rattle.pf_block.specs.SeriesIds.{id_of}
+use Rattle.std.proofs.Common.{◌≡◌, ◌++◌, true, sym, ap, ◌∙◌, subst}
 use Rattle.pf_block.specs.Snaps.{are_apart}
-use Rattle.pf_block.proofs.Ids.{apart_at}
 use Rattle.pf_block.proofs.index.Index.copied.Goals as goal
 
-pub with-requires : goal.with-requires
-with-requires c =
-    let items = c.deref-labels-items.result.now in
-    let apart : are_apart items ≡ true = subst (λ l. are_apart l ≡ true) (sym c.deref-labels-items.ensures.value) c.self.invariant.apart in
-    ap (λ x. id_of x c.loop-labels.index) (c.in_ok-clone.ensures ∙ c.labels-item.is)
-    ∙ ap (id_of (get_or items c.loop-labels.labels-index c.labels-item.result)) c.loop-labels.invariant
-    ∙ apart_at c.loop-labels.labels-index c.labels-item.result items apart (omega arith)
-
-pub loop-labels-preserved : goal.loop-labels-preserved
-loop-labels-preserved c =
-    let items = c.deref-labels-items.result.now in
-    c.in_ok-index.ensures.value
-    ∙ ap (λ l. l ++ c.in_ok-clone.field-0 ∷ []) c.loop-labels.invariant
-    ∙ ap (λ x. take c.loop-labels.labels-index items ++ x ∷ []) (c.in_ok-clone.ensures ∙ c.labels-item.is)
-    ∙ sym (take_more items c.loop-labels.labels-index c.labels-item.result (omega arith))
+pub with_all-requires : goal.with_all-requires
+with_all-requires c =
+    subst (λ l. are_apart (l ++ c.args.self.now) ≡ true) (sym c.new-index.ensures) (subst (λ l. are_apart l ≡ true) c.self.view_is c.self.invariant.apart)
 
 pub returns : goal.returns
-returns c =
-    let items = c.deref-labels-items.result.now in
-    let e : c.loop-labels.labels-index ≡ length items = omega arith in
-    c.loop-labels.invariant ∙ ap (λ n. take n items) e ∙ take-length items ∙ c.deref-labels-items.ensures.value ∙ c.self.view_is
+returns c = c.in_ok-copy.ensures ∙ ap (λ x. x ++ c.args.self.now) c.new-index.ensures

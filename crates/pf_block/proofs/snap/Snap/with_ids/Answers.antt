@@ -14,7 +14,7 @@ grown-requires c =
 pub block_of-requires-clause-alike : goal.block_of-requires-clause-alike
 block_of-requires-clause-alike c = alike_ids c.args.ids.now c.args.self.now.labels c.args.rows.now c.requires.numbered
 
-pub put-requires-clause-samples : goal.put-requires-clause-samples
-put-requires-clause-samples c = λ id x.
+pub with_block-requires-clause-samples : goal.with_block-requires-clause-samples
+with_block-requires-clause-samples c = λ id x.
     c.in_ok-block.ensures.samples id x
     ∙ ap (λ es. times_in x (samples_in id es)) (ap (λ ids. entries_with ids c.args.rows.now) c.requires.numbered ∙ entries_are c.args.self.now.labels c.args.rows.now)

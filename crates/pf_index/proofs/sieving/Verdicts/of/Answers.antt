@@ -15,8 +15,8 @@ pub returns-then-self-gt0-clause-known : goal.returns-then-self-gt0-clause-known
 returns-then-self-gt0-clause-known c =
     let m = c.args.matcher.now in
     let ls = c.args.snap.now.labels in
-    known_noted m ls c.args.self.now.by_series.items c.note.new.known.items c.args.self.now.without c.get-value.result.now c.postings.result.now c.holds-verdict.result
-    c.by_label-order.ensures.labels (c.holds-verdict.ensures.value m ∙ sym (ap (λ x. Rattle.pf_model.specs.Selection.holds x.sign c.get-value.result.now x.text) (c.requires.asked.1 m)))
+    known_noted m ls c.args.self.now.by_series.items c.note.new.known.items c.args.self.now.without c.get-value.result.now c.postings.result c.holds-verdict.result
+    c.series_count-count.ensures.labels (c.holds-verdict.ensures.value m ∙ sym (ap (λ x. Rattle.pf_model.specs.Selection.holds x.sign c.get-value.result.now x.text) (c.requires.asked.1 m)))
     (c.postings.ensures ∙ ap (λ n. ids_with n c.get-value.result.now ls) c.as_str-name.ensures) c.note.ensures.count c.note.ensures.noted c.requires.known
 
 pub returns-else-self-gt0-clause-value : goal.returns-else-self-gt0-clause-value

@@ -1,5 +1,0 @@
-use Rattle.std.proofs.Common.{◌≡◌, take}
-use Rattle.pf_block.proofs.index.Index.copied.Given as goal
-
-abbrev pub invariant-loop-labels : goal.invariant-loop-labels
-invariant-loop-labels l = l.index ≡ take l.labels-index l.labels-items
