@@ -99,7 +99,7 @@ impl<'a> Postings<'a> {
     }
 
     /// How many ids are left.
-    pub fn count(&self) -> usize
+    pub fn len(&self) -> usize
         ensures { result ≡ length self.now }
     {
         let mut count = self.rest.len();

@@ -65,7 +65,7 @@ fn count_of_alternatives(snap: &Snap, name: &str, pattern: &str) -> Option<usize
         if value.is_empty() {
             return None;
         }
-        count = count.saturating_add(snap.postings(name, value).count());
+        count = count.saturating_add(snap.postings(name, value).len());
     }
     Some(count)
 }
@@ -75,7 +75,7 @@ fn count_of(snap: &Snap, matcher: &Matcher) -> Option<usize> {
     let name = matcher.label.as_str();
     let text = matcher.text.as_str();
     match matcher.sign {
-        MatchSign::Equal if !text.is_empty() => Some(snap.postings(name, text).count()),
+        MatchSign::Equal if !text.is_empty() => Some(snap.postings(name, text).len()),
         MatchSign::Like if is_plain(text) => count_of_alternatives(snap, name, text),
         _ => None,
     }

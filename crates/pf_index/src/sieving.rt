@@ -39,7 +39,7 @@ fn noted(known: &[Option<bool>], id: u32) -> Option<bool>
 /// Notes a verdict on some series.
 fn note(known: &mut Vec<Option<bool>>, ids: Postings<'_>, verdict: bool)
     ensures count { length known.new.items ≡ length known.old.items }
-    ensures noted { (k : ℕ) → k < length known.old.items → slice_index_or known.new.items k None ≡ cond (list_any (nat_eq k) ids) (Some verdict) (slice_index_or known.old.items k None) }
+    ensures noted { (k : ℕ) → k < length known.old.items → slice_index_or known.new.items k None ≡ cond (list_any (nat_eq k) ids.entry) (Some verdict) (slice_index_or known.old.items k None) }
 {
     for id in ids {
         let place = id as usize;

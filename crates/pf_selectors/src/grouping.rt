@@ -41,7 +41,7 @@ fn noted(known: &[Option<u32>], id: u32) -> Option<u32>
 /// Notes a number on some series.
 fn note(known: &mut Vec<Option<u32>>, ids: Postings<'_>, number: u32)
     ensures count { length known.new.items ≡ length known.old.items }
-    ensures noted { (k : ℕ) → k < length known.old.items → slice_index_or known.new.items k None ≡ cond (list_any (nat_eq k) ids) (Some number) (slice_index_or known.old.items k None) }
+    ensures noted { (k : ℕ) → k < length known.old.items → slice_index_or known.new.items k None ≡ cond (list_any (nat_eq k) ids.entry) (Some number) (slice_index_or known.old.items k None) }
 {
     for id in ids {
         let place = id as usize;

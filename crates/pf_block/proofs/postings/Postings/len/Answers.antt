@@ -4,7 +4,7 @@ use Rattle.std.proofs.lemmas.List.{length-append, length-map}
 use Rattle.pf_block.specs.IndexStacks.{joined}
 use Rattle.pf_block.specs.SeriesIds.{ids_from, ids_with}
 use Rattle.pf_block.proofs.Joining.{count_next, ids_counted, ids_few, joined_upto, layer_in, layer_is, length_part}
-use Rattle.pf_block.proofs.postings.Postings.count.Goals as goal
+use Rattle.pf_block.proofs.postings.Postings.len.Goals as goal
 
 pub overflow_add-count : goal.overflow_add-count
 overflow_add-count c =
