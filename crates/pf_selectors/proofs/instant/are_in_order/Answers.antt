@@ -1,4 +1,4 @@
-use Rattle.std.proofs.Common.{◌+◌, ◌<◌, IfSome, Some, None, length, map, drop, option_map, refl, sym, ap, ◌∙◌, subst}
+use Rattle.std.proofs.Common.{◌+◌, Some, None, map, drop, option_map, refl, sym, ap, ◌∙◌}
 use Rattle.pf_block.specs.Snaps.{labels_of}
 use Rattle.pf_columns.specs.Steps.{rise_above}
 use Rattle.pf_selectors.proofs.RankedSeries.{next_above}
@@ -13,18 +13,16 @@ loop-id-preserved c =
     let there = c.requires i 0 c.loop-id-test.true in
     elim c.match-last.branch [
       | in-Some+else-not-is_before w ↦ record {
-        within = subst (λ o. IfSome o (λ id. id < length s.labels)) (sym w.last-is) there;
+        within = there;
         rise =
-            ap (λ o. rise_above (option_map (labels_of s) o) (map (labels_of s) (drop (i + 1) ids))) w.last-is
-            ∙ next_above s ids i (Some (labels_of s w.in-Some.last)) c.loop-id-test.true (sym w.if-not-is_before.ensures)
+            next_above s ids i (Some (labels_of s w.in-Some.last)) c.loop-id-test.true (sym w.if-not-is_before.ensures)
             ∙ ap (λ o. rise_above (option_map (labels_of s) o) (map (labels_of s) (drop i ids))) (sym w.in-Some.is)
             ∙ c.loop-id.invariant.rise;
       }
       | in_default w ↦ record {
-        within = subst (λ o. IfSome o (λ id. id < length s.labels)) (sym w.last-is) there;
+        within = there;
         rise =
-            ap (λ o. rise_above (option_map (labels_of s) o) (map (labels_of s) (drop (i + 1) ids))) w.last-is
-            ∙ next_above s ids i None c.loop-id-test.true refl
+            next_above s ids i None c.loop-id-test.true refl
             ∙ ap (λ o. rise_above (option_map (labels_of s) o) (map (labels_of s) (drop i ids))) (sym w.in_default.is)
             ∙ c.loop-id.invariant.rise;
       }
