@@ -9,8 +9,8 @@ use crate::layer::Layer;
 use pf_base::Sample;
 use std::sync::Arc;
 
-/// The samples of a series after `after`, up to and with `upto`, where at most one block has some. There are none where
-/// several blocks have some.
+/// The samples of a series after `after`, up to and with `upto`, as they lie in one block. `None` where several blocks have
+/// some.
 pub fn lent(blocks: &[Arc<Layer>], id: u32, after: i64, upto: i64) -> Option<&[Sample]>
     requires { rises (series_in id (map arc_value blocks.now)) ≡ true }
     ensures { IfSome result (λ xs. xs.now ≡ window_of (series_in id (map arc_value blocks.now)) after upto) }

@@ -300,7 +300,7 @@ impl Snap {
         Window::over(&self.blocks, self.order.ordered, id, after, upto)
     }
 
-    /// The samples that `window` gives, where one block has them all. There are none where several blocks have some.
+    /// The samples that `window` gives, as they lie in one block. `None` where several blocks have some.
     pub fn lent(&self, id: u32, after: i64, upto: i64) -> Option<&[Sample]>
         requires { id < length self.now.labels }
         ensures window { IfSome result (λ xs. xs.now ≡ window_of (samples_of self.now id) after upto) }

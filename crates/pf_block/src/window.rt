@@ -106,7 +106,7 @@ impl<'a> Window<'a> {
         }
     }
 
-    /// The samples that are left, where they lie together. There are none where blocks are behind them.
+    /// The samples that are left, where they lie together. `None` where blocks are behind them.
     pub fn lent(&self) -> Option<&'a [Sample]>
         ensures { IfSome result (λ xs. xs.now ≡ self.now) }
     {
