@@ -9,7 +9,8 @@
 //! that are shared likewise, each with at least twice the series of the next. An index has a map from label sets to ids, a list
 //! of ids for each pair of a name and a value, the ids in label order with the place of each, and by id the hash that gives each
 //! one's shard. Windows and look-ups search by halves and take no memory. `lent` gives a window as it lies in the one block that
-//! has all of its samples.
+//! has all of its samples. A block takes in others by size alone, also where its samples come late. A window walks block by
+//! block where a series' samples rise so, and else takes the next ones of all blocks.
 #![tactic(auto)]
 
 mod block;

@@ -1,4 +1,4 @@
-//! The samples of a series, read from blocks.
+//! The samples of a series, read from blocks: one block behind the other where they rise so, and else of all blocks.
 
 ghost use Rattle.std.specs.Prelude.{◌≡◌, ◌++◌, true, [], map, take};
 ghost use Rattle.std.specs.Arc.{arc_value};
@@ -78,8 +78,8 @@ fn stretch_of<'a>(ones: &'a [Sample], others: &'a [Sample]) -> &'a [Sample]
     }
 }
 
-/// Some first samples of a series after `after`, up to and with `upto`, which lie in one block. There are none only where none
-/// are left.
+/// Some first samples of a series after `after`, up to and with `upto`, side by side in one block. There are none only where
+/// nothing is left.
 pub fn next_stretch<'a>(blocks: &'a [Arc<Layer>], id: u32, after: i64, upto: i64) -> &'a [Sample]
     requires { rises (series_in id (map arc_value blocks.now)) ≡ true }
     ensures left { result.now ++ window_of (series_in id (map arc_value blocks.now)) (ends_at after result.now) upto ≡ window_of (series_in id (map arc_value blocks.now)) after upto }

@@ -144,8 +144,8 @@ fn takes_in(sizes: &[usize], kept: usize, count: usize, top: &Block) -> bool
     count > kept || sizes[count - 1] / 2 < top.rows()
 }
 
-/// The order of the first `count` blocks of some with a further one, `blocks` in all. None of the first `clear` has a sample after one
-/// of its series in that.
+/// The order of the first `count` blocks of some with a further one, `blocks` in all. None of the first `clear` has a sample
+/// after one of its series in that.
 fn order_on(old: Order, clear: usize, count: usize, blocks: usize) -> Order
     ensures { result ≡ order_on old clear count blocks }
 {
@@ -190,7 +190,7 @@ fn stacked(
     Ok((stack, numbers, order))
 }
 
-/// A further block on blocks. Whether it comes late, as before a sample of its series, doesn't matter.
+/// A further block on blocks. Its samples may come late: before ones of their series that are there.
 pub fn put(
     alloc: Global,
     blocks: &[Arc<Layer>],

@@ -13,8 +13,8 @@ use std::iter::Iterator;
 use std::marker::Model;
 use std::sync::Arc;
 
-/// An iterator over samples by rising time. Contracts see the samples that are left: some first ones, and those of blocks, in
-/// which they may rise from block to block.
+/// An iterator over samples by rising time. Contracts see the samples that are left: some first ones, and those of blocks.
+/// `joined` is set where they rise from block to block.
 #[derive(Drop)]
 pub struct Window<'a> {
     rest: &'a [Sample],
