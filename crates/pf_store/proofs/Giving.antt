@@ -108,7 +108,7 @@ module _ {S T : Type 0} (snap : SnapData) (series : HashMap Pairs Numbered S) (v
 
   -- ---- a row that is taken
 
-  pub number_given : (l : Pairs) (n : Numbered) → get labels_eq series l ≡ Some n → n.number < length given
+  number_given : (l : Pairs) (n : Numbered) → get labels_eq series l ≡ Some n → n.number < length given
   number_given l n k = let b = f.below l n k in omega (arith, b, g.count)
 
   module _ (r : Row) (n : Numbered) (known : get labels_eq series r.labels ≡ Some n) where

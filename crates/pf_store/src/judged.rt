@@ -47,7 +47,7 @@ fn judge_held(snap: &Snap, taken: &mut TakenRows, row: &Row) -> Result<Verdict, 
     if let Some(held) = held_by(snap, numbered.id, row.time) {
         return Ok(compared(held, row.value));
     }
-    let verdict = taken.add(snap, numbered, row)?;
+    let verdict = taken.add(numbered, row)?;
     Ok(verdict)
 }
 

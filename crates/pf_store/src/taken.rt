@@ -1,9 +1,10 @@
 //! The rows of a batch that were taken so far.
 
-ghost use Rattle.std.specs.Prelude.{◌≡◌, ◌++◌, ◌∷◌, [], true, cond, IfOk, OnOk, Some};
-ghost use Rattle.std.specs.HashMap.{get};
+ghost use Rattle.std.specs.Prelude.{◌≡◌, ◌++◌, ◌∷◌, [], true, cond, length, IfOk, OnOk, Some};
+ghost use Rattle.std.specs.HashMap.{get, hash_map_len};
 ghost use Rattle.pf_base.specs.LabelOrder.{labels_eq};
 ghost use Rattle.pf_model.specs.Log.{compared, held_value, is_taken};
+ghost use Rattle.pf_block.specs.Snaps.{SnapData};
 ghost use Rattle.pf_store.specs.Keys.{AreIds, Finds, Gives, IsLast};
 ghost use Rattle.pf_store.specs.Verdicts.{verdict_of};
 ghost use Rattle.pf_store.specs.declared.taken.Numbered.{Numbered};
@@ -130,20 +131,15 @@ impl TakenRows {
     }
 
     /// The verdict on a further row by these rows, which have it afterwards if it is taken.
-    pub fn add(
-        &mut self,
-        snap: &Snap,
-        numbered: Numbered,
-        row: &Row,
-    ) -> Result<Verdict, OutOfMemory>
+    pub fn add(&mut self, numbered: Numbered, row: &Row) -> Result<Verdict, OutOfMemory>
         requires found { Finds self.old.series self.old.values self.old.rows.items }
         requires known { get labels_eq self.old.series row.now.labels ≡ Some numbered }
-        requires gives { Gives snap.now self.old.series self.old.rows.items self.old.ids.items self.old.given.ids.items self.old.given.next self.old.last }
+        requires count { length self.old.given.ids.items ≡ hash_map_len self.old.series }
         ensures verdict { IfOk result (λ v. verdict_of v ≡ compared (held_value self.old.rows.items row.now.labels row.now.time) row.now.value) }
         ensures rows { IfOk result (λ v. self.new.rows.items ≡ self.old.rows.items ++ cond (is_taken (verdict_of v)) (row.now ∷ []) []) }
         ensures found { OnOk result (Finds self.new.series self.new.values self.new.rows.items) }
         ensures series { OnOk result (self.new.series ≡ self.old.series) }
-        ensures gives { OnOk result (Gives snap.now self.new.series self.new.rows.items self.new.ids.items self.new.given.ids.items self.new.given.next self.new.last) }
+        ensures gives { OnOk result ((snap : SnapData) → Gives snap self.old.series self.old.rows.items self.old.ids.items self.old.given.ids.items self.old.given.next self.old.last → Gives snap self.new.series self.new.rows.items self.new.ids.items self.new.given.ids.items self.new.given.next self.new.last) }
     {
         let key = (numbered.number, row.time);
         if let Some(held) = self.values.get(&key) {
