@@ -2,7 +2,7 @@
 //!
 //! What the layers above use: contracts see a snapshot as two lists by id, the labels of its series and their samples in
 //! order of time. A window of a series is a filter over its samples, `find` and `postings` are look-ups in the list of
-//! labels, and `with` and `without` give the two lists that they leave.
+//! labels, and `with`, `with_ids` and `without` give the two lists that they leave.
 //!
 //! The code keeps the samples in blocks that are shared, each sorted by series and time and built of at least twice the
 //! samples of the next; beside each block, what deletions left of the series that they touched there; and indexes of series
