@@ -51,5 +51,6 @@ pub fn evaluate(alloc: Global, asked: &Asked, snap: &Snap) -> Result<Body, OutOf
     ensures code { IfOk result (λ b. (samples : List Row) → StandsFor snap.now samples → AreApart samples → code_in b ≡ code_of (direct samples asked.now.query)) }
 {
     let series = select_all(alloc, snap, &asked.matchers)?;
-    body_of(alloc, asked, &series, snap)
+    let body = body_of(alloc, asked, &series, snap)?;
+    Ok(body)
 }

@@ -59,7 +59,8 @@ fn evaluated(
     let pin = pinned(alloc, batch)?;
     let asked = query.asked(alloc, When::Range(grid))?;
     let body = evaluate(alloc, &asked, &pin.snap)?;
-    printed(alloc, &body)
+    let text = printed(alloc, &body)?;
+    Ok(text)
 }
 
 /// What is printed of a refusal.
@@ -67,21 +68,24 @@ fn evaluated(
 fn refused(alloc: Global, message: Text) -> Result<Vec<u8>, OutOfMemory>
     ensures { IfOk result (λ v. v.items ≡ evaluation_text (codes "400") (refused_body message)) }
 {
-    printed(alloc, &Body::Refused(message))
+    let text = printed(alloc, &Body::Refused(message))?;
+    Ok(text)
 }
 
 fn refused_query(alloc: Global, error: &QueryError) -> Result<Vec<u8>, OutOfMemory>
     ensures { IfOk result (λ v. v.items ≡ evaluation_text (codes "400") (refused_body (words_of_error error.now))) }
 {
     let message = error_text(alloc, error)?;
-    refused(alloc, message)
+    let text = refused(alloc, message)?;
+    Ok(text)
 }
 
 fn refused_grid(alloc: Global, error: GridError) -> Result<Vec<u8>, OutOfMemory>
     ensures { IfOk result (λ v. v.items ≡ evaluation_text (codes "400") (refused_body (grid_text error))) }
 {
     let message = grid_text(alloc, error)?;
-    refused(alloc, message)
+    let text = refused(alloc, message)?;
+    Ok(text)
 }
 
 /// What is printed over a grid.
