@@ -15,10 +15,10 @@ loop-id-preserved c = record {
   goes = (tt, tt);
   count = c.loop-id.invariant.count;
   noted = λ k l.
-    noted_next k c.in-Some.id c.next.new.self (Some c.args.number) (get_or c.loop-id.known.items k None) (get_or c.loop-id.known.items k None)
-    (λ e. let m = c.loop-id.invariant.count in let n = c.len.ensures in let o = c.if-place-len.false in absurd (omega (arith, e, l, m, n, o))) (λ n. refl)
-    ∙ ap (λ ids. cond (list_any (nat_eq k) ids) (Some c.args.number) (get_or c.loop-id.known.items k None)) (sym c.in-Some.ensures.steps)
-    ∙ c.loop-id.invariant.noted k l;
+      noted_next k c.in-Some.id c.next.new.self (Some c.args.number) (get_or c.loop-id.known.items k None) (get_or c.loop-id.known.items k None)
+      (λ e. let m = c.loop-id.invariant.count in let n = c.len.ensures in let o = c.if-place-len.false in absurd (omega (arith, e, l, m, n, o))) (λ n. refl)
+      ∙ ap (λ ids. cond (list_any (nat_eq k) ids) (Some c.args.number) (get_or c.loop-id.known.items k None)) (sym c.in-Some.ensures.steps)
+      ∙ c.loop-id.invariant.noted k l;
 }
 
 pub returns-clause-noted : goal.returns-clause-noted
