@@ -109,7 +109,7 @@ impl<'a> Postings<'a> {
         count
     }
 
-    /// Adds the ids that are left to a list, an index's ids at a time.
+    /// Adds the ids that are left to a list, an index's ids at a time. Where memory is wanting, some of them may have been added.
     pub fn add_to(self, ids: &mut Vec<u32>) -> Result<(), OutOfMemory>
         ensures { OnOk result (ids.new.items ≡ ids.old.items ++ self.entry) }
     {
