@@ -198,12 +198,15 @@ all_read kept right text r e = by (get_by_text kept text) refl e where
 
 -- ---- the report
 
+lacked_none : (why : Why) → why ≡ at_full → why ≡ at_memory → ⊥
+lacked_none why full memory = cc
+
 -- a client alone stopped for its own cause
 pub stopped_as : (c : ToldClient) → HaveStopped c.why (c ∷ [])
 stopped_as c = by c.why refl where
   by : (why : Why) → c.why ≡ why → HaveStopped why (c ∷ [])
   by at_end e = (e, tt)
-  by at_full e = λ h. h.0 e
+  by at_full e = (λ h. h.0 e, (lacked_none c.why e, tt))
   by at_memory e = λ h. h.0 e
 
 one_of : {X : Type 0} (x y : X) (n : ℕ) → slice_get (x ∷ []) n ≡ Some y → (n ≡ 0) × (x ≡ y)

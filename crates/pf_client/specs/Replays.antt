@@ -43,10 +43,10 @@ pub record HasFailed (sure : List ℕ → Bool) (before after : ℕ) (failed : B
 
 -- ---- what a run has
 
--- each client ran its whole script; or one met the full journal; or one lacked memory
+-- each client ran its whole script; or one met the full journal, and none lacked memory; or one lacked memory
 abbrev pub HaveStopped : Why → List Client → Type 0
 HaveStopped at_end clients = Each (λ c. c.why ≡ at_end) clients
-HaveStopped at_full clients = (Each (λ c. c.why ≡ at_full → ⊥) clients) → ⊥
+HaveStopped at_full clients = (Each (λ c. c.why ≡ at_full → ⊥) clients → ⊥) × Each (λ c. c.why ≡ at_memory → ⊥) clients
 HaveStopped at_memory clients = (Each (λ c. c.why ≡ at_memory → ⊥) clients) → ⊥
 
 -- why clients that lacked no memory stopped, by whether one met the full journal
