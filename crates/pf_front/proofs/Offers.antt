@@ -20,7 +20,7 @@ use Rattle.pf_front.proofs.Plans.{lacked_works, some_open}
 use Rattle.pf_front.proofs.Progress.{at_changed, progress_of, some_is}
 use Rattle.pf_front.proofs.Settled.{handed, open_over, starved}
 use Rattle.pf_front.proofs.Spans.{wanted_lie}
-use Rattle.pf_front.proofs.Tries.{same_sum, works_refl}
+use Rattle.pf_front.proofs.Tries.{same_failed, same_sum, works_refl}
 use Rattle.pf_front.specs.Keeps.{AreKept, IsFoundKept, IsInstant, IsKeptAs, IsKeptFor, IsOfferedAs, IsReady, IsUnkept}
 use Rattle.pf_front.specs.Settling.{AreCellsOver, AreNoted, AreOfferable, IsEvaluable, IsFoundFor, IsFoundOf, IsOffered, IsWholeFound, runs_over, whole_runs}
 use Rattle.pf_front.specs.Spans.{AllCells, AreCellsAt, AreNotedOf, IsNotedBy, piece_runs, runs_in}
@@ -210,31 +210,32 @@ module _ (c : CoreData) (query : ℕ) (s : Stands c) (e : IsEvaluable c query) w
       let same : is.far ≡ e.whole.far = some_is is.far e.whole.far (sym is.is_far ∙ e.whole.is_far) in
       (e, ap (λ (f : QueryProgress). f.offered) (sym same) ∙ is.offered ∙ before)
 
-pub kept_works : (old : CoreData) (query : ℕ) (cells : List DoneCells) (answer : Kept) (new : CoreData) → IsKeptOf old query cells answer new → WorksOn old new
+pub kept_works : (old : CoreData) (query : ℕ) (cells : List DoneCells) (answer : Kept) (new : CoreData) → IsKeptOf old query cells answer new → WorksOn 0 0 old new
 kept_works old query cells answer new k = record {
   history = k.history;
   hands = λ u. ap (λ (qs : List QueueHeads). (slice_index_or qs u no_heads).hands) k.queues;
   failed = same_sum old.failed new.failed k.failed;
+  carried = same_failed old new k.failed;
 }
 
 -- ---- what a keep came to
 
 pub starved_kept : (old : CoreData) (query : ℕ) (new : CoreData) → IsEvaluable old query → IsLacked old query new
-    → WorksOn old new × (IsStoppedBy new query Starved × (new.kept ≡ old.kept))
+    → WorksOn 0 0 old new × (IsStoppedBy new query Starved × (new.kept ≡ old.kept))
 starved_kept old query new e l =
     (lacked_works old query new e.whole.opened e.whole.is_open l, (starved old query new e.whole l, (l.some e.whole.opened e.whole.is_open).kept))
 
 -- the parts were handed out, or had been before
 pub record IsHanded (old : CoreData) (query : ℕ) (mid : CoreData) : Type 0 where
   pub ready : IsReady old query
-  pub works : WorksOn old mid
+  pub works : WorksOn 0 0 old mid
   pub kept_is : mid.kept ≡ old.kept
   pub evaluable : IsEvaluable mid query
   pub same : evaluable.whole.opened ≡ ready.whole.opened
 
 pub handed_parts : (old : CoreData) (query : ℕ) (g : Gathered) (mid : CoreData) → IsGathered old query g → IsHandedOut old query mid → IsHanded old query mid
 handed_parts old query g mid parts out =
-    let t = handed old old query g mid (works_refl old) parts out in
+    let t = handed 0 0 old old query g mid (works_refl old) parts out in
     let whole = parts.counts.whole in
     record {
       ready = parts.counts;

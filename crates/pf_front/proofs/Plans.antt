@@ -10,7 +10,7 @@ use Rattle.pf_core.specs.Jobs.{QueueHeads, legs_asked}
 use Rattle.pf_core.specs.Progress.{QueryProgress, progress_at}
 use Rattle.pf_front.proofs.Hands.{by_tenant}
 use Rattle.pf_front.proofs.Progress.{at_changed, has_far, is_stopped}
-use Rattle.pf_front.proofs.Tries.{same_sum, works_refl}
+use Rattle.pf_front.proofs.Tries.{same_failed, same_sum, works_refl}
 use Rattle.pf_front.specs.Settling.{IsBegun}
 use Rattle.pf_front.specs.Works.{IsNotPlanned, WorksOn}
 use Rattle.pf_journal.specs.Legal.{machine_after}
@@ -56,26 +56,28 @@ kept_hands : (old new : CoreData) (u : ℕ) (queue : QueueHeads) (ring : List �
     → (v : ℕ) → (queue_at new v).hands ≡ (queue_at old v).hands
 kept_hands old new u queue ring has is = by_tenant old new u queue ring (λ v hs. hs ≡ (queue_at old v).hands) has is (λ v. refl)
 
-pub planned_works : (old : CoreData) (query : ℕ) (told : Planned) (new : CoreData) → IsPlanned old query told new → WorksOn old new
+pub planned_works : (old : CoreData) (query : ℕ) (told : Planned) (new : CoreData) → IsPlanned old query told new → WorksOn 0 0 old new
 planned_works old query told new p = record {
   history = p.leaves.history;
   hands = kept_hands old new p.whole.opened.tenant _ _ p.leaves.queue_is refl;
   failed = same_sum old.failed new.failed p.leaves.failed;
+  carried = same_failed old new p.leaves.failed;
 }
 
-pub lacked_works : (old : CoreData) (query : ℕ) (new : CoreData) (o : Open) → open_at query (machine_of old).queries ≡ Some o → IsLacked old query new → WorksOn old new
+pub lacked_works : (old : CoreData) (query : ℕ) (new : CoreData) (o : Open) → open_at query (machine_of old).queries ≡ Some o → IsLacked old query new → WorksOn 0 0 old new
 lacked_works old query new o there l =
     let s = l.some o there in
     record {
       history = s.history;
       hands = kept_hands old new o.tenant _ _ s.left refl;
       failed = same_sum old.failed new.failed s.failed;
+      carried = same_failed old new s.failed;
     }
 
-same_works : (old new : CoreData) → new ≡ old → WorksOn old new
-same_works old new e = subst (λ (c : CoreData). WorksOn old c) (sym e) (works_refl old)
+same_works : (old new : CoreData) → new ≡ old → WorksOn 0 0 old new
+same_works old new e = subst (λ (c : CoreData). WorksOn 0 0 old c) (sym e) (works_refl old)
 
-pub unplanned_works : (old : CoreData) (query : ℕ) (e : PlanError) (new : CoreData) → IsSome (open_at query (machine_of old).queries) → IsNotPlanned old query e new → WorksOn old new
+pub unplanned_works : (old : CoreData) (query : ℕ) (e : PlanError) (new : CoreData) → IsSome (open_at query (machine_of old).queries) → IsNotPlanned old query e new → WorksOn 0 0 old new
 unplanned_works old query plan_error.PlannedBefore new opens h = same_works old new h.1
 unplanned_works old query (plan_error.Stopped why) new opens h = same_works old new h.1
 unplanned_works old query plan_error.OutOfMemory new opens h =
@@ -83,7 +85,7 @@ unplanned_works old query plan_error.OutOfMemory new opens h =
     lacked_works old query new o.0 o.1 h
 
 -- of a plan for which memory ran out
-pub starved_works : (old mid : CoreData) (query : ℕ) (new : CoreData) → IsSome (open_at query (machine_of old).queries) → mid ≡ old → IsLacked mid query new → WorksOn old new
+pub starved_works : (old mid : CoreData) (query : ℕ) (new : CoreData) → IsSome (open_at query (machine_of old).queries) → mid ≡ old → IsLacked mid query new → WorksOn 0 0 old new
 starved_works old mid query new opens same l =
     let o = some_open (open_at query (machine_of old).queries) opens in
     lacked_works old query new o.0 o.1 (subst (λ (c : CoreData). IsLacked c query new) same l)

@@ -15,7 +15,7 @@ use Rattle.pf_core.specs.Jobs.{QueueHeads, heads_with, no_heads}
 use Rattle.pf_core.specs.Progress.{GoesWithPlan, QueryProgress, cancel_in, handed_out, progress_at, stopped}
 use Rattle.pf_front.proofs.Plans.{lacked_works}
 use Rattle.pf_front.proofs.Progress.{at_changed, not_none, progress_of, some_is}
-use Rattle.pf_front.proofs.Tries.{same_sum, works_refl, works_trans}
+use Rattle.pf_front.proofs.Tries.{same_failed, same_sum, works_behind, works_refl}
 use Rattle.pf_front.specs.Answers.{GoesWithStop, IsAnswered, IsInHands, IsOutcomeOf, IsReplied, IsReplyOf, code_in}
 use Rattle.pf_front.specs.Settling.{HasParts, IsBegun, IsEvaluable, IsFound, IsOffered, IsSettled, IsWorkedOff, some_waits, stopped_as}
 use Rattle.pf_front.specs.Works.{WorksOn}
@@ -75,18 +75,19 @@ unbegun c query b u = by b.begun where
   by (inr (why, s)) = not_none why b.far.stop (ap (λ (f : QueryProgress). f.stop) same ∙ u.whole.stop_is) s
 
 -- what is handed out stays so
-pub handed : (start old : CoreData) (query : ℕ) (g : Gathered) (new : CoreData) → WorksOn start old → IsGathered old query g → IsHandedOut old query new
-    → IsWorkedOff start query (collected.Parts g) new
-handed start old query g new w parts out =
+pub handed : (before after : ℕ) (start old : CoreData) (query : ℕ) (g : Gathered) (new : CoreData) → WorksOn before after start old → IsGathered old query g → IsHandedOut old query new
+    → IsWorkedOff before after start query (collected.Parts g) new
+handed before after start old query g new w parts out =
     let whole = parts.counts.whole in
     let there : open_at query (machine_of new).queries ≡ Some whole.opened = open_over old new query whole.opened out.history.journal whole.is_open in
     let far : progress_at query new.progress ≡ Some (handed_out whole.far) =
     ap (progress_at query) out.progress_is ∙ at_changed query handed_out (λ p. refl) old.progress whole.far whole.is_far in
     let has : HasParts new (Some whole.opened) g = rw out.history.limits parts.parts in (
-      works_trans start old new w (record {
+      works_behind start old new w (record {
         history = out.history;
         hands = λ u. ap (λ (qs : List QueueHeads). (slice_index_or qs u no_heads).hands) out.jobs.queues;
         failed = same_sum old.failed new.failed out.jobs.failed;
+        carried = same_failed old new out.jobs.failed;
       }),
       (
         record {
@@ -100,23 +101,24 @@ handed start old query g new w parts out =
     )
 
 -- what is told once no job of the query waits
-pub worked_off : (start old : CoreData) (query : ℕ) (told : Collected) (new : CoreData) → WorksOn start old → IsBegun old query → some_waits told ≡ false
-    → calls.IsTold old query told new → IsWorkedOff start query told new
-worked_off start old query (collected.Stopped why) new w b none t =
-    subst (λ (c : CoreData). IsWorkedOff start query (collected.Stopped why) c) (sym t.1) (w, t.0)
-worked_off start old query collected.Unplanned new w b none t = unbegun old query b t.0
-worked_off start old query (collected.Waiting queued in_hand) new w b none t =
+pub worked_off : (before after : ℕ) (start old : CoreData) (query : ℕ) (told : Collected) (new : CoreData) → WorksOn before after start old → IsBegun old query → some_waits told ≡ false
+    → calls.IsTold old query told new → IsWorkedOff before after start query told new
+worked_off before after start old query (collected.Stopped why) new w b none t =
+    subst (λ (c : CoreData). IsWorkedOff before after start query (collected.Stopped why) c) (sym t.1) (w, t.0)
+worked_off before after start old query collected.Unplanned new w b none t = unbegun old query b t.0
+worked_off before after start old query (collected.Waiting queued in_hand) new w b none t =
     let zero : queued ≡ 0 = grind (arith, nat_tests, none) in
     let some : 0 < in_hand = let more = t.1.0 in omega (arith, zero, more) in
-    subst (λ (c : CoreData). IsInHands start query in_hand c) (sym t.1.1)
+    subst (λ (c : CoreData). IsInHands before after start query in_hand c) (sym t.1.1)
     (record { works = w; whole = t.0.whole; none_waits = sym t.0.queued_is ∙ zero; jobs_are = t.0.in_hand_is; some = some })
-worked_off start old query collected.Given new w b none t =
-    subst (λ (c : CoreData). IsWorkedOff start query collected.Given c) (sym t.1)
+worked_off before after start old query collected.Given new w b none t =
+    subst (λ (c : CoreData). IsWorkedOff before after start query collected.Given c) (sym t.1)
     (w, record { whole = t.0.counts.whole; was_planned = t.0.counts.was_planned; given = t.0.given })
-worked_off start old query (collected.Parts g) new w b none t = handed start old query g new w t.0 t.1
+worked_off before after start old query (collected.Parts g) new w b none t = handed before after start old query g new w t.0 t.1
 
 -- the works behind, and what is told
-pub parted : (start : CoreData) (query : ℕ) (told : Collected) (new : CoreData) → IsWorkedOff start query told new → WorksOn start new × IsWorkedOff new query told new
+pub parted : {before after : ℕ} (start : CoreData) (query : ℕ) (told : Collected) (new : CoreData) → IsWorkedOff before after start query told new
+    → WorksOn before after start new × IsWorkedOff 0 0 new query told new
 parted start query (collected.Stopped why) new t = (t.0, (works_refl new, t.1))
 parted start query collected.Unplanned new t = absurd t
 parted start query (collected.Waiting queued in_hand) new t =
@@ -223,7 +225,7 @@ settled_failed c query step kind e s (o, there, is) =
     let same : o ≡ e.whole.opened = some_is o e.whole.opened (sym there ∙ e.whole.is_open) in
     settled_found c query (outcome.Failed step kind) e s (λ h. absurd (omega (arith, h))) (ap (answer_of c.limits) (sym same) ∙ is)
 
-pub settled_matrix : (old new : CoreData) (query : ℕ) (rows : List MatrixRow) → WorksOn old new → IsOffered new query → Stands new
+pub settled_matrix : (old new : CoreData) (query : ℕ) (rows : List MatrixRow) → WorksOn 0 0 old new → IsOffered new query → Stands new
     → ((o : Open) → open_at query (machine_of old).queries ≡ Some o → answer_of old.limits o ≡ gathered rows) → IsSettled new query (outcome.Matrix rows)
 settled_matrix old new query rows w (e, offered) s is =
     settled_found new query (outcome.Matrix rows) e s (λ h. offered)
@@ -278,14 +280,14 @@ starved old query new w l =
       stop_is = ap (λ (x : Option Stop). Some (stop_after x Starved)) w.stop_is;
     }
 
-pub settled_starved : (old : CoreData) (query : ℕ) (new : CoreData) → IsEvaluable old query → Stands new → IsLacked old query new → WorksOn old new × IsSettled new query outcome.Starved
+pub settled_starved : (old : CoreData) (query : ℕ) (new : CoreData) → IsEvaluable old query → Stands new → IsLacked old query new → WorksOn 0 0 old new × IsSettled new query outcome.Starved
 settled_starved old query new e s l =
     (lacked_works old query new e.whole.opened e.whole.is_open l, settled_stopped new query Starved s (starved old query new e.whole l))
 
 -- ---- the answer
 
 pub replied : (c : CoreData) (by : By) (query : ℕ) (r : Reply) (new : CoreData) → IsSettled c query r.outcome → r.code ≡ code_in r.outcome → r.cached ≡ cached_of c query
-    → r.evaluated ≡ evaluated_of c query → Enters c by (answer query r.code (cached_of c query) (evaluated_of c query)) new → AreClosed c query new → IsReplied c by query r new
+    → r.evaluated ≡ evaluated_of c query → Enters c by (answer query r.code (cached_of c query) (evaluated_of c query)) new → AreClosed c query new → IsReplied 0 0 c by query r new
 replied c by query r new s code cached evaluated entered closed = record {
   opened = s.opened;
   is_open = s.is_open;
@@ -300,14 +302,15 @@ replied c by query r new s code cached evaluated entered closed = record {
 }
 
 -- what is answered behind works
-pub answered_behind : (old mid : CoreData) (by : By) (query : ℕ) (a : Answering) (new : CoreData) → WorksOn old mid → IsAnswered mid by query a new → IsAnswered old by query a new
+pub answered_behind : {before after : ℕ} (old mid : CoreData) (by : By) (query : ℕ) (a : Answering) (new : CoreData) → WorksOn before after old mid
+    → IsAnswered 0 0 mid by query a new → IsAnswered before after old by query a new
 answered_behind old mid by query (Waits jobs) new w a =
-    record { works = works_trans old mid new w a.works; whole = a.whole; none_waits = a.none_waits; jobs_are = a.jobs_are; some = a.some }
+    record { works = works_behind old mid new w a.works; whole = a.whole; none_waits = a.none_waits; jobs_are = a.jobs_are; some = a.some }
 answered_behind old mid by query (Answered r) new w a = record {
   opened = a.opened;
   is_open = open_over mid old query a.opened (sym w.history.journal) a.is_open;
   middle = a.middle;
-  works = works_trans old mid a.middle w a.works;
+  works = works_behind old mid a.middle w a.works;
   stop = a.stop;
   cached = a.cached;
   evaluated = a.evaluated;

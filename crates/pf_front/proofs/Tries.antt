@@ -12,7 +12,8 @@ use Rattle.pf_core.specs.Progress.{QueryProgress, exhausted, stopped}
 use Rattle.pf_front.proofs.Hands.{IsNotOf, each_without, idle_with, in_hand_last, same_hands}
 use Rattle.pf_front.proofs.Progress.{begun_exhausted, begun_if, begun_same, begun_stopped, begun_tried, not_none}
 use Rattle.pf_front.specs.Settling.{IsBegun}
-use Rattle.pf_front.specs.Works.{HasFailed, IsEvaluated, IsIdle, IsWorked, WorksOn}
+use Rattle.pf_io.specs.Outside.{Rose}
+use Rattle.pf_front.specs.Works.{AreCarried, HasFailed, IsEvaluated, IsIdle, IsWorked, WorksOn}
 use Rattle.pf_front.specs.declared.working.Worked.{Worked}
 use Rattle.pf_front.specs.declared.working.Worked.TheVariants as worked
 use Rattle.pf_journal.specs.Machine.{Open, open_at}
@@ -35,6 +36,25 @@ set_rises fs actor false e =
     let is = set_past fs actor (slice_index_or fs actor 0 + 1) past in
     omega (arith, ap (λ (l : List ℕ). sum l) is)
 
+set_by_one : (fs : List ℕ) (actor : ℕ) (b : Bool) → nat_lt actor (length fs) ≡ b → sum (slice_set fs actor (slice_index_or fs actor 0 + 1)) ≤ sum fs + 1
+set_by_one fs actor true e =
+    let within : actor < length fs = grind (arith, nat_tests) in
+    let set = sum_by-set (λ (n : ℕ). n) fs actor (slice_index_or fs actor 0 + 1) 0 within in
+    omega (arith, set)
+set_by_one fs actor false e =
+    let past : length fs ≤ actor = grind (arith, nat_tests) in
+    let is = set_past fs actor (slice_index_or fs actor 0 + 1) past in
+    omega (arith, ap (λ (l : List ℕ). sum l) is)
+
+at_most_one : (b : Bool) (fs gs : List ℕ) → sum gs ≤ sum fs + 1 → sum (cond b gs fs) ≤ sum fs + 1
+at_most_one true fs gs h = h
+at_most_one false fs gs h = omega arith
+
+one_more : (fs : List ℕ) (actor : ℕ) → sum (failures_after fs actor) ≤ sum fs + 1
+one_more fs actor =
+    at_most_one (nat_lt (sum fs) 18446744073709551615) fs (slice_set fs actor (slice_index_or fs actor 0 + 1))
+    (set_by_one fs actor (nat_lt actor (length fs)) refl)
+
 rises_by : (b : Bool) (fs gs : List ℕ) → sum fs ≤ sum gs → sum fs ≤ sum (cond b gs fs)
 rises_by true fs gs h = h
 rises_by false fs gs h = omega arith
@@ -47,22 +67,60 @@ failures_rise fs actor =
 pub same_sum : (fs gs : List ℕ) → gs ≡ fs → sum fs ≤ sum gs
 same_sum fs gs e = subst (λ (l : List ℕ). sum fs ≤ sum l) (sym e) (omega arith)
 
+pub same_failed : (old new : CoreData) → new.failed ≡ old.failed → AreCarried 0 0 old new
+same_failed old new e = inr (let s = same_sum new.failed old.failed (sym e) in omega (arith, s))
+
 -- ---- works, one after another
 
-pub works_refl : (c : CoreData) → WorksOn c c
-works_refl c = record { history = record { limits = refl; names = refl; journal = refl }; hands = λ u. refl; failed = omega arith }
+pub works_refl : {count : ℕ} (c : CoreData) → WorksOn count count c c
+works_refl c = record { history = record { limits = refl; names = refl; journal = refl }; hands = λ u. refl; failed = omega arith; carried = inr (omega arith) }
 
 pub same_history : (a b c : CoreData) → IsSameHistory a b → IsSameHistory b c → IsSameHistory a c
 same_history a b c x y = record { limits = y.limits ∙ x.limits; names = y.names ∙ x.names; journal = y.journal ∙ x.journal }
 
-pub works_trans : (a b c : CoreData) → WorksOn a b → WorksOn b c → WorksOn a c
+carried_by : (before after : ℕ) (a b c : CoreData) → AreCarried 0 0 a b → AreCarried before after b c → AreCarried before after a c
+carried_by before after a b c (inl past) y = absurd (omega (arith, past))
+carried_by before after a b c (inr x) (inl past) = inl past
+carried_by before after a b c (inr x) (inr y) = inr (omega (arith, x, y))
+
+carried_on : (before middle after : ℕ) (a b c : CoreData) → middle ≤ after → AreCarried before middle a b → AreCarried middle after b c → AreCarried before after a c
+carried_on before middle after a b c rises (inl past) y = inl (omega (arith, past, rises))
+carried_on before middle after a b c rises (inr x) (inl past) = inl past
+carried_on before middle after a b c rises (inr x) (inr y) = inr (omega (arith, x, y))
+
+none_behind : (before after : ℕ) (a b c : CoreData) → AreCarried before after a b → AreCarried 0 0 b c → AreCarried before after a c
+none_behind before after a b c (inl past) y = inl past
+none_behind before after a b c (inr x) (inl past) = absurd (omega (arith, past))
+none_behind before after a b c (inr x) (inr y) = inr (omega (arith, x, y))
+
+-- behind works without a hop
+pub works_trans : {before after : ℕ} (a b c : CoreData) → WorksOn 0 0 a b → WorksOn before after b c → WorksOn before after a c
 works_trans a b c x y = record {
   history = same_history a b c x.history y.history;
   hands = λ u. y.hands u ∙ x.hands u;
   failed = let p = x.failed in let q = y.failed in omega (arith, p, q);
+  carried = carried_by _ _ a b c x.carried y.carried;
 }
 
-pub idle_works : (a b : CoreData) (actor : ℕ) → WorksOn a b → IsIdle a actor → IsIdle b actor
+-- behind works of the same hop
+pub works_on : {before middle after : ℕ} (a b c : CoreData) → middle ≤ after → WorksOn before middle a b → WorksOn middle after b c → WorksOn before after a c
+works_on a b c rises x y = record {
+  history = same_history a b c x.history y.history;
+  hands = λ u. y.hands u ∙ x.hands u;
+  failed = let p = x.failed in let q = y.failed in omega (arith, p, q);
+  carried = carried_on _ _ _ a b c rises x.carried y.carried;
+}
+
+-- before works without a hop
+pub works_behind : {before after : ℕ} (a b c : CoreData) → WorksOn before after a b → WorksOn 0 0 b c → WorksOn before after a c
+works_behind a b c x y = record {
+  history = same_history a b c x.history y.history;
+  hands = λ u. y.hands u ∙ x.hands u;
+  failed = let p = x.failed in let q = y.failed in omega (arith, p, q);
+  carried = none_behind _ _ a b c x.carried y.carried;
+}
+
+pub idle_works : {before after : ℕ} (a b : CoreData) (actor : ℕ) → WorksOn before after a b → IsIdle a actor → IsIdle b actor
 idle_works a b actor w idle u = subst (λ (hs : List Hand). Each (IsNotOf actor) hs) (sym (w.hands u)) (idle u)
 
 -- ---- a job is put away
@@ -175,6 +233,43 @@ follows_failed mid held (worked.Gone why) new in_hand e =
     uncounted mid held.actor held.head.tenant (hand_of held) new (gone (counted mid held.actor) held new e.1)
 follows_failed mid held worked.NotHeld new in_hand e = absurd (in_hand (not_held_counted mid held e.0))
 
+-- ---- a failed try has its hop
+
+failed_of : (old : CoreData) (held : Held) (r : Worked) (new : CoreData) → HasFailed old held r new → new.failed ≡ failures_after old.failed held.actor
+failed_of old held worked.Stored new e = absurd e
+failed_of old held (worked.Again tries) new e = e.1.1.1.1.failed
+failed_of old held (worked.Exhausted job) new e = e.1.1.1.1.failed
+failed_of old held worked.Lacked new e = absurd e
+failed_of old held (worked.Gone why) new e = e.1.failed
+failed_of old held worked.NotHeld new e = ap (λ (c : CoreData). c.failed) e.1
+
+lacked_of : (old : CoreData) (held : Held) (new : CoreData) (found : Option Open) → open_at held.head.query (machine_of old).queries ≡ found
+    → IsLackedBy old held new → new.failed ≡ old.failed
+lacked_of old held new None there e = ap (λ (c : CoreData). c.failed) (e.none there)
+lacked_of old held new (Some o) there e = (e.some o there).failed
+
+evaluated_of : (old : CoreData) (held : Held) (r : Worked) (new : CoreData) → IsEvaluated old held r new → new.failed ≡ old.failed
+evaluated_of old held worked.Stored new e = e.1.1.failed
+evaluated_of old held (worked.Again tries) new e = absurd e
+evaluated_of old held (worked.Exhausted job) new e = absurd e
+evaluated_of old held worked.Lacked new e = lacked_of old held new (open_at held.head.query (machine_of old).queries) refl e
+evaluated_of old held (worked.Gone why) new e = e.1.failed
+evaluated_of old held worked.NotHeld new e = ap (λ (c : CoreData). c.failed) e.1
+
+rose_carried : (before after : ℕ) (old new : CoreData) → Rose before after → sum new.failed ≤ sum old.failed + 1 → AreCarried before after old new
+rose_carried before after old new (inl less) one = inr (omega (arith, less, one))
+rose_carried before after old new (inr past) one = inl past
+
+pub worked_carried : (before after : ℕ) (old : CoreData) (held : Held) (r : Worked) (new : CoreData) → IsWorked before after old held r new
+    → AreCarried before after old new
+worked_carried before after old held r new (inl (rose, e)) =
+    let one = one_more old.failed held.actor in
+    rose_carried before after old new rose
+    (subst (λ (fs : List ℕ). sum fs ≤ sum old.failed + 1) (sym (failed_of old held r new e)) one)
+worked_carried before after old held r new (inr (same, e)) =
+    let s = same_sum new.failed old.failed (sym (evaluated_of old held r new e)) in
+    inr (omega (arith, same, s))
+
 -- ---- a job that was taken is in hand
 
 module _ (old : CoreData) (actor : ℕ) (held : Held) (mid : CoreData) (t : IsTaken old actor held mid) where
@@ -192,7 +287,7 @@ module _ (old : CoreData) (actor : ℕ) (held : Held) (mid : CoreData) (t : IsTa
   follows_worked before after r new (inr (same, e)) =
       follows_evaluated mid held r new t.whole.opened t.whole.is_open (t.owner ∙ sym t.own) taken_in_hand e
 
-  pub taken_works : (before after : ℕ) (r : Worked) (new : CoreData) → IsIdle old actor → IsWorked before after mid held r new → WorksOn old new
+  pub taken_works : (before after : ℕ) (r : Worked) (new : CoreData) → IsIdle old actor → IsWorked before after mid held r new → WorksOn before after old new
   taken_works before after r new idle w =
       let f = subst (λ (u : ℕ). Follows mid u (hand_of held) new) t.own (follows_worked before after r new w) in
       record {
@@ -201,6 +296,7 @@ module _ (old : CoreData) (actor : ℕ) (held : Held) (mid : CoreData) (t : IsTa
             same_hands old mid new t.tenant (hand_of held) _ f.left _ f.ring (subst (λ (a : ℕ). IsIdle old a) (sym t.actor_is) idle)
             t.leaves.queue_is refl f.queue_is f.fewer;
         failed = let p = same_sum old.failed mid.failed t.leaves.failed in let q = f.failed in omega (arith, p, q);
+        carried = carried_by before after old mid new (same_failed old mid t.leaves.failed) (worked_carried before after mid held r new w);
       }
 
   pub taken_begun : (before after : ℕ) (r : Worked) (new : CoreData) → IsWorked before after mid held r new

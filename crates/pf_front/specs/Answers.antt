@@ -47,11 +47,11 @@ pub record IsReplyOf (l : Limits) (o : Open) (reply : Reply) : Type 0 where
   pub steps : AreSteps (length (points o.asked.query.grid)) reply.code (reply.cached + reply.evaluated)
 
 -- an open query was answered, after work that entered nothing
-pub record IsReplied (old : CoreData) (by : By) (query : ℕ) (reply : Reply) (new : CoreData) : Type 0 where
+pub record IsReplied (before after : ℕ) (old : CoreData) (by : By) (query : ℕ) (reply : Reply) (new : CoreData) : Type 0 where
   pub opened : Open
   pub is_open : open_at query (machine_of old).queries ≡ Some opened
   pub middle : CoreData
-  pub works : WorksOn old middle
+  pub works : WorksOn before after old middle
   pub stop : GoesWithStop middle query reply.outcome
   pub cached : reply.cached ≡ cached_of middle query
   pub evaluated : reply.evaluated ≡ evaluated_of middle query
@@ -60,13 +60,14 @@ pub record IsReplied (old : CoreData) (by : By) (query : ℕ) (reply : Reply) (n
   pub is : IsReplyOf old.limits opened reply
 
 -- a query that isn't stopped has so many jobs, all in hand
-pub record IsInHands (old : CoreData) (query jobs : ℕ) (new : CoreData) : Type 0 where
-  pub works : WorksOn old new
+pub record IsInHands (before after : ℕ) (old : CoreData) (query jobs : ℕ) (new : CoreData) : Type 0 where
+  pub works : WorksOn before after old new
   pub whole : IsWhole new query
   pub none_waits : queued_of new whole.opened.tenant query ≡ 0
   pub jobs_are : jobs ≡ in_hand_of new whole.opened.tenant query
   pub some : 0 < jobs
 
-abbrev pub IsAnswered : CoreData → By → (query : ℕ) → Answering → CoreData → Type 0
-IsAnswered old by query (Waits jobs) new = IsInHands old query jobs new
-IsAnswered old by query (Answered reply) new = IsReplied old by query reply new
+-- by the counts of a hop's faults before and after
+abbrev pub IsAnswered : (before after : ℕ) → CoreData → By → (query : ℕ) → Answering → CoreData → Type 0
+IsAnswered before after old by query (Waits jobs) new = IsInHands before after old query jobs new
+IsAnswered before after old by query (Answered reply) new = IsReplied before after old by query reply new

@@ -59,7 +59,7 @@ IsReady c query = AreCountedOf c query 0 0
 pub record IsOfferedAs (old : CoreData) (query : ℕ) (answer : Kept) (new : CoreData) : Type 0 where
   pub ready : IsReady old query
   pub middle : CoreData
-  pub works : WorksOn old middle
+  pub works : WorksOn 0 0 old middle
   pub kept_is : middle.kept ≡ old.kept
   pub cells : List DoneCells
   pub pieces : AreNotedOf (pieces_in old.limits ready.whole.opened) (runs_over old.limits ready.whole.opened ready.whole.far) cells

@@ -92,13 +92,13 @@ some_waits collected.Given = false
 some_waits (collected.Parts g) = false
 
 -- what is told of a query once none of its jobs waits
-abbrev pub IsWorkedOff : CoreData → (query : ℕ) → Collected → CoreData → Type 0
-IsWorkedOff old query (collected.Stopped why) new = WorksOn old new × IsStoppedBy new query why
-IsWorkedOff old query collected.Unplanned new = ⊥
-IsWorkedOff old query (collected.Waiting queued in_hand) new = IsInHands old query in_hand new
-IsWorkedOff old query collected.Given new = WorksOn old new × IsEvaluable new query
-IsWorkedOff old query (collected.Parts g) new =
-    WorksOn old new × ((e : IsEvaluable new query) × (g.runs.items ≡ e.whole.far.runs) × HasParts new (open_at query (machine_of new).queries) g)
+abbrev pub IsWorkedOff : (before after : ℕ) → CoreData → (query : ℕ) → Collected → CoreData → Type 0
+IsWorkedOff before after old query (collected.Stopped why) new = WorksOn before after old new × IsStoppedBy new query why
+IsWorkedOff before after old query collected.Unplanned new = ⊥
+IsWorkedOff before after old query (collected.Waiting queued in_hand) new = IsInHands before after old query in_hand new
+IsWorkedOff before after old query collected.Given new = WorksOn before after old new × IsEvaluable new query
+IsWorkedOff before after old query (collected.Parts g) new =
+    WorksOn before after old new × ((e : IsEvaluable new query) × (g.runs.items ≡ e.whole.far.runs) × HasParts new (open_at query (machine_of new).queries) g)
 
 -- what comes out of a query that is stopped
 abbrev pub stopped_as : Stop → Outcome

@@ -1,5 +1,5 @@
 -- What work on jobs leaves of a core: this project's own.
-use Rattle.std.specs.Prelude.{◌≡◌, ◌⊎◌, ℕ, ◌≤◌, sum}
+use Rattle.std.specs.Prelude.{◌≡◌, ◌⊎◌, ℕ, ◌+◌, ◌≤◌, sum}
 use Rattle.pf_core.specs.Calls.{IsFailed, IsFinished, IsLacked, IsLackedBy, IsUnplanned}
 use Rattle.pf_core.specs.Cores.{CoreData, IsSameHistory, queue_at}
 use Rattle.pf_front.specs.declared.working.Worked.{Worked}
@@ -16,12 +16,17 @@ use Rattle.pf_query.specs.declared.job.Held.{Held}
 abbrev pub IsIdle : CoreData → (actor : ℕ) → Type 0
 IsIdle c actor = (u : ℕ) → Each (λ h. h.actor ≡ actor → ⊥) (queue_at c u).hands
 
--- what is left by plans, and by takes of jobs each of which was worked on: no entry is added, the same jobs are in hand, and no
--- failed try is forgotten
-pub record WorksOn (old new : CoreData) : Type 0 where
+-- failed tries rose by no more than a hop's count of faults, before and after, or that count stands at its greatest value
+abbrev pub AreCarried : (before after : ℕ) → CoreData → CoreData → Type 0
+AreCarried before after old new = (18446744073709551615 ≤ after) ⊎ (sum new.failed + before ≤ sum old.failed + after)
+
+-- what is left by plans, and by takes of jobs each of which was worked on: no entry is added, the same jobs are in hand, no failed
+-- try is forgotten, and none failed without its hop
+pub record WorksOn (before after : ℕ) (old new : CoreData) : Type 0 where
   pub history : IsSameHistory old new
   pub hands : (u : ℕ) → (queue_at new u).hands ≡ (queue_at old u).hands
   pub failed : sum old.failed ≤ sum new.failed
+  pub carried : AreCarried before after old new
 
 -- why a query isn't planned, and what that leaves: for want of memory it is stopped
 abbrev pub IsNotPlanned : CoreData → (query : ℕ) → PlanError → CoreData → Type 0

@@ -42,10 +42,11 @@ fn work_first<H: Hop, G: Gate>(alloc: Global, core: &mut Core, actor: u32, hop: 
     requires idle { IsIdle core.old actor }
     requires waits { core.old.ring ≡ [] → ⊥ }
     ensures stands { Stands core.new }
-    ensures works { WorksOn core.old core.new }
+    ensures works { WorksOn (H.faults hop.old) (H.faults hop.new) core.old core.new }
     ensures begun { (query : ℕ) → IsBegun core.old query → IsBegun core.new query }
     ensures fewer { tries_left core.new < tries_left core.old }
     ensures counted { H.faults hop.old ≤ H.faults hop.new }
+    ensures most { H.most hop.new ≡ H.most hop.old }
 {
     let Some(held) = core.take(actor) else {
         unreachable!()
@@ -77,8 +78,9 @@ fn work_all<H: Hop, G: Gate>(
     requires actor { actor < 32 }
     requires idle { IsIdle core.old actor }
     ensures stands { Stands core.new }
-    ensures told { IsWorkedOff core.old query result core.new }
+    ensures told { IsWorkedOff (H.faults hop.old) (H.faults hop.new) core.old query result core.new }
     ensures counted { H.faults hop.old ≤ H.faults hop.new }
+    ensures most { H.most hop.new ≡ H.most hop.old }
 {
     loop {
         let Some(told) = core.collect(query) else {
@@ -121,7 +123,7 @@ fn offer(core: &mut Core, query: u64, noted: Vec<DoneCells>)
     requires evaluable { IsEvaluable core.old query }
     requires noted { AreOfferable core.old query noted.items }
     ensures stands { Stands core.new }
-    ensures works { WorksOn core.old core.new }
+    ensures works { WorksOn 0 0 core.old core.new }
     ensures offered { IsOffered core.new query }
 {
     let Some(opened) = core.look(query) else {
@@ -146,7 +148,7 @@ fn settled_by_cells(
     requires cells { (o : Open) → open_at query (machine_of core.old).queries ≡ Some o → AreCellsOver core.old.limits o (all_of pieces.items) }
     requires noted { AreOfferable core.old query noted.items }
     ensures stands { Stands core.new }
-    ensures works { WorksOn core.old core.new }
+    ensures works { WorksOn 0 0 core.old core.new }
     ensures settled { IsSettled core.new query result }
 {
     let Ok(matrix) = matrix_of(alloc, core, query, pieces) else {
@@ -169,7 +171,7 @@ fn settled_by(
     requires evaluable { IsEvaluable core.old query }
     requires found { IfOk found (IsFoundFor core.old query) }
     ensures stands { Stands core.new }
-    ensures works { WorksOn core.old core.new }
+    ensures works { WorksOn 0 0 core.old core.new }
     ensures settled { IsSettled core.new query result }
 {
     match found {
@@ -214,7 +216,7 @@ fn evaluated_steps(core: &Core, query: u64) -> u32
 fn answer_with(core: &mut Core, by: By, query: u64, found: Outcome) -> Answering
     requires { IsSettled core.old query found }
     ensures stands { Stands core.new }
-    ensures answered { IsAnswered core.old by query result core.new }
+    ensures answered { IsAnswered 0 0 core.old by query result core.new }
 {
     let code = code_of(&found);
     let cached = cached_steps(core, query);
@@ -231,9 +233,9 @@ fn answer_with(core: &mut Core, by: By, query: u64, found: Outcome) -> Answering
 /// Answers an open query by what is told of it.
 fn settle(alloc: Global, core: &mut Core, by: By, query: u64, told: Collected) -> Answering
     requires stands { Stands core.old }
-    requires told { IsWorkedOff core.old query told core.old }
+    requires told { IsWorkedOff 0 0 core.old query told core.old }
     ensures stands { Stands core.new }
-    ensures answered { IsAnswered core.old by query result core.new }
+    ensures answered { IsAnswered 0 0 core.old by query result core.new }
 {
     cover_more();
     match told {
@@ -269,8 +271,9 @@ pub fn answer<H: Hop, G: Gate>(
     requires actor { actor < 32 }
     requires idle { IsIdle core.old actor }
     ensures stands { Stands core.new }
-    ensures answered { IsAnswered core.old by query result core.new }
+    ensures answered { IsAnswered (H.faults hop.old) (H.faults hop.new) core.old by query result core.new }
     ensures counted { H.faults hop.old ≤ H.faults hop.new }
+    ensures most { H.most hop.new ≡ H.most hop.old }
 {
     let _planned = plan(alloc, core, query);
     let told = work_all(alloc, core, query, actor, hop, gate);

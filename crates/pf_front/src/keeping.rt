@@ -33,7 +33,7 @@ fn keep_cells(core: &mut Core, query: u64, noted: Vec<DoneCells>) -> Keeping
     requires evaluable { IsEvaluable core.old query }
     requires noted { AreOfferable core.old query noted.items }
     ensures stands { Stands core.new }
-    ensures works { WorksOn core.old core.new }
+    ensures works { WorksOn 0 0 core.old core.new }
     ensures kept { AreKept core.old query noted.items result core.new }
 {
     let Some(opened) = core.look(query) else {
@@ -56,7 +56,7 @@ fn keep_found(core: &mut Core, query: u64, found: Result<Found, OutOfMemory>) ->
     requires evaluable { IsEvaluable core.old query }
     requires found { IfOk found (IsFoundFor core.old query) }
     ensures stands { Stands core.new }
-    ensures works { WorksOn core.old core.new }
+    ensures works { WorksOn 0 0 core.old core.new }
     ensures kept { IsFoundKept core.old query found result core.new }
 {
     match found {
@@ -75,7 +75,7 @@ fn keep_found(core: &mut Core, query: u64, found: Result<Found, OutOfMemory>) ->
 pub fn keep(alloc: Global, core: &mut Core, query: u64) -> Keeping
     requires open { IsSome (open_at query (machine_of core.old).queries) }
     ensures stands { Stands core.new }
-    ensures works { WorksOn core.old core.new }
+    ensures works { WorksOn 0 0 core.old core.new }
     ensures kept { IsKeptFor core.old query result core.new }
 {
     cover_more();

@@ -75,7 +75,7 @@ fn try_plan(alloc: Global, core: &mut Core, query: u64) -> Result<Planned, PlanE
 pub fn plan(alloc: Global, core: &mut Core, query: u64) -> Result<Planned, PlanError>
     requires { IsSome (open_at query (machine_of core.old).queries) }
     ensures stands { Stands core.new }
-    ensures works { WorksOn core.old core.new }
+    ensures works { WorksOn 0 0 core.old core.new }
     ensures ok { IfOk result (λ p. IsPlanned core.old query p core.new) }
     ensures err { IfErr result (λ e. IsNotPlanned core.old query e core.new) }
 {

@@ -1,7 +1,7 @@
 //! Work on jobs.
 
 ghost use Rattle.std.specs.Arc.{arc_value};
-ghost use Rattle.std.specs.Prelude.{◌+◌, ◌-◌, ◌<◌, ◌≤◌, IfOk, ℕ};
+ghost use Rattle.std.specs.Prelude.{◌≡◌, ◌+◌, ◌-◌, ◌<◌, ◌≤◌, IfOk, ℕ};
 ghost use Rattle.pf_core.specs.Calls.{IsPartOf, StandsForAsk};
 ghost use Rattle.pf_core.specs.Cores.{CoreData, Stands, tries_left};
 ghost use Rattle.pf_front.specs.Works.{HasFailed, IsEvaluated, IsIdle, IsWorked};
@@ -88,6 +88,7 @@ pub fn work<H: Hop, G: Gate>(
     ensures idle { (actor : ℕ) → IsIdle core.old actor → IsIdle core.new actor }
     ensures tries { held.head.tries < 5 → tries_left core.new + 1 ≤ tries_left core.old + (5 - held.head.tries) }
     ensures counted { H.faults hop.old ≤ H.faults hop.new }
+    ensures most { H.most hop.new ≡ H.most hop.old }
 {
     if hop.call(&held.head).is_err() {
         return fail(core, held);

@@ -18,12 +18,12 @@ keep_found-requires-clause-found c =
 pub keep_found-requires-in-Parts-clause-evaluable : goal.keep_found-requires-in-Parts-clause-evaluable
 keep_found-requires-in-Parts-clause-evaluable c =
     let told = rw c.in-Parts.is at c.in-Some.ensures.collected in
-    (handed c.args.core.now c.args.core.now c.args.query c.in-Parts.gathered c.collect.new.self (works_refl c.args.core.now) told.0 told.1).1.0
+    (handed 0 0 c.args.core.now c.args.core.now c.args.query c.in-Parts.gathered c.collect.new.self (works_refl c.args.core.now) told.0 told.1).1.0
 
 pub keep_found-requires-in-Parts-clause-found : goal.keep_found-requires-in-Parts-clause-found
 keep_found-requires-in-Parts-clause-found c =
     let told = rw c.in-Parts.is at c.in-Some.ensures.collected in
-    let t = handed c.args.core.now c.args.core.now c.args.query c.in-Parts.gathered c.collect.new.self (works_refl c.args.core.now) told.0 told.1 in
+    let t = handed 0 0 c.args.core.now c.args.core.now c.args.query c.in-Parts.gathered c.collect.new.self (works_refl c.args.core.now) told.0 told.1 in
     found_by_parts c.collect.new.self c.args.query c.in-Some.ensures.stands t.1.0 c.found_of_parts-found.result c.in-Parts.gathered.runs.items c.cover_more.ensures t.1.1
     c.found_of_parts-found.ensures.found
 
