@@ -4,7 +4,7 @@ ghost use Rattle.std.specs.Arc.{arc_value};
 ghost use Rattle.std.specs.Prelude.{◌≡◌, ◌+◌, ◌-◌, ◌<◌, ◌≤◌, IfOk, ℕ};
 ghost use Rattle.pf_core.specs.Calls.{IsPartOf, StandsForAsk};
 ghost use Rattle.pf_core.specs.Cores.{CoreData, Stands, tries_left};
-ghost use Rattle.pf_front.specs.Works.{HasFailed, IsEvaluated, IsIdle, IsWorked};
+ghost use Rattle.pf_front.specs.Works.{AreCarried, HasFailed, IsEvaluated, IsIdle, IsWorked};
 ghost use Rattle.pf_shard.specs.Bound.{AreBoundOver};
 ghost use Rattle.pf_shard.specs.Lawful.{IsLawful, leg_count, legs_data};
 
@@ -87,6 +87,7 @@ pub fn work<H: Hop, G: Gate>(
     ensures worked { IsWorked (H.faults hop.old) (H.faults hop.new) core.old held result core.new }
     ensures idle { (actor : ℕ) → IsIdle core.old actor → IsIdle core.new actor }
     ensures tries { held.head.tries < 5 → tries_left core.new + 1 ≤ tries_left core.old + (5 - held.head.tries) }
+    ensures carried { AreCarried (H.faults hop.old) (H.faults hop.new) core.old core.new }
     ensures counted { H.faults hop.old ≤ H.faults hop.new }
     ensures most { H.most hop.new ≡ H.most hop.old }
 {
