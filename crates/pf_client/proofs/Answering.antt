@@ -205,7 +205,7 @@ said_as number id c code word text e f g =
 module _ (known : Known) (above : List Ran) (hands : List Hand) (old new : Client) (held : new.hands ≡ old.hands) (number : ℕ) (id : List ℕ) (k : ℕ) where
   -- an open query is answered
   pub step_answered : (by : By) (q : ℕ) (reply : Reply) (o : Open) (a : Asked) (b : Body) → IsKnown known new.core → (h : IsAskAt known above (own_of old.client old.core) k q)
-      → IsReplied old.core by q reply new.core → Stands new.core → by.client ≡ old.client → by.line ≡ number
+      → {before after : ℕ} → IsReplied before after old.core by q reply new.core → Stands new.core → by.client ≡ old.client → by.line ≡ number
       → open_at q (machine_of old.core).queries ≡ Some o → o.asked ≡ a → b ≡ outcome_body a.instant a.kind reply.outcome
       → new.out.items ≡ old.out.items ++ answered number id (decimal reply.code) reply.cached reply.evaluated (text_of_body b)
       → IsQueryAnswer known (naming (own_of old.client old.core) above hands (script.answer id k)) old (record { number = number; line = script.answer id k }) q true new
@@ -281,7 +281,7 @@ module _ (known : Known) (above : List Ran) (hands : List Hand) (old new : Clien
 
   -- an open query waits for jobs in workers' hands
   pub step_waiting : (q jobs : ℕ) → Each (λ (e : Entry). e.client ≡ old.client) old.core.journal → Stands new.core → HaveHands old hands → (h : IsAskAt known above (own_of old.client old.core) k q)
-      → IsInHands old.core q jobs new.core
+      → {before after : ℕ} → IsInHands before after old.core q jobs new.core
       → new.out.items ≡ old.out.items ++ reply_line number (codes "answer") id (codes "waiting" ∷ decimal jobs ∷ [])
       → IsQueryAnswer known (naming (own_of old.client old.core) above hands (script.answer id k)) old (record { number = number; line = script.answer id k }) q false new
   step_waiting q jobs alone stands have h w said =
@@ -427,12 +427,12 @@ answer_gone known n old a b number id k s core out hands there shut left x = rec
 
 -- ---- what answers add
 
-pub grows_replied : (old new : CoreData) (by : By) (q : ℕ) (reply : Reply) → IsReplied old by q reply new → Grows old new
+pub grows_replied : {before after : ℕ} (old new : CoreData) (by : By) (q : ℕ) (reply : Reply) → IsReplied before after old by q reply new → Grows before after old new
 grows_replied old new by q reply r =
     let what : What = answer q reply.code reply.cached reply.evaluated in
     let queries : open_at q (machine_of r.middle).queries ≡ Some r.opened =
     subst (λ (es : List Entry). open_at q (machine_after started es).queries ≡ Some r.opened) (sym r.works.history.journal) r.is_open in
-    grows_on old r.middle new (grows_works old r.middle r.works) (grows_entered r.middle new by what r.entered (λ client below. closed_idle r.middle new q r.opened queries r.closed client))
+    grows_on old r.middle new (grows_works old r.middle r.works) (grows_entered r.middle new by what r.entered (λ client below. closed_idle r.middle new q r.opened queries r.closed client) r.closed.failed)
 
-pub grows_waits : (old new : CoreData) (q jobs : ℕ) → IsInHands old q jobs new → Grows old new
+pub grows_waits : {before after : ℕ} (old new : CoreData) (q jobs : ℕ) → IsInHands before after old q jobs new → Grows before after old new
 grows_waits old new q jobs w = grows_works old new w.works

@@ -211,7 +211,7 @@ entered_on old mid new by what e h = record {
 module _ (known : Known) (n : Told → Naming) (old new : Client) (held : new.hands ≡ old.hands) (number : ℕ) (id tenant : List ℕ) (line : Line) (own_it : AsksAs id tenant line) where
   -- a query was opened, and maybe planned
   pub step_asked : (by : By) (a : Asked) (place : ℕ) (pin : PinData) (mid : CoreData) → IsKnown known new.core → AsksAt old.core by tenant a place pin mid → AreBegun old.core place mid
-      → WorksOn mid new.core → Stands new.core
+      → WorksOn 0 0 mid new.core → Stands new.core
       → by.client ≡ old.client → by.line ≡ number → wanted_by known line ≡ Some (Ok a)
       → new.out.items ≡ old.out.items ++ reply_line number (codes "ask") id (codes "pin" ∷ decimal pin.number ∷ codes "place" ∷ decimal place ∷ [])
       → ((k : ℕ) → get nat_cmp new.slots k ≡ cond (nat_eq number k) (Some (slot.Asked place)) (get nat_cmp old.slots k))
@@ -353,11 +353,11 @@ starved_ask old new number id tenant (Ok r) on said kept same held = λ known li
 starved_ask old new number id tenant (Err e) on said kept same held = tt
 
 -- what asks add
-pub grows_asked : (old mid new : CoreData) (by : By) (tenant : List ℕ) (a : Asked) (place : ℕ) (pin : PinData) → AsksAt old by tenant a place pin mid → AreBegun old place mid → WorksOn mid new → Grows old new
+pub grows_asked : (old mid new : CoreData) (by : By) (tenant : List ℕ) (a : Asked) (place : ℕ) (pin : PinData) → AsksAt old by tenant a place pin mid → AreBegun old place mid → WorksOn 0 0 mid new → Grows 0 0 old new
 grows_asked old mid new by tenant a place pin e begun works =
     grows_on old mid new
-    (grows_entered old mid by (ask e.entered.number a pin.number pin.generation pin.floor) e.entered.entered (idle_same old mid (queues_same old mid begun.0.queues)))
+    (grows_entered old mid by (ask e.entered.number a pin.number pin.generation pin.floor) e.entered.entered (idle_same old mid (queues_same old mid begun.0.queues)) begun.0.failed)
     (grows_works mid new works)
 
-pub grows_filled : (old new : CoreData) (by : By) (tenant : List ℕ) (outstanding : ℕ) → EntersFor old by tenant (λ u. full u outstanding) new → AreSameWork old new → Grows old new
+pub grows_filled : (old new : CoreData) (by : By) (tenant : List ℕ) (outstanding : ℕ) → EntersFor old by tenant (λ u. full u outstanding) new → AreSameWork old new → Grows 0 0 old new
 grows_filled old new by tenant outstanding e same = grows_with old new by (full e.number outstanding) e.entered same

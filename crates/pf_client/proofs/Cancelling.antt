@@ -75,9 +75,9 @@ cancelled_hands old new q o there left u = by (nat_eq u o.tenant) refl where
       subst (λ (v : ℕ). (queue_at new v).hands ≡ (queue_at old v).hands) (sym e) (ap (λ (x : QueueHeads). x.hands) one.here)
   by false t = ap (λ (x : QueueHeads). x.hands) (one.others u (λ e. grind (arith, nat_tests, t, e)))
 
-pub grows_cancelled : (old new : CoreData) (by : By) (q : ℕ) (tenant : List ℕ) → IsOwned old q tenant None → Enters old by (cancel q) new → AreCancelled old q Done new → Grows old new
+pub grows_cancelled : (old new : CoreData) (by : By) (q : ℕ) (tenant : List ℕ) → IsOwned old q tenant None → Enters old by (cancel q) new → AreCancelled old q Done new → Grows 0 0 old new
 grows_cancelled old new by q tenant owned e left =
-    grows_entered old new by (cancel q) e (λ client below idle u. subst (Each (λ (x : JobHand). x.actor ≡ client → ⊥)) (sym (cancelled_hands old new q owned.opened owned.is_open left u)) (idle u))
+    grows_entered old new by (cancel q) e (λ client below idle u. subst (Each (λ (x : JobHand). x.actor ≡ client → ⊥)) (sym (cancelled_hands old new q owned.opened owned.is_open left u)) (idle u)) left.1.0
 
 unfound_open : (tenant owner : List ℕ) (m : Option Moment) (x : Moment) (w : What) (answered c : Option Moment) → m ≡ Some x → answered ≡ None → w ≡ x.entry.what → HasQuery (Some w)
     → unfound_words tenant owner (what_of m) answered c ≡ uncancelled_words tenant owner c

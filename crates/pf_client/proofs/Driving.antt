@@ -495,7 +495,7 @@ ask_goes loaded old new l r id tenant same_client own_it quiet asks runs = λ li
       starves_here known lines g.told sent l old new r at behind g.has_told step same_client (sym e) g.limited g.goes
 
 -- a line that leaves what is kept of asks
-pub quiet_goes : (loaded : Loaded) (old new : Client) (l : Numbered) → new.client ≡ old.client → Grows old.core new.core → IsNotAnswer l.line → ((id : List ℕ) → IsAsk id (Some l.line) → ⊥)
+pub quiet_goes : {before after : ℕ} (loaded : Loaded) (old new : Client) (l : Numbered) → new.client ≡ old.client → Grows before after old.core new.core → IsNotAnswer l.line → ((id : List ℕ) → IsAsk id (Some l.line) → ⊥)
     → ((known : Known) (above : List Ran) (hands : List Hand) (done : List Numbered) → IsKnown known new.core → Each (λ e. e.client ≡ old.client) old.core.journal
     → HaveSlots known above (own_of old.client old.core) (machine_of old.core).count done old.slots → AreKept old.core old.slots → HaveHands old hands → Follows done l
     → IsStep known (naming (own_of old.client old.core) above hands l.line) old l run.On new)
@@ -519,7 +519,7 @@ quiet_goes loaded old new l same_client grows quiet asks runs slots = λ limits 
     (kept_on old.core new.core old.slots new.slots old.client l.number step.entered step.journal (no_ask known turn l.line step.entered asks matched) slots g.kept) g.hands)
 
 -- a line that answers
-pub answer_goes : (loaded : Loaded) (old new : Client) (number k : ℕ) (id : List ℕ) → new.client ≡ old.client → Grows old.core new.core
+pub answer_goes : {before after : ℕ} (loaded : Loaded) (old new : Client) (number k : ℕ) (id : List ℕ) → new.client ≡ old.client → Grows before after old.core new.core
     → ((known : Known) (above : List Ran) (hands : List Hand) → IsKnown known new.core → Each (λ e. e.client ≡ old.client) old.core.journal → SlotRight known above (own_of old.client old.core) k (get nat_cmp old.slots k)
     → (get nat_cmp old.slots k ≡ None → ⊥) → HaveHands old hands
     → IsAnswerStep known (naming (own_of old.client old.core) above hands (script.answer id k)) old (record { number = number; line = script.answer id k }) k new)

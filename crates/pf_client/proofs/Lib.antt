@@ -21,5 +21,6 @@ pub mod Steps
 pub mod Tallying
 pub mod TextReads
 pub mod Texts
+pub mod Tries
 pub mod Works
 pub mod Writing

@@ -1,6 +1,5 @@
 -- Laws of options and of lists.
 use Rattle.std.proofs.Common.{◌≡◌, Some, List, [], ◌∷◌, ◌++◌, map, refl, ap}
-use Rattle.pf_model.specs.Lists.{Each}
 pub use Rattle.pf_script.proofs.Follows.{each_more as each_push}
 
 pub some_is : {X : Type 0} (x y : X) → Some x ≡ Some y → x ≡ y

@@ -7,19 +7,18 @@ use Rattle.pf_journal.proofs.Going.{going, text_grows, text_stays, turn_behind, 
 use Rattle.pf_journal.proofs.Growing.{hands_behind, lines_behind, moments-snoc}
 use Rattle.pf_journal.proofs.Opened.{all_above}
 use Rattle.pf_journal.specs.Legal.{Moment, machine_after, moments}
-use Rattle.pf_journal.specs.Machine.{Entry, Machine, What, next, started}
+use Rattle.pf_journal.specs.Machine.{Entry, Machine, What, started}
 use Rattle.pf_journal.specs.Replies.{reply_of}
 use Rattle.pf_journal.specs.Report.{client_text}
 use Rattle.pf_journal.specs.Rest.{Known, Told, at_end}
 use Rattle.pf_journal.specs.Scripts.{Numbered}
 use Rattle.pf_journal.specs.Turns.{Hand, Ran, Turn, entered_above, moment_of, own_moments, ran_lines, turn_of}
-use Rattle.pf_journal.specs.Weave.{FoundRoom, IsLineOf, IsMatched, IsWoven, Woven}
+use Rattle.pf_journal.specs.Weave.{FoundRoom, IsMatched, IsWoven, Woven}
 use Rattle.pf_model.specs.Lists.{Each, first_with}
 use Rattle.pf_client.proofs.Cases.{bool_cases}
 use Rattle.pf_client.specs.Clients.{entries_by, entry_by, moment_by, moment_with, naming, turn_by}
 pub use Rattle.pf_journal.proofs.Ending.{own_below}
 pub use Rattle.pf_journal.proofs.Ending.{ran_below}
-use Rattle.pf_journal.proofs.Ending.{line_below}
 pub use Rattle.pf_journal.proofs.Ending.{machine-snoc}
 pub use Rattle.pf_journal.proofs.Ending.{none_with}
 

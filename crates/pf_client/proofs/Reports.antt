@@ -1,5 +1,5 @@
 -- The report of a client that stopped, and the beginning of one.
-use Rattle.std.proofs.Common.{◌≡◌, ℕ, zero, suc, ◌<◌, Bool, true, false, Option, Some, None, List, [], ◌∷◌, ◌++◌, codes, decimal, drop, length, map, slice_get, take, refl, sym, ap, ◌∙◌, subst, append-nil, append_assoc, arith, ◌+◌, ◌*◌, ◌≤◌, ◌⊎◌, inl, inr, filter, option_map, replicate, sum, rules}
+use Rattle.std.proofs.Common.{◌≡◌, ℕ, zero, suc, ◌<◌, Bool, Option, Some, None, List, [], ◌∷◌, ◌++◌, codes, decimal, drop, length, map, slice_get, take, refl, sym, ap, ◌∙◌, subst, append-nil, append_assoc, arith, ◌+◌, ◌*◌, ◌≤◌, ◌⊎◌, inl, inr, filter, option_map, replicate, sum, rules}
 use Rattle.std.specs.BTreeMap.{IsEmpty, get, get_by_text}
 use Rattle.std.specs.Option.{option_and_then}
 use Rattle.std.specs.Prelude.{slice_index_or}
@@ -39,7 +39,6 @@ use Rattle.pf_client.specs.Tallies.{IsCounted}
 use Rattle.pf_client.specs.Going.{AreCounted, HasRun, HasStopped, IsGoing, hands_last, own_of}
 use Rattle.pf_client.specs.Hands.{HaveHands, HoldsJobs, held_by, is_job_of}
 use Rattle.pf_client.specs.declared.client.LineRun.{LineRun}
-use Rattle.pf_client.specs.declared.client.LineRun.TheVariants as run
 use Rattle.pf_client.specs.Queries.{AreReadAs, IsQueryRead, IsTold, Queries, query_reading, reading_in, readings_in}
 use Rattle.pf_client.specs.declared.client.Client.{Client}
 use Rattle.pf_client.specs.declared.loaded.Loaded.{Loaded}
@@ -251,15 +250,15 @@ woven_alone limits loaded lines why sent c held first are right short stands has
 
 pub reported : (limits : Limits) (loaded : Loaded) (lines : List Numbered) (run : LineRun) (sent : List ℕ) (c : Client) (held : Held)
     → c.client ≡ 0 → AreHeld held loaded.files → AreReadAs loaded.queries → length lines ≤ 18446744073709551615 → Stands c.core → HasStopped loaded limits lines (why_of run) sent c
-    → IsReport limits held lines (why_of run) (sent ++ left_text c)
-reported limits loaded lines run sent c held first are right short stands stopped =
+    → (AreTries : List ℕ → Type 0) → AreTries c.core.failed → IsReport limits held lines AreTries (why_of run) (sent ++ left_text c)
+reported limits loaded lines run sent c held first are right short stands stopped AreTries tries =
     let known : Known = record { limits = c.core.limits; names = c.core.names; files = held; readings = readings_in loaded.queries } in
     let has = stopped known (record { held = are; readings = refl }) (itself c.core held loaded) in
     let rest : Rest = record { clients = record { told = has.told; why = why_of run } ∷ []; failed = c.core.failed } in
     let behind : List ℕ = journal_text c.core.names c.core.journal ++ actors_from 0 c.core.failed in
     let text_is : sent ++ left_text c ≡ report known c.core.journal (lines ∷ []) rest =
     sym (append_assoc sent c.out.items behind) ∙ ap (λ (bytes : List ℕ). bytes ++ behind) (said_first known lines has.told has.has_told.said ∙ sym (append-nil _)) in
-    subst (λ (l : Limits). IsReport l held lines (why_of run) (sent ++ left_text c)) has.limited (record {
+    subst (λ (l : Limits). IsReport l held lines AreTries (why_of run) (sent ++ left_text c)) has.limited (record {
       journal = c.core.journal;
       names = c.core.names;
       readings = readings_in loaded.queries;
@@ -268,6 +267,7 @@ reported limits loaded lines run sent c held first are right short stands stoppe
       named = stands.names;
       woven = woven_alone limits loaded lines (why_of run) sent c held first are right short stands has;
       stopped = stopped_as (record { told = has.told; why = why_of run });
+      tries = tries;
       whole = text_is;
     }) where
       said_first : (known : Known) (lines : List Numbered) (told : List Told)
@@ -280,12 +280,12 @@ reported limits loaded lines run sent c held first are right short stands stoppe
 
 pub summarized : (limits : Limits) (loaded : Loaded) (lines : List Numbered) (full : Bool) (t : Tally) (sent : List ℕ) (c : Client) (held : Held)
     → c.client ≡ 0 → AreHeld held loaded.files → AreReadAs loaded.queries → length lines ≤ 18446744073709551615 → Stands c.core → HasStopped loaded limits lines (why_by full) sent c
-    → IsCounted loaded t c → IsSummary limits held lines full t
-summarized limits loaded lines full t sent c held first are right short stands stopped count =
+    → IsCounted loaded t c → (AreTries : List ℕ → Type 0) → AreTries c.core.failed → IsSummary limits held lines AreTries full t
+summarized limits loaded lines full t sent c held first are right short stands stopped count AreTries tries =
     let known : Known = record { limits = c.core.limits; names = c.core.names; files = held; readings = readings_in loaded.queries } in
     let told : IsTold known loaded = record { held = are; readings = refl } in
     let has = stopped known told (itself c.core held loaded) in
-    subst (λ (l : Limits). IsSummary l held lines full t) has.limited (record {
+    subst (λ (l : Limits). IsSummary l held lines AreTries full t) has.limited (record {
       journal = c.core.journal;
       names = c.core.names;
       readings = readings_in loaded.queries;
@@ -294,6 +294,7 @@ summarized limits loaded lines full t sent c held first are right short stands s
       named = stands.names;
       woven = woven_alone limits loaded lines (why_by full) sent c held first are right short stands has;
       ended = stopped_as (record { told = has.told; why = why_by full });
+      tries = tries;
       whole = sym (count known told (itself c.core held loaded));
     })
 

@@ -3,7 +3,7 @@ use Rattle.std.proofs.Common.{◌≡◌, ℕ, ◌≤◌, Option, List, [], ◌�
 use Rattle.std.specs.declared.alloc.Global.{Global}
 use Rattle.std.specs.declared.vec.Vec.{Vec}
 use Rattle.pf_base.specs.declared.plain.Limits.{Limits}
-use Rattle.pf_core.specs.Cores.{Stands}
+use Rattle.pf_core.specs.Cores.{CoreData, Stands}
 use Rattle.pf_core.specs.Entries.{entry_of}
 use Rattle.pf_core.specs.declared.entry.Entry as code
 use Rattle.pf_io.proofs.Growing.{grows_more}
@@ -85,22 +85,24 @@ sends_first told loaded lines c = ([], (grows_none told, λ limits going. going)
 
 -- the output failed on the way
 pub breaks_off : (a b d : Option (List ℕ)) (loaded : Loaded) (limits : Limits) (lines : List Numbered) (first : Client) (n : ℕ) (c : Client) → c.client ≡ first.client → Stands c.core
-    → Sends a b loaded lines first n c → WritesFront b d c.out.items → IsGoing loaded limits lines 0 [] first → BreaksOff first.client loaded limits lines a d
-breaks_off a b d loaded limits lines first n c numbered stands s f going = record {
+    → Sends a b loaded lines first n c → WritesFront b d c.out.items → (IsCore : CoreData → Type 0) → IsCore c.core → IsGoing loaded limits lines 0 [] first
+    → BreaksOff first.client loaded limits lines IsCore a d
+breaks_off a b d loaded limits lines first n c numbered stands s f IsCore core going = record {
   n = n;
   sent = s.0;
   client = c;
   numbered = numbered;
   going = s.1.1 limits going;
   stands = stands;
+  core = core;
   front = (f.0, writes_then a b d (s.0 ++ c.out.items) c.out.items f.0 (writes_sent a b s.0 c.out.items s.1.0) f.1);
 }
 
 -- memory failed behind what was sent
 pub broke_off : (a b : Option (List ℕ)) (loaded : Loaded) (limits : Limits) (lines : List Numbered) (first : Client) (n : ℕ) (c : Client) → c.client ≡ first.client → Stands c.core
-    → Sends a b loaded lines first n c → IsGoing loaded limits lines 0 [] first → BreaksOff first.client loaded limits lines a b
-broke_off a b loaded limits lines first n c numbered stands s going =
-    breaks_off a b b loaded limits lines first n c numbered stands s (c.out.items, writes_none b c.out.items) going
+    → Sends a b loaded lines first n c → (IsCore : CoreData → Type 0) → IsCore c.core → IsGoing loaded limits lines 0 [] first → BreaksOff first.client loaded limits lines IsCore a b
+broke_off a b loaded limits lines first n c numbered stands s IsCore core going =
+    breaks_off a b b loaded limits lines first n c numbered stands s (c.out.items, writes_none b c.out.items) IsCore core going
 
 -- ---- the journal and the actors
 
@@ -132,10 +134,11 @@ rest_written a b d c held more left failed w same is on =
 -- ---- the report
 
 module _ (limits : Limits) (loaded : Loaded) (lines : List Numbered) (held : Held) (are : AreHeld held loaded.files) (right : AreReadAs loaded.queries)
-    (short : length lines ≤ 18446744073709551615) where
+    (short : length lines ≤ 18446744073709551615) (AreTries : List ℕ → Type 0) where
   -- of a client that broke off: the lines left can be ended
-  pub begun_short : AllFollow [] lines → (number : ℕ) → number ≡ 0 → (old new : Option (List ℕ)) → BreaksOff number loaded limits lines old new → WritesPart (IsAnyReport limits held lines) old new
-  begun_short following number zeroth old new b =
+  pub begun_short : AllFollow [] lines → (IsCore : CoreData → Type 0) → ((core : CoreData) → IsCore core → AreTries core.failed) → (number : ℕ) → number ≡ 0 → (old new : Option (List ℕ))
+      → BreaksOff number loaded limits lines IsCore old new → WritesPart (IsAnyReport limits held lines AreTries) old new
+  begun_short following IsCore tries number zeroth old new b =
       let c = b.client in
       let first : c.client ≡ 0 = b.numbered ∙ zeroth in
       let known : Known = record { limits = c.core.limits; names = c.core.names; files = held; readings = readings_in loaded.queries } in
@@ -152,7 +155,7 @@ module _ (limits : Limits) (loaded : Loaded) (lines : List Numbered) (held : Hel
         (
           (
             r.client.why,
-            subst (λ (l : Limits). IsReport l held lines r.client.why ((b.sent ++ c.out.items) ++ r.text)) g.limited (record {
+            subst (λ (l : Limits). IsReport l held lines AreTries r.client.why ((b.sent ++ c.out.items) ++ r.text)) g.limited (record {
               journal = r.whole;
               names = c.core.names;
               readings = readings_in loaded.queries;
@@ -161,6 +164,7 @@ module _ (limits : Limits) (loaded : Loaded) (lines : List Numbered) (held : Hel
               named = r.named;
               woven = r.woven;
               stopped = stopped_as r.client;
+              tries = tries c.core b.core;
               whole = whole;
             }),
           ),
@@ -170,16 +174,16 @@ module _ (limits : Limits) (loaded : Loaded) (lines : List Numbered) (held : Hel
 
   -- of a client that stopped
   module _ (stopped : LineRun) (old mid new : Option (List ℕ)) (c : Client) (first : c.client ≡ 0) (stands : Stands c.core)
-      (s : (sent : List ℕ) × (Grows old mid sent × HasStopped loaded limits lines (why_of stopped) sent c)) where
-    whole : IsReport limits held lines (why_of stopped) (s.0 ++ left_text c)
-    whole = reported limits loaded lines stopped s.0 c held first are right short stands s.1.1
+      (s : (sent : List ℕ) × (Grows old mid sent × HasStopped loaded limits lines (why_of stopped) sent c)) (tries : AreTries c.core.failed) where
+    whole : IsReport limits held lines AreTries (why_of stopped) (s.0 ++ left_text c)
+    whole = reported limits loaded lines stopped s.0 c held first are right short stands s.1.1 AreTries tries
 
     to_end : (left : List ℕ) → WritesTo mid new (left_text c) left → WritesTo old new (s.0 ++ left_text c) left
     to_end left w = writes_then old mid new (s.0 ++ left_text c) (left_text c) left (writes_sent old mid s.0 (left_text c) s.1.0) w
 
-    pub report_written : (why : Why) → why ≡ why_of stopped → WritesTo mid new (left_text c) [] → Writes (IsReport limits held lines why) old new
+    pub report_written : (why : Why) → why ≡ why_of stopped → WritesTo mid new (left_text c) [] → Writes (IsReport limits held lines AreTries why) old new
     report_written why e w =
-        (s.0 ++ left_text c, (subst (λ (y : Why). IsReport limits held lines y (s.0 ++ left_text c)) (sym e) whole, all_written old new (s.0 ++ left_text c) (to_end [] w)))
+        (s.0 ++ left_text c, (subst (λ (y : Why). IsReport limits held lines AreTries y (s.0 ++ left_text c)) (sym e) whole, all_written old new (s.0 ++ left_text c) (to_end [] w)))
 
-    pub report_begun : WritesFront mid new (left_text c) → WritesPart (IsAnyReport limits held lines) old new
+    pub report_begun : WritesFront mid new (left_text c) → WritesPart (IsAnyReport limits held lines AreTries) old new
     report_begun f = (s.0 ++ left_text c, ((why_of stopped, whole), part_written old new (s.0 ++ left_text c) f.0 (to_end f.0 f.1)))

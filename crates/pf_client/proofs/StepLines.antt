@@ -3,7 +3,7 @@ use Rattle.std.proofs.Common.{◌≡◌, ℕ, zero, suc, ◌+◌, ◌<◌, ◌�
 use Rattle.std.proofs.lemmas.Bool.Decides.{nat_tests}
 use Rattle.pf_core.specs.Calls.{IsTaken, StandsForAsk}
 use Rattle.pf_core.specs.Cores.{CoreData, IsSameHistory, Stands, machine_of}
-use Rattle.pf_front.specs.Works.{IsIdle, IsWorked, WorksOn}
+use Rattle.pf_front.specs.Works.{AreCarried, IsIdle, IsWorked, WorksOn}
 use Rattle.pf_front.specs.declared.keeping.Keeping.{Keeping}
 use Rattle.pf_front.specs.declared.keeping.Keeping.TheVariants as keeping
 use Rattle.pf_front.specs.declared.working.Worked.{Worked}
@@ -28,7 +28,7 @@ use Rattle.pf_client.proofs.Answering.{asked_query, no_query_full, no_query_stra
 use Rattle.pf_client.proofs.Cases.{bool_cases}
 use Rattle.pf_client.proofs.HandLines.{holds_job, holds_nothing, keeps_hands, keeps_same, tries_on, tries_same}
 use Rattle.pf_client.proofs.SlotLaws.{open_in}
-use Rattle.pf_client.proofs.Steps.{grows_idle, name_known, step_stayed, step_worked}
+use Rattle.pf_client.proofs.Steps.{grows_idle, name_known, step_stayed, step_worked, untried}
 use Rattle.pf_client.proofs.Works.{stands_on, taken_idle, taken_in, worked_out, worked_tries}
 use Rattle.pf_client.specs.Asks.{IsAskAt, IsNoQuery, SlotRight}
 use Rattle.pf_client.specs.Clients.{Grows, IsKnown, IsStep, naming, turn_by}
@@ -58,7 +58,7 @@ no_query_kept known above own k (Some slot.NoMemory) v kept r = subst (λ (m : O
 
 module _ (known : Known) (above : List Ran) (hands : List Hand) (old new : Client) (held : new.hands ≡ old.hands) (number : ℕ) (id : List ℕ) (k : ℕ) where
   -- a query that was opened
-  pub step_planned : (q : ℕ) (p : steps.PlanReply) → IsAskAt known above (own_of old.client old.core) k q → (p ≡ steps.plan_refused → ⊥) → WorksOn old.core new.core
+  pub step_planned : (q : ℕ) (p : steps.PlanReply) → IsAskAt known above (own_of old.client old.core) k q → (p ≡ steps.plan_refused → ⊥) → WorksOn 0 0 old.core new.core
       → new.out.items ≡ old.out.items ++ reply_line number (codes "plan") id (plan_words (of_plan p))
       → IsStep known (naming (own_of old.client old.core) above hands (script.plan id k)) old (record { number = number; line = script.plan id k }) run.On new
   step_planned q p h n w said =
@@ -98,7 +98,7 @@ keep_is_told t steps.unplanned n h = h
 
 module _ (known : Known) (above : List Ran) (hands : List Hand) (old new : Client) (held : new.hands ≡ old.hands) (number : ℕ) (id : List ℕ) (k : ℕ) where
   -- the steps of a query that was opened
-  pub step_kept : (q : ℕ) (p : steps.KeepReply) → IsAskAt known above (own_of old.client old.core) k q → (p ≡ steps.keep_refused → ⊥) → WorksOn old.core new.core
+  pub step_kept : (q : ℕ) (p : steps.KeepReply) → IsAskAt known above (own_of old.client old.core) k q → (p ≡ steps.keep_refused → ⊥) → WorksOn 0 0 old.core new.core
       → new.out.items ≡ old.out.items ++ reply_line number (codes "keep") id (keep_words (of_keep p))
       → IsStep known (naming (own_of old.client old.core) above hands (script.keep id k)) old (record { number = number; line = script.keep id k }) run.On new
   step_kept q p h n w said =
@@ -171,7 +171,7 @@ length_set : {X : Type 0} (xs : List X) (i : ℕ) (y : X) → length (slice_set 
 length_set xs i y = search rules
 
 -- the jobs in workers' hands stand on
-pub holds_on : (old new : Client) → new.client ≡ old.client → Grows old.core new.core → new.hands ≡ old.hands → HoldsJobs old → HoldsJobs new
+pub holds_on : {before after : ℕ} (old new : Client) → new.client ≡ old.client → Grows before after old.core new.core → new.hands ≡ old.hands → HoldsJobs old → HoldsJobs new
 holds_on old new client g same h = record {
   many = ap (λ v. length v.items) same ∙ h.many;
   stands = λ w j e.
@@ -182,7 +182,7 @@ holds_on old new client g same h = record {
 }
 
 -- the same of jobs that are put back
-pub holds_same : (old new : Client) → new.client ≡ old.client → Grows old.core new.core → new.hands.items ≡ old.hands.items → HoldsJobs old → HoldsJobs new
+pub holds_same : {before after : ℕ} (old new : Client) → new.client ≡ old.client → Grows before after old.core new.core → new.hands.items ≡ old.hands.items → HoldsJobs old → HoldsJobs new
 holds_same old new client g same h = record {
   many = ap length same ∙ h.many;
   stands = λ w j e.
@@ -193,12 +193,12 @@ holds_same old new client g same h = record {
 }
 
 -- the same of a call
-pub holds_if : {A E : Type 0} (old new : Client) (result : Result A E) → OnOk result (new.client ≡ old.client) → OnOk result (Grows old.core new.core) → OnOk result (new.hands ≡ old.hands) → HoldsJobs old → OnOk result (HoldsJobs new)
+pub holds_if : {A E : Type 0} (old new : Client) (result : Result A E) → OnOk result (new.client ≡ old.client) → OnOk result (Grows 0 0 old.core new.core) → OnOk result (new.hands ≡ old.hands) → HoldsJobs old → OnOk result (HoldsJobs new)
 holds_if old new (Ok x) client g same h = holds_on old new client g same h
 holds_if old new (Err e) client g same h = tt
 
 -- and with one that was taken
-pub holds_taken : (old new : Client) (w : ℕ) (j : Held) → new.client ≡ old.client → Grows old.core new.core → new.hands.items ≡ slice_set old.hands.items w (Some j) → w ≤ 15 → StandsForAsk new.core j → j.actor ≡ 16 + w
+pub holds_taken : {before after : ℕ} (old new : Client) (w : ℕ) (j : Held) → new.client ≡ old.client → Grows before after old.core new.core → new.hands.items ≡ slice_set old.hands.items w (Some j) → w ≤ 15 → StandsForAsk new.core j → j.actor ≡ 16 + w
     → HoldsJobs old → HoldsJobs new
 holds_taken old new w j client g set low stands actor h =
     let many = h.many in
@@ -221,7 +221,7 @@ holds_taken old new w j client g set low stands actor h =
           (stands_on old.core new.core x g before.0, before.1)
 
 -- and without one that was worked on
-pub holds_dropped : (old new : Client) (w : ℕ) → new.client ≡ old.client → Grows old.core new.core → new.hands.items ≡ slice_set old.hands.items w None → w ≤ 15 → HoldsJobs old → HoldsJobs new
+pub holds_dropped : {before after : ℕ} (old new : Client) (w : ℕ) → new.client ≡ old.client → Grows before after old.core new.core → new.hands.items ≡ slice_set old.hands.items w None → w ≤ 15 → HoldsJobs old → HoldsJobs new
 holds_dropped old new w client g set low h =
     let many = h.many in
     let inside : w < length old.hands.items = omega (arith, many, low) in
@@ -405,11 +405,12 @@ module _ (known : Known) (above : List Ran) (hands : List Hand) (old new : Clien
         by (worked.Gone why) h t v jobs s = step_worked known (naming (own_of old.client old.core) above hands (script.done w)) old new (record { number = number; line = script.done w }) (of_done (done_told (worked.Gone why))) left refl h t (record { job = j; there = there; actor = actor; held = v; jobs = jobs }) s
         by worked.NotHeld h t v jobs s = step_worked known (naming (own_of old.client old.core) above hands (script.done w)) old new (record { number = number; line = script.done w }) (of_done steps.not_held) left refl h t (record { job = j; there = there; actor = actor; held = v; jobs = jobs }) s
 
-pub grows_worked : (old new : CoreData) (j : Held) (before after : ℕ) (x : Worked) → StandsForAsk old j → IsWorked before after old j x new → ((client : ℕ) → client < 16 → IsIdle old client → IsIdle new client) → Grows old new
-grows_worked old new j before after x stands did idle = grows_idle old new (worked_out old new j stands before after x did).0 idle
+pub grows_worked : (old new : CoreData) (j : Held) (before after : ℕ) (x : Worked) → StandsForAsk old j → IsWorked before after old j x new → ((client : ℕ) → client < 16 → IsIdle old client → IsIdle new client)
+    → AreCarried before after old new → Grows before after old new
+grows_worked old new j before after x stands did idle carried = grows_idle old new (worked_out old new j stands before after x did).0 idle carried
 
-pub grows_taken : (old new : CoreData) (w : ℕ) (j : Held) → IsTaken old (16 + w) j new → Grows old new
-grows_taken old new w j t = grows_idle old new t.leaves.history (λ client below. taken_idle old new (16 + w) client j t (omega (arith, below)))
+pub grows_taken : (old new : CoreData) (w : ℕ) (j : Held) → IsTaken old (16 + w) j new → Grows 0 0 old new
+grows_taken old new w j t = grows_idle old new t.leaves.history (λ client below. taken_idle old new (16 + w) client j t (omega (arith, below))) (untried old new t.leaves.failed)
 
 -- ---- names
 

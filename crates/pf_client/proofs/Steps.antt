@@ -1,12 +1,12 @@
 -- Lines that were run, by what they entered.
-use Rattle.std.proofs.Common.{◌≡◌, ℕ, zero, suc, ◌+◌, ◌<◌, ◌≤◌, Some, None, Result, Ok, Err, IfOk, OnOk, List, [], ◌∷◌, ◌++◌, refl, sym, ap, ◌∙◌, subst, append-nil, append_assoc, codes, decimal, slice_get}
-use Rattle.std.specs.Prelude.{slice_index_or}
+use Rattle.std.proofs.Common.{◌≡◌, ℕ, zero, suc, ◌+◌, ◌<◌, ◌≤◌, Some, None, Result, Ok, Err, IfOk, OnOk, List, [], ◌∷◌, ◌++◌, refl, sym, ap, ◌∙◌, subst, append-nil, append_assoc, codes, decimal, slice_get, arith, inl, inr}
+use Rattle.std.specs.Prelude.{slice_index_or, sum}
 use Rattle.pf_base.specs.Batches.{BatchData}
 use Rattle.pf_base.specs.declared.plain.By.{By}
 use Rattle.pf_base.specs.declared.plain.Limits.{Limits}
 use Rattle.pf_core.specs.Cores.{AreSameWork, CoreData, Enters, HasRoomFor, IsAppended, IsDeleted, IsFull, IsSameHistory, machine_of, queue_at}
 use Rattle.pf_core.specs.Jobs.{QueueHeads, no_heads}
-use Rattle.pf_front.specs.Works.{IsIdle, WorksOn}
+use Rattle.pf_front.specs.Works.{AreCarried, IsIdle, WorksOn}
 use Rattle.pf_journal.specs.Entered.{Fits, room_of}
 use Rattle.pf_journal.specs.Files.{Gives}
 use Rattle.pf_journal.specs.Machine.{Entry, What, append, delete, no_tenant, reserved}
@@ -242,6 +242,16 @@ step_bad_delete known n old new number tenant from to selector words same hands 
     step_stayed known n old new (record { number = number; line = script.delete tenant from to selector }) nothing same refl refl unentered (keeps_same old new (ap (λ v. v.items) hands) same)
     (said ∙ ap (λ (w : List (List ℕ)). old.out.items ++ reply_line number (codes "delete") tenant w) (sym is))
 
+-- ---- failed tries
+
+pub untried : {count : ℕ} (old new : CoreData) → new.failed ≡ old.failed → AreCarried count count old new
+untried old new same = let s = ap (λ (fs : List ℕ). sum fs) same in inr (omega (arith, s))
+
+carried_behind : (before after : ℕ) (a b c : CoreData) → AreCarried before after a b → AreCarried 0 0 b c → AreCarried before after a c
+carried_behind before after a b c (inl past) y = inl past
+carried_behind before after a b c (inr x) (inl past) = absurd (omega (arith, past))
+carried_behind before after a b c (inr x) (inr y) = inr (omega (arith, x, y))
+
 -- ---- what a core's calls add
 
 pub idle_same : (old new : CoreData) → ((u : ℕ) → (queue_at new u).hands ≡ (queue_at old u).hands) → (client : ℕ) → client < 16 → IsIdle old client → IsIdle new client
@@ -251,14 +261,14 @@ pub queues_same : (old new : CoreData) → new.queues ≡ old.queues → (u : �
 queues_same old new same u = ap (λ (qs : List QueueHeads). (slice_index_or qs u no_heads).hands) same
 
 -- an entry
-pub grows_entered : (old new : CoreData) (by : By) (what : What) → Enters old by what new → ((client : ℕ) → client < 16 → IsIdle old client → IsIdle new client) → Grows old new
-grows_entered old new by what e idle = record { limits = e.limits; more = e.more; names = e.grown; entries = _; journal = e.journal; idle = idle }
+pub grows_entered : (old new : CoreData) (by : By) (what : What) → Enters old by what new → ((client : ℕ) → client < 16 → IsIdle old client → IsIdle new client) → new.failed ≡ old.failed → Grows 0 0 old new
+grows_entered old new by what e idle failed = record { limits = e.limits; more = e.more; names = e.grown; entries = _; journal = e.journal; idle = idle; carried = untried old new failed }
 
-pub grows_with : (old new : CoreData) (by : By) (what : What) → Enters old by what new → AreSameWork old new → Grows old new
-grows_with old new by what e same = grows_entered old new by what e (idle_same old new (queues_same old new same.0.queues))
+pub grows_with : (old new : CoreData) (by : By) (what : What) → Enters old by what new → AreSameWork old new → Grows 0 0 old new
+grows_with old new by what e same = grows_entered old new by what e (idle_same old new (queues_same old new same.0.queues)) same.0.failed
 
 -- nothing
-pub grows_same : (old new : CoreData) → new ≡ old → Grows old new
+pub grows_same : {count : ℕ} (old new : CoreData) → new ≡ old → Grows count count old new
 grows_same old new same = record {
   limits = ap (λ (c : CoreData). c.limits) same;
   more = [];
@@ -266,27 +276,30 @@ grows_same old new same = record {
   entries = [];
   journal = ap (λ (c : CoreData). c.journal) same ∙ sym (append-nil old.journal);
   idle = λ client below h. subst (λ (c : CoreData). IsIdle c client) (sym same) h;
+  carried = untried old new (ap (λ (c : CoreData). c.failed) same);
 }
 
 -- a call that added nothing, and replied
-pub grows_if : {A E : Type 0} (old new : CoreData) (result : Result A E) → new ≡ old → OnOk result (Grows old new)
-grows_if old new result same = on_ok_all (Grows old new) result (grows_same old new same)
+pub grows_if : {A E : Type 0} (old new : CoreData) (result : Result A E) → new ≡ old → OnOk result (Grows 0 0 old new)
+grows_if old new result same = on_ok_all (Grows 0 0 old new) result (grows_same old new same)
 
 -- work on jobs
-pub grows_idle : (old new : CoreData) → IsSameHistory old new → ((client : ℕ) → client < 16 → IsIdle old client → IsIdle new client) → Grows old new
-grows_idle old new same idle = record {
+pub grows_idle : {before after : ℕ} (old new : CoreData) → IsSameHistory old new → ((client : ℕ) → client < 16 → IsIdle old client → IsIdle new client)
+    → AreCarried before after old new → Grows before after old new
+grows_idle old new same idle carried = record {
   limits = same.limits;
   more = [];
   names = same.names ∙ sym (append-nil old.names);
   entries = [];
   journal = same.journal ∙ sym (append-nil old.journal);
   idle = idle;
+  carried = carried;
 }
 
-pub grows_works : (old new : CoreData) → WorksOn old new → Grows old new
-grows_works old new w = grows_idle old new w.history (idle_same old new w.hands)
+pub grows_works : {before after : ℕ} (old new : CoreData) → WorksOn before after old new → Grows before after old new
+grows_works old new w = grows_idle old new w.history (idle_same old new w.hands) w.carried
 
-pub grows_on : (a b c : CoreData) → Grows a b → Grows b c → Grows a c
+pub grows_on : {before after : ℕ} (a b c : CoreData) → Grows before after a b → Grows 0 0 b c → Grows before after a c
 grows_on a b c f g = record {
   limits = g.limits ∙ f.limits;
   more = f.more ++ g.more;
@@ -294,16 +307,17 @@ grows_on a b c f g = record {
   entries = f.entries ++ g.entries;
   journal = g.journal ∙ ap (λ (es : List Entry). es ++ g.entries) f.journal ∙ append_assoc a.journal f.entries g.entries;
   idle = λ client below h. g.idle client below (f.idle client below h);
+  carried = carried_behind _ _ a b c f.carried g.carried;
 }
 
 -- the core's calls
-pub grows_appended : (old new : CoreData) (by : By) (tenant : List ℕ) (batch : BatchData) (v : VerdictsData) → IsAppended old by tenant batch v new → AreSameWork old new → Grows old new
+pub grows_appended : (old new : CoreData) (by : By) (tenant : List ℕ) (batch : BatchData) (v : VerdictsData) → IsAppended old by tenant batch v new → AreSameWork old new → Grows 0 0 old new
 grows_appended old new by tenant batch v e same = grows_with old new by (append e.1.number batch v.list v.entry) e.1.entered same
 
-pub grows_deleted : (old new : CoreData) (by : By) (tenant : List ℕ) (ms : List Matcher) (from to : ℕ) (d : Deleted) → IsDeleted old by tenant ms from to d new → AreSameWork old new → Grows old new
+pub grows_deleted : (old new : CoreData) (by : By) (tenant : List ℕ) (ms : List Matcher) (from to : ℕ) (d : Deleted) → IsDeleted old by tenant ms from to d new → AreSameWork old new → Grows 0 0 old new
 grows_deleted old new by tenant ms from to d e same = grows_with old new by (delete e.1.number ms from to d.generation d.entry) e.1.entered same
 
-pub grows_refused : (old new : CoreData) (by : By) (tenant : List ℕ) → Enters old by (no_tenant tenant) new → AreSameWork old new → Grows old new
+pub grows_refused : (old new : CoreData) (by : By) (tenant : List ℕ) → Enters old by (no_tenant tenant) new → AreSameWork old new → Grows 0 0 old new
 grows_refused old new by tenant e same = grows_with old new by (no_tenant tenant) e same
 
 -- ---- clients that differ in what is kept of asks

@@ -1,8 +1,8 @@
 -- What lines make of what is counted.
-use Rattle.std.proofs.Common.{◌≡◌, ℕ, ◌+◌, Bool, true, false, Option, Some, None, Result, Ok, Err, IfOk, OnOk, List, [], ◌∷◌, ◌++◌, length, map, slice_get, take, cond, count_by, fold, nat_eq, refl, sym, ap, ◌∙◌, subst, append-nil}
+use Rattle.std.proofs.Common.{◌≡◌, ℕ, ◌+◌, Bool, true, false, Option, Some, None, Result, Ok, Err, IfOk, OnOk, List, [], ◌∷◌, ◌++◌, map, take, cond, count_by, fold, refl, sym, ap, ◌∙◌, append-nil}
 use Rattle.pf_base.specs.declared.plain.By.{By}
 use Rattle.pf_base.specs.declared.plain.Limits.{Limits}
-use Rattle.pf_core.specs.Cores.{CoreData, IsSameHistory, machine_of, started_core}
+use Rattle.pf_core.specs.Cores.{CoreData, machine_of, started_core}
 use Rattle.pf_front.specs.Answers as answers
 use Rattle.pf_front.specs.Answers.{IsInHands, IsOutcomeOf, IsReplied}
 use Rattle.pf_front.specs.declared.answering.Reply.{Reply}
@@ -11,13 +11,13 @@ use Rattle.pf_front.specs.declared.outcome.Outcome.TheVariants as outcome
 use Rattle.pf_journal.proofs.Tallying.{tally-snoc}
 use Rattle.pf_journal.specs.Entered.{Fits}
 use Rattle.pf_journal.specs.Legal.{moments}
-use Rattle.pf_journal.specs.Machine.{Entry, Machine, Open, What, append, delete, ask, full, no_tenant, cancel, answer, answer_of, open_at}
+use Rattle.pf_journal.specs.Machine.{Entry, Machine, Open, What, append, delete, ask, full, no_tenant, cancel, answer, open_at}
 use Rattle.pf_journal.specs.Rest.{Known, Told}
 use Rattle.pf_journal.specs.Scripts as script
 use Rattle.pf_journal.specs.Scripts.{Line, Numbered}
 use Rattle.pf_journal.specs.Summaries.{Tally, asks, is_ask, nothing_counted, rows_answered, rows_of, tally_of, with_answer, with_entry}
 use Rattle.pf_journal.specs.Turns.{Hand, Ran, Turn, ran_lines}
-use Rattle.pf_model.specs.Direct.{Answer, MatrixRow, gathered}
+use Rattle.pf_model.specs.Direct.{MatrixRow}
 use Rattle.pf_model.specs.Lists.{Each}
 use Rattle.pf_model.specs.declared.expr.Kind.{Kind}
 use Rattle.pf_model.specs.declared.expr.Kind.TheVariants.{Scalar, Instant, Range, Text}
@@ -34,10 +34,10 @@ use Rattle.pf_client.proofs.Cancelling.{known_before}
 use Rattle.pf_client.proofs.Driving.{IsMatchedAs, matched_as}
 use Rattle.pf_client.specs.Asks.{AreKept, AskRuns, HaveSlots, outcome_body}
 use Rattle.pf_client.specs.Clients.{Grows, IsKnown, IsStep, Naming, Runs, entries_by, entry_by, moment_with, naming, turn_by}
-use Rattle.pf_client.specs.Going.{IsGoing, hands_last, last_first, own_of}
+use Rattle.pf_client.specs.Going.{hands_last, last_first, own_of}
 use Rattle.pf_client.specs.Hands.{HaveHands}
 use Rattle.pf_client.specs.Queries.{IsTold}
-use Rattle.pf_client.specs.Tallies.{AnswersNothing, Counts, CountsNothing, IsCounted, counted, with_answered}
+use Rattle.pf_client.specs.Tallies.{AnswersNothing, Counts, CountsNothing, counted, with_answered}
 use Rattle.pf_client.specs.declared.answers.Answered.{Answered}
 use Rattle.pf_client.specs.declared.client.Client.{Client}
 use Rattle.pf_client.specs.declared.client.LineRun.{LineRun}
@@ -81,7 +81,7 @@ rows_right l o instant kind outcome.Cancelled h = refl
 rows_right l o instant kind (outcome.Exhausted job) h = refl
 rows_right l o instant kind outcome.Starved h = refl
 
-pub counted_reply : (old new : CoreData) (by : By) (query : ℕ) (reply : Reply) (instant : Bool) (kind : Kind) (b : Body) → IsReplied old by query reply new
+pub counted_reply : {before after : ℕ} (old new : CoreData) (by : By) (query : ℕ) (reply : Reply) (instant : Bool) (kind : Kind) (b : Body) → IsReplied before after old by query reply new
     → b ≡ outcome_body instant kind reply.outcome
     → counted new ≡ with_answered (counted old) (Some (record { cached = reply.cached; evaluated = reply.evaluated; body = b }))
 counted_reply old new by query reply instant kind b r is =
@@ -97,7 +97,7 @@ counted_reply old new by query reply instant kind b r is =
     ∙ (ap (λ (k : ℕ). with_answer (counted old) k reply.cached reply.evaluated (rows_answered old.limits reply.code (open_at query (machine_of old).queries))) coded
     ∙ ap (with_answer (counted old) (code_in b) reply.cached reply.evaluated) rows)
 
-pub counted_waits : (old new : CoreData) (query jobs : ℕ) → IsInHands old query jobs new → counted new ≡ counted old
+pub counted_waits : {before after : ℕ} (old new : CoreData) (query jobs : ℕ) → IsInHands before after old query jobs new → counted new ≡ counted old
 counted_waits old new query jobs h = counted_same old new h.works.history.limits h.works.history.journal
 
 -- ---- lines that answer nothing
@@ -149,7 +149,7 @@ pub ask_counts : (left : Loaded) (old new : Client) (l : Numbered) (r : LineRun)
     → CountsNothing left old l new
 ask_counts left old new l r runs = plain_counts left old new l r (λ known told n kn. (runs known told n kn).step)
 
-pub quiet_counts : (left : Loaded) (old new : Client) (l : Numbered) → Grows old.core new.core
+pub quiet_counts : {before after : ℕ} (left : Loaded) (old new : Client) (l : Numbered) → Grows before after old.core new.core
     → ((known : Known) (above : List Ran) (hands : List Hand) (done : List Numbered) → IsKnown known new.core → Each (λ e. e.client ≡ old.client) old.core.journal
     → HaveSlots known above (own_of old.client old.core) (machine_of old.core).count done old.slots → AreKept old.core old.slots → HaveHands old hands → Follows done l
     → IsStep known (naming (own_of old.client old.core) above hands l.line) old l run.On new)
@@ -164,7 +164,7 @@ quiet_counts left old new l grows runs quiet t loaded part limits lines n sent t
 
 -- ---- lines that answer
 
-pub answer_counts : (left : Loaded) (old new : Client) (l : Numbered) (t t' : Tally) (a : Option Answered) → Grows old.core new.core
+pub answer_counts : {before after : ℕ} (left : Loaded) (old new : Client) (l : Numbered) (t t' : Tally) (a : Option Answered) → Grows before after old.core new.core
     → counted new.core ≡ with_answered (counted old.core) a → t' ≡ with_answered t a → Counts left old l t new t'
 answer_counts left old new l t t' a grows is same loaded part limits lines n sent there follows going before known told kn =
     is ∙ (ap (λ (x : Tally). with_answered x a) (before known told (known_before known old.core new.core grows.more grows.limits grows.names kn)) ∙ sym same)

@@ -297,7 +297,7 @@ closed_idle old new query o there h client idle u = elim (bool_cases (nat_eq u o
 -- ---- jobs stand
 
 -- a job of an earlier journal stands in a later one
-pub stands_on : (old new : CoreData) (held : Held) → Grows old new → StandsForAsk old held → StandsForAsk new held
+pub stands_on : {before after : ℕ} (old new : CoreData) (held : Held) → Grows before after old new → StandsForAsk old held → StandsForAsk new held
 stands_on old new held g h = record {
   at = h.at;
   asked = subst (λ (es : List Entry). opened_at es held.head.query ≡ Some h.at) (sym g.journal) (opened_grows old.journal g.entries held.head.query h.at h.asked);

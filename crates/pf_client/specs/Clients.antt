@@ -12,7 +12,7 @@ use Rattle.pf_journal.specs.Scripts.{Line, Numbered}
 use Rattle.pf_journal.specs.Turns.{Hand, Ran, Turn, answer_of, asked_by, asking_line, asking_ran, cancel_of}
 use Rattle.pf_journal.specs.Weave.{FoundRoom, IsMatched, stops_at}
 use Rattle.pf_report.specs.Replies.{fault_of}
-use Rattle.pf_front.specs.Works.{IsIdle}
+use Rattle.pf_front.specs.Works.{AreCarried, IsIdle}
 use Rattle.pf_client.specs.Hands.{CountsTries, HandsAfter}
 use Rattle.pf_client.specs.declared.client.Client.{Client}
 use Rattle.pf_client.specs.declared.client.FileRead.{FileRead}
@@ -101,14 +101,16 @@ pub record IsStep (known : Known) (n : Told → Naming) (old : Client) (l : Numb
   pub said : new.out.items
       ≡ old.out.items ++ reply_to known (turn_by (n told) l told (moment_with (machine_of old.core) old.client l.number entered)) l.number l.line
 
--- the limits stay, names and entries are only added, and a client that had no job in its own hand has none
-pub record Grows (old new : CoreData) : Type 0 where
+-- the limits stay, names and entries are only added, a client that had no job in its own hand has none, and failed tries rose by no
+-- more than hops' counts of faults
+pub record Grows (before after : ℕ) (old new : CoreData) : Type 0 where
   pub limits : new.limits ≡ old.limits
   pub more : List (List ℕ)
   pub names : new.names ≡ old.names ++ more
   pub entries : List Entry
   pub journal : new.journal ≡ old.journal ++ entries
   pub idle : (client : ℕ) → client < 16 → IsIdle old client → IsIdle new client
+  pub carried : AreCarried before after old new
 
 -- the same of a line that names no query
 abbrev pub Runs : Known → Client → Numbered → LineRun → Client → Type 0

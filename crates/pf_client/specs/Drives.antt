@@ -1,7 +1,7 @@
 -- The run of a script: this project's own.
 use Rattle.std.specs.Prelude.{◌≡◌, ℕ, Option, List, [], ◌∷◌, ◌++◌, drop}
 use Rattle.pf_base.specs.declared.plain.Limits.{Limits}
-use Rattle.pf_core.specs.Cores.{Stands}
+use Rattle.pf_core.specs.Cores.{CoreData, Stands}
 use Rattle.pf_journal.specs.Legal.{AreNames, Legal}
 use Rattle.pf_journal.specs.Machine.{Entry}
 use Rattle.pf_journal.specs.Report.{actors_from, journal_text, report}
@@ -37,8 +37,9 @@ why_of On = at_end
 why_of Full = at_full
 why_of Starved = at_memory
 
--- text is the report of a legal journal that is woven from one client's script, which stopped for this cause
-pub record IsReport (limits : Limits) (held : Held) (lines : List Numbered) (why : Why) (text : List ℕ) : Type 0 where
+-- text is the report of a legal journal that is woven from one client's script, which stopped for this cause, with failed tries of
+-- this kind
+pub record IsReport (limits : Limits) (held : Held) (lines : List Numbered) (AreTries : List ℕ → Type 0) (why : Why) (text : List ℕ) : Type 0 where
   pub journal : List Entry
   pub names : List (List ℕ)
   pub readings : Readings
@@ -47,22 +48,24 @@ pub record IsReport (limits : Limits) (held : Held) (lines : List Numbered) (why
   pub named : AreNames names journal
   pub woven : Weave (record { limits = limits; names = names; files = held; readings = readings }) journal (lines ∷ []) rest
   pub stopped : HaveStopped why rest.clients
+  pub tries : AreTries rest.failed
   pub whole : text ≡ report (record { limits = limits; names = names; files = held; readings = readings }) journal (lines ∷ []) rest
 
 -- the same for any cause
-abbrev pub IsAnyReport : Limits → Held → List Numbered → (text : List ℕ) → Type 0
-IsAnyReport limits held lines text = (why : Why) × IsReport limits held lines why text
+abbrev pub IsAnyReport : Limits → Held → List Numbered → (AreTries : List ℕ → Type 0) → (text : List ℕ) → Type 0
+IsAnyReport limits held lines AreTries text = (why : Why) × IsReport limits held lines AreTries why text
 
 -- what a client that stopped has still to say: what it holds, the journal and the actors' failed tries
 abbrev pub left_text : Client → List ℕ
 left_text c = c.out.items ++ (journal_text c.core.names c.core.journal ++ actors_from 0 c.core.failed)
 
--- the client of a number broke off on its way, and of what it had said a front was written
-pub record BreaksOff (number : ℕ) (loaded : Loaded) (limits : Limits) (lines : List Numbered) (old new : Option (List ℕ)) : Type 0 where
+-- the client of a number broke off on its way, with a core of this kind, and of what it had said a front was written
+pub record BreaksOff (number : ℕ) (loaded : Loaded) (limits : Limits) (lines : List Numbered) (IsCore : CoreData → Type 0) (old new : Option (List ℕ)) : Type 0 where
   pub n : ℕ
   pub sent : List ℕ
   pub client : Client
   pub numbered : client.client ≡ number
   pub going : IsGoing loaded limits lines n sent client
   pub stands : Stands client.core
+  pub core : IsCore client.core
   pub front : WritesFront old new (sent ++ client.out.items)

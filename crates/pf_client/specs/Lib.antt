@@ -9,4 +9,5 @@ pub mod Replays
 pub mod Sent
 pub mod Summaries
 pub mod Tallies
+pub mod Tries
 pub mod Written

@@ -10,8 +10,8 @@ use Rattle.pf_journal.specs.Weave.{Weave}
 use Rattle.pf_model.specs.Queries.{Readings}
 use Rattle.pf_client.specs.Replays.{HaveStopped, Held, why_by}
 
--- a tally counts the answers of a legal journal that is woven from one client's script
-pub record IsSummary (limits : Limits) (held : Held) (lines : List Numbered) (full : Bool) (t : Tally) : Type 0 where
+-- a tally counts the answers of a legal journal that is woven from one client's script, with failed tries of this kind
+pub record IsSummary (limits : Limits) (held : Held) (lines : List Numbered) (AreTries : List ℕ → Type 0) (full : Bool) (t : Tally) : Type 0 where
   pub journal : List Entry
   pub names : List (List ℕ)
   pub readings : Readings
@@ -20,4 +20,5 @@ pub record IsSummary (limits : Limits) (held : Held) (lines : List Numbered) (fu
   pub named : AreNames names journal
   pub woven : Weave (record { limits = limits; names = names; files = held; readings = readings }) journal (lines ∷ []) rest
   pub ended : HaveStopped (why_by full) rest.clients
+  pub tries : AreTries rest.failed
   pub whole : t ≡ tally_of limits (moments journal)

@@ -2,7 +2,7 @@
 
 ghost use Rattle.std.specs.BTreeMap.{get};
 ghost use Rattle.std.specs.Ordering.{nat_cmp};
-ghost use Rattle.std.specs.Prelude.{◌≡◌, ◌<◌, ◌++◌, ℕ, decimal, IfOk, List, None, OnOk, Some, is_some};
+ghost use Rattle.std.specs.Prelude.{◌≡◌, ◌<◌, ◌≤◌, ◌++◌, ℕ, decimal, IfOk, List, None, OnOk, Some, is_some};
 ghost use Rattle.pf_front.specs.Works.{IsIdle};
 ghost use Rattle.pf_journal.specs.Replies.{unanswered};
 ghost use Rattle.pf_journal.specs.Rest.{Known};
@@ -75,7 +75,9 @@ impl Client {
     ) -> Result<Option<Answered>, OutOfMemory>
         requires below { self.old.client < 16 }
         requires idle { IsIdle self.old.core self.old.client }
-        ensures grows { OnOk result (Grows self.old.core self.new.core) }
+        ensures grows { OnOk result (Grows (H.faults hop.old) (H.faults hop.new) self.old.core self.new.core) }
+        ensures risen { H.faults hop.old ≤ H.faults hop.new }
+        ensures most { H.most hop.new ≡ H.most hop.old }
         ensures step { IfOk result (λ answered. (known : Known) (above : List Ran) (hands : List Hand) (line : ℕ) → IsKnown known self.new.core → Each (λ e. e.client ≡ self.old.client) self.old.core.journal → IsAskAt known above (own_of self.old.client self.old.core) line query → HaveHands self.old hands → IsQueryAnswer known (naming (own_of self.old.client self.old.core) above hands (script.answer id.now line)) self.old (record { number = number; line = script.answer id.now line }) query (is_some answered) self.new) }
         ensures counted { IfOk result (λ answered. counted self.new.core ≡ with_answered (counted self.old.core) answered) }
         ensures slots { OnOk result (self.new.slots ≡ self.old.slots) }
@@ -168,7 +170,9 @@ impl Client {
     ) -> Result<Option<Answered>, OutOfMemory>
         requires below { self.old.client < 16 }
         requires idle { IsIdle self.old.core self.old.client }
-        ensures grows { OnOk result (Grows self.old.core self.new.core) }
+        ensures grows { OnOk result (Grows (H.faults hop.old) (H.faults hop.new) self.old.core self.new.core) }
+        ensures risen { H.faults hop.old ≤ H.faults hop.new }
+        ensures most { H.most hop.new ≡ H.most hop.old }
         ensures step { OnOk result ((known : Known) (above : List Ran) (hands : List Hand) → IsKnown known self.new.core → Each (λ e. e.client ≡ self.old.client) self.old.core.journal → SlotRight known above (own_of self.old.client self.old.core) asked (get nat_cmp self.old.slots asked) → (get nat_cmp self.old.slots asked ≡ None → ⊥) → HaveHands self.old hands → IsAnswerStep known (naming (own_of self.old.client self.old.core) above hands (script.answer id.now asked)) self.old (record { number = number; line = script.answer id.now asked }) asked self.new) }
         ensures counted { IfOk result (λ answered. counted self.new.core ≡ with_answered (counted self.old.core) answered) }
         ensures hands { OnOk result (self.new.hands ≡ self.old.hands) }

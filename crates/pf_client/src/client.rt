@@ -3,7 +3,7 @@
 ghost use Rattle.std.specs.Arc.{arc_value};
 ghost use Rattle.std.specs.BTreeMap.{get};
 ghost use Rattle.std.specs.Ordering.{nat_cmp};
-ghost use Rattle.std.specs.Prelude.{◌≡◌, ◌≤◌, ◌++◌, ◌∷◌, [], ℕ, codes, decimal, slice_get, IfOk, IfSome, IsSome, List, None, Ok, OnOk, Some, cond, length, nat_eq, nat_lt, ◌||◌, true};
+ghost use Rattle.std.specs.Prelude.{◌≡◌, ◌≤◌, ◌++◌, ◌∷◌, [], ℕ, codes, decimal, slice_get, IfOk, IfSome, IsSome, List, None, Ok, OnOk, Some, cond, length, map, nat_eq, nat_lt, sum_by, ◌||◌, true};
 ghost use Rattle.pf_base.specs.Limits.{greatest_time};
 ghost use Rattle.pf_block.specs.Snaps.{are_timed};
 ghost use Rattle.pf_core.specs.Cores.{Stands, machine_of};
@@ -197,7 +197,7 @@ impl Client {
     ) -> Result<LineRun, OutOfMemory>
         requires timed { are_timed batch.rows ≡ true }
         ensures runs { IfOk result (λ r. (known : Known) → Gives (known.files file.now) time batch → Runs known self.old (record { number = number; line = script.ingest tenant.now file.now time }) r self.new) }
-        ensures grows { OnOk result (Grows self.old.core self.new.core) }
+        ensures grows { OnOk result (Grows 0 0 self.old.core self.new.core) }
         ensures slots { OnOk result (self.new.slots ≡ self.old.slots) }
         ensures hands { OnOk result (self.new.hands ≡ self.old.hands) }
         ensures client { OnOk result (self.new.client ≡ self.old.client) }
@@ -241,7 +241,7 @@ impl Client {
         requires kept { IsKept files.old file.now }
         requires within { time ≤ greatest_time }
         ensures runs { IfOk result (λ r. (known : Known) → AreHeld known.files files.old → Runs known self.old (record { number = number; line = script.ingest tenant.now file.now time }) r self.new) }
-        ensures grows { OnOk result (Grows self.old.core self.new.core) }
+        ensures grows { OnOk result (Grows 0 0 self.old.core self.new.core) }
         ensures slots { OnOk result (self.new.slots ≡ self.old.slots) }
         ensures hands { OnOk result (self.new.hands ≡ self.old.hands) }
         ensures client { OnOk result (self.new.client ≡ self.old.client) }
@@ -290,7 +290,7 @@ impl Client {
         requires range { from ≤ to }
         requires within { to ≤ greatest_time }
         ensures runs { IfOk result (λ r. (known : Known) (selector : List ℕ) → IsSelector selector (arc_value matchers) → Runs known self.old (record { number = number; line = script.delete tenant.now from to selector }) r self.new) }
-        ensures grows { OnOk result (Grows self.old.core self.new.core) }
+        ensures grows { OnOk result (Grows 0 0 self.old.core self.new.core) }
         ensures slots { OnOk result (self.new.slots ≡ self.old.slots) }
         ensures hands { OnOk result (self.new.hands ≡ self.old.hands) }
         ensures client { OnOk result (self.new.client ≡ self.old.client) }
@@ -331,7 +331,7 @@ impl Client {
         requires right { AreReadAs queries.now }
         requires kept { IsTextKept queries.now selector.now }
         ensures runs { IfOk result (λ r. (known : Known) → Runs known self.old (record { number = number; line = script.delete tenant.now from to selector.now }) r self.new) }
-        ensures grows { OnOk result (Grows self.old.core self.new.core) }
+        ensures grows { OnOk result (Grows 0 0 self.old.core self.new.core) }
         ensures slots { OnOk result (self.new.slots ≡ self.old.slots) }
         ensures hands { OnOk result (self.new.hands ≡ self.old.hands) }
         ensures client { OnOk result (self.new.client ≡ self.old.client) }
@@ -411,7 +411,7 @@ impl Client {
     /// Plans a query that was just asked, unless the script has step lines. Where there is no memory for that, the query is stopped.
     fn plan_asked(&mut self, query: u64)
         requires { IsSome (open_at query (machine_of self.old.core).queries) }
-        ensures works { WorksOn self.old.core self.new.core }
+        ensures works { WorksOn 0 0 self.old.core self.new.core }
         ensures stands { Stands self.old.core → Stands self.new.core }
         ensures out { self.new.out ≡ self.old.out }
         ensures slots { self.new.slots ≡ self.old.slots }
@@ -432,7 +432,7 @@ impl Client {
         asked: Arc<Asked>,
     ) -> Result<LineRun, OutOfMemory>
         ensures runs { IfOk result (λ r. (known : Known) (line : script.Line) → AsksAs id.now tenant.now line → wanted_by known line ≡ Some (Ok (arc_value asked)) → AskRuns known self.old (record { number = number; line = line }) r self.new) }
-        ensures grows { OnOk result (Grows self.old.core self.new.core) }
+        ensures grows { OnOk result (Grows 0 0 self.old.core self.new.core) }
         ensures hands { OnOk result (self.new.hands ≡ self.old.hands) }
         ensures client { OnOk result (self.new.client ≡ self.old.client) }
     {
@@ -478,7 +478,7 @@ impl Client {
         requires kept { IsTextKept queries.now query.now }
         requires lawful { IsWhen when }
         ensures runs { IfOk result (λ r. (known : Known) (line : script.Line) → AsksAs id.now tenant.now line → known.readings ≡ readings_in queries.now → wanted_by known line ≡ asked_with (is_instant when) (Ok (grid_in when)) (known.readings query.now) → AskRuns known self.old (record { number = number; line = line }) r self.new) }
-        ensures grows { OnOk result (Grows self.old.core self.new.core) }
+        ensures grows { OnOk result (Grows 0 0 self.old.core self.new.core) }
         ensures hands { OnOk result (self.new.hands ≡ self.old.hands) }
         ensures client { OnOk result (self.new.client ≡ self.old.client) }
     {
@@ -515,7 +515,7 @@ impl Client {
         requires right { AreReadAs queries.now }
         requires kept { IsTextKept queries.now query.now }
         ensures runs { IfOk result (λ r. (known : Known) → known.readings ≡ readings_in queries.now → AskRuns known self.old (record { number = number; line = script.ask id.now tenant.now start end step query.now }) r self.new) }
-        ensures grows { OnOk result (Grows self.old.core self.new.core) }
+        ensures grows { OnOk result (Grows 0 0 self.old.core self.new.core) }
         ensures hands { OnOk result (self.new.hands ≡ self.old.hands) }
         ensures client { OnOk result (self.new.client ≡ self.old.client) }
     {
@@ -541,7 +541,7 @@ impl Client {
         requires right { AreReadAs queries.now }
         requires kept { IsTextKept queries.now query.now }
         ensures runs { IfOk result (λ r. (known : Known) → known.readings ≡ readings_in queries.now → AskRuns known self.old (record { number = number; line = script.instant id.now tenant.now time query.now }) r self.new) }
-        ensures grows { OnOk result (Grows self.old.core self.new.core) }
+        ensures grows { OnOk result (Grows 0 0 self.old.core self.new.core) }
         ensures hands { OnOk result (self.new.hands ≡ self.old.hands) }
         ensures client { OnOk result (self.new.client ≡ self.old.client) }
     {
@@ -578,7 +578,7 @@ impl Client {
         query: u64,
         tenant: &Tenant,
     ) -> Result<(), OutOfMemory>
-        ensures grows { OnOk result (Grows self.old.core self.new.core) }
+        ensures grows { OnOk result (Grows 0 0 self.old.core self.new.core) }
         ensures step { OnOk result ((known : Known) (above : List Ran) (hands : List Hand) (line : ℕ) → IsKnown known self.new.core → Each (λ e. e.client ≡ self.old.client) self.old.core.journal → IsAskAt known above (own_of self.old.client self.old.core) line query → IsStep known (naming (own_of self.old.client self.old.core) above hands (script.cancel id.now line tenant.now)) self.old (record { number = number; line = script.cancel id.now line tenant.now }) On self.new) }
         ensures slots { OnOk result (self.new.slots ≡ self.old.slots) }
         ensures hands { OnOk result (self.new.hands ≡ self.old.hands) }
@@ -611,7 +611,7 @@ impl Client {
         asked: u32,
         tenant: &Tenant,
     ) -> Result<(), OutOfMemory>
-        ensures grows { OnOk result (Grows self.old.core self.new.core) }
+        ensures grows { OnOk result (Grows 0 0 self.old.core self.new.core) }
         ensures step { OnOk result ((known : Known) (above : List Ran) (hands : List Hand) → IsKnown known self.new.core → Each (λ e. e.client ≡ self.old.client) self.old.core.journal → SlotRight known above (own_of self.old.client self.old.core) asked (get nat_cmp self.old.slots asked) → IsStep known (naming (own_of self.old.client self.old.core) above hands (script.cancel id.now asked tenant.now)) self.old (record { number = number; line = script.cancel id.now asked tenant.now }) On self.new) }
         ensures slots { OnOk result (self.new.slots ≡ self.old.slots) }
         ensures hands { OnOk result (self.new.hands ≡ self.old.hands) }
@@ -644,7 +644,9 @@ impl Client {
         ensures holds { OnOk result (HoldsJobs self.new) }
         ensures client { OnOk result (self.new.client ≡ self.old.client) }
         ensures runs { IfOk result (λ r. GoesOnWith loaded.old self.old (numbered_of line.now) r self.new) }
-        ensures grows { OnOk result (Grows self.old.core self.new.core) }
+        ensures grows { OnOk result (Grows (sum_by H.faults hops.old) (sum_by H.faults hops.new) self.old.core self.new.core) }
+        ensures risen { sum_by H.faults hops.old ≤ sum_by H.faults hops.new }
+        ensures most { map H.most hops.new ≡ map H.most hops.old }
         ensures counted { OnOk result (CountsNothing loaded.old self.old (numbered_of line.now) self.new) }
         ensures files { OnOk result (LetsGoOf loaded.old.files (file_of (numbered_of line.now).line) line.now.number loaded.new.files) }
         ensures queries { loaded.new.queries ≡ loaded.old.queries }

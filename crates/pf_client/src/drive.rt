@@ -1,8 +1,9 @@
 //! The run of a script.
 
-ghost use Rattle.std.specs.Prelude.{◌≡◌, ◌≢◌, ◌<◌, ◌≤◌, ℕ, Err, IfOk, List, None, OnErr, OnOk, [], length, replicate};
+ghost use Rattle.std.specs.Prelude.{◌≡◌, ◌≢◌, ◌<◌, ◌≤◌, ℕ, Err, IfOk, List, None, OnErr, OnOk, [], length, map, replicate, sum, sum_by};
 ghost use Rattle.pf_base.specs.declared.plain.Limits.{Limits as LimitsData};
 ghost use Rattle.pf_core.specs.Cores.{AreLimits, Stands};
+ghost use Rattle.pf_front.specs.Works.{AreCarried};
 ghost use Rattle.pf_io.specs.Outside.{Grows, Rose};
 ghost use Rattle.pf_journal.specs.Scripts.{Numbered};
 ghost use Rattle.pf_journal.specs.Summaries.{nothing_counted};
@@ -13,6 +14,7 @@ ghost use Rattle.pf_client.specs.Going.{HasStopped, IsGoing};
 ghost use Rattle.pf_client.specs.Hands.{HoldsJobs};
 ghost use Rattle.pf_client.specs.Replays.{why_by};
 ghost use Rattle.pf_client.specs.Tallies.{IsCounted};
+ghost use Rattle.pf_client.specs.Tries.{HaveCause};
 ghost use Rattle.pf_client.specs.Sent.{WritesFront, WritesTo};
 ghost use Rattle.pf_client.specs.Written.{Begins, Writes, WritesPart};
 ghost use Rattle.pf_client.specs.declared.loaded.Loaded.{Loaded as LoadedData};
@@ -55,6 +57,7 @@ pub(crate) fn client_of(
     ensures going { IfOk result (λ c. (loaded : LoadedData) (lines : List Numbered) → IsGoing loaded limits lines 0 [] c) }
     ensures holds { IfOk result HoldsJobs }
     ensures counted { IfOk result (λ c. (loaded : LoadedData) → IsCounted loaded nothing_counted c) }
+    ensures untried { IfOk result (λ c. sum c.core.failed ≡ 0) }
 {
     let mut out = Vec::new(alloc);
     push_client(&mut out, client)?;
@@ -88,7 +91,10 @@ fn run_lines<O: Sink, H: Hop, G: Gate>(
     ensures stopped { IfOk result (λ r. (limits : LimitsData) → IsGoing loaded.old limits (lines_of script.now) 0 [] client.old
         → (sent : List ℕ) × (Grows (O.told out.old) (O.told out.new) sent × HasStopped loaded.old limits (lines_of script.now) (why_of r) sent client.new)) }
     ensures broken { OnErr result ((limits : LimitsData) → IsGoing loaded.old limits (lines_of script.now) 0 [] client.old
-        → BreaksOff client.old.client loaded.old limits (lines_of script.now) (O.told out.old) (O.told out.new)) }
+        → BreaksOff client.old.client loaded.old limits (lines_of script.now) (AreCarried (sum_by H.faults hops.old) (sum_by H.faults hops.new) client.old.core) (O.told out.old) (O.told out.new)) }
+    ensures carried { OnOk result (AreCarried (sum_by H.faults hops.old) (sum_by H.faults hops.new) client.old.core client.new.core) }
+    ensures risen { sum_by H.faults hops.old ≤ sum_by H.faults hops.new }
+    ensures most { map H.most hops.new ≡ map H.most hops.old }
     ensures fault { result ≡ Err ReportError.WriteFault → Rose (O.faults out.old) (O.faults out.new) }
     ensures steady { result ≢ Err ReportError.WriteFault → O.faults out.new ≡ O.faults out.old }
 {
@@ -163,9 +169,11 @@ pub fn run_script<O: Sink, H: Hop, G: Gate>(
     requires limits { AreLimits limits }
     requires actors { length hops.old ≡ 32 }
     requires can_run { CanRun script.now 0 loaded }
-    ensures written { IfOk result (λ full. (held : List ℕ → List ℕ) → AreHeld held loaded.files → Writes (IsReport limits held (lines_of script.now) (why_by full)) (O.told out.old) (O.told out.new)) }
-    ensures begun { result ≡ Err ReportError.OutOfMemory → (held : List ℕ → List ℕ) → AreHeld held loaded.files → Begins (IsAnyReport limits held (lines_of script.now)) (O.told out.old) (O.told out.new) }
-    ensures broken { result ≡ Err ReportError.WriteFault → (held : List ℕ → List ℕ) → AreHeld held loaded.files → WritesPart (IsAnyReport limits held (lines_of script.now)) (O.told out.old) (O.told out.new) }
+    ensures written { IfOk result (λ full. (held : List ℕ → List ℕ) → AreHeld held loaded.files → Writes (IsReport limits held (lines_of script.now) (HaveCause (map H.most hops.old) (sum_by H.faults hops.old) (sum_by H.faults hops.new)) (why_by full)) (O.told out.old) (O.told out.new)) }
+    ensures begun { result ≡ Err ReportError.OutOfMemory → (held : List ℕ → List ℕ) → AreHeld held loaded.files → Begins (IsAnyReport limits held (lines_of script.now) (HaveCause (map H.most hops.old) (sum_by H.faults hops.old) (sum_by H.faults hops.new))) (O.told out.old) (O.told out.new) }
+    ensures broken { result ≡ Err ReportError.WriteFault → (held : List ℕ → List ℕ) → AreHeld held loaded.files → WritesPart (IsAnyReport limits held (lines_of script.now) (HaveCause (map H.most hops.old) (sum_by H.faults hops.old) (sum_by H.faults hops.new))) (O.told out.old) (O.told out.new) }
+    ensures risen { sum_by H.faults hops.old ≤ sum_by H.faults hops.new }
+    ensures most { map H.most hops.new ≡ map H.most hops.old }
     ensures fault { result ≡ Err ReportError.WriteFault → Rose (O.faults out.old) (O.faults out.new) }
     ensures steady { result ≢ Err ReportError.WriteFault → O.faults out.new ≡ O.faults out.old }
 {

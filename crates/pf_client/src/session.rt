@@ -1,8 +1,9 @@
 //! The run of a session, whose answers are counted.
 
-ghost use Rattle.std.specs.Prelude.{◌≡◌, ℕ, IfOk, List, OnOk, [], count_by, length};
+ghost use Rattle.std.specs.Prelude.{◌≡◌, ◌≤◌, ℕ, IfOk, List, OnOk, [], count_by, length, map, sum_by};
 ghost use Rattle.pf_base.specs.declared.plain.Limits.{Limits as LimitsData};
 ghost use Rattle.pf_core.specs.Cores.{AreLimits};
+ghost use Rattle.pf_front.specs.Works.{AreCarried};
 ghost use Rattle.pf_journal.specs.Summaries.{asks, is_ask, nothing_counted};
 ghost use Rattle.pf_script.specs.Lines.{line_of, lines_of, numbered_of};
 ghost use Rattle.pf_client.specs.Drives.{CanRun};
@@ -11,6 +12,7 @@ ghost use Rattle.pf_client.specs.Going.{GoesOnWith, HasStopped, IsGoing, IsReady
 ghost use Rattle.pf_client.specs.Hands.{HoldsJobs};
 ghost use Rattle.pf_client.specs.Replays.{file_of, why_by};
 ghost use Rattle.pf_client.specs.Summaries.{IsSummary};
+ghost use Rattle.pf_client.specs.Tries.{HaveCause};
 ghost use Rattle.pf_client.specs.Tallies.{Counts, IsCounted, with_answered};
 
 use crate::answers::Answered;
@@ -51,6 +53,9 @@ fn run_counted<H: Hop, G: Gate>(
     ensures counted { OnOk result (Counts loaded.old client.old (numbered_of line.now) tally.old client.new tally.new) }
     ensures files { OnOk result (LetsGoOf loaded.old.files (file_of (numbered_of line.now).line) line.now.number loaded.new.files) }
     ensures queries { loaded.new.queries ≡ loaded.old.queries }
+    ensures carried { OnOk result (AreCarried (sum_by H.faults hops.old) (sum_by H.faults hops.new) client.old.core client.new.core) }
+    ensures risen { sum_by H.faults hops.old ≤ sum_by H.faults hops.new }
+    ensures most { map H.most hops.new ≡ map H.most hops.old }
     ensures actors { length hops.new ≡ 32 }
 {
     match &line.line {
@@ -89,6 +94,9 @@ fn run_lines_counted<H: Hop, G: Gate>(
     requires actors { length hops.old ≡ 32 }
     requires holds { HoldsJobs client.old }
     ensures client { OnOk result (client.new.client ≡ client.old.client) }
+    ensures carried { OnOk result (AreCarried (sum_by H.faults hops.old) (sum_by H.faults hops.new) client.old.core client.new.core) }
+    ensures risen { sum_by H.faults hops.old ≤ sum_by H.faults hops.new }
+    ensures most { map H.most hops.new ≡ map H.most hops.old }
     ensures ended { IfOk result (λ e. (limits : LimitsData) → IsGoing loaded.old limits (lines_of script.now) 0 [] client.old → IsCounted loaded.old nothing_counted client.old
         → ((sent : List ℕ) × HasStopped loaded.old limits (lines_of script.now) (why_by e.full) sent client.new) × IsCounted loaded.old e.tally client.new) }
 {
@@ -154,7 +162,9 @@ pub fn run_session<H: Hop, G: Gate>(
     requires actors { length hops.old ≡ 32 }
     requires can_run { CanRun script.now 0 loaded }
     ensures queries { IfOk result (λ s. s.queries ≡ asks (lines_of script.now)) }
-    ensures summary { IfOk result (λ s. (held : List ℕ → List ℕ) → AreHeld held loaded.files → IsSummary limits held (lines_of script.now) s.full s.tally) }
+    ensures summary { IfOk result (λ s. (held : List ℕ → List ℕ) → AreHeld held loaded.files → IsSummary limits held (lines_of script.now) (HaveCause (map H.most hops.old) (sum_by H.faults hops.old) (sum_by H.faults hops.new)) s.full s.tally) }
+    ensures risen { sum_by H.faults hops.old ≤ sum_by H.faults hops.new }
+    ensures most { map H.most hops.new ≡ map H.most hops.old }
 {
     let _lines = script.lines.len();
     let mut client = client_of(alloc, limits, 0, script.is_stepped())?;

@@ -76,7 +76,7 @@ fn keep_reply(keeping: Keeping) -> KeepReply
 impl Client {
     /// Plans a query that is open, and refuses another.
     fn plan_query(&mut self, query: u64) -> PlanReply
-        ensures works { WorksOn self.old.core self.new.core }
+        ensures works { WorksOn 0 0 self.old.core self.new.core }
         ensures refused { plan_of result ≡ plan_refused → open_at query (machine_of self.old.core).queries ≡ None }
         ensures stands { Stands self.new.core }
         ensures out { self.new.out ≡ self.old.out }
@@ -99,7 +99,7 @@ impl Client {
 
     /// Runs the `plan` of the ask of a line. Where there is no memory for it, the query is stopped.
     pub fn plan(&mut self, number: u32, id: &Text, asked: u32) -> Result<(), OutOfMemory>
-        ensures grows { OnOk result (Grows self.old.core self.new.core) }
+        ensures grows { OnOk result (Grows 0 0 self.old.core self.new.core) }
         ensures step { OnOk result ((known : Known) (above : List Ran) (hands : List Hand) → IsKnown known self.new.core → Each (λ e. e.client ≡ self.old.client) self.old.core.journal → SlotRight known above (own_of self.old.client self.old.core) asked (get nat_cmp self.old.slots asked) → (get nat_cmp self.old.slots asked ≡ None → ⊥) → IsStep known (naming (own_of self.old.client self.old.core) above hands (script.plan id.now asked)) self.old (record { number = number; line = script.plan id.now asked }) On self.new) }
         ensures slots { OnOk result (self.new.slots ≡ self.old.slots) }
         ensures hands { OnOk result (self.new.hands ≡ self.old.hands) }
@@ -116,7 +116,7 @@ impl Client {
 
     /// Keeps the steps of a query that is open, and refuses another.
     fn keep_query(&mut self, query: u64) -> KeepReply
-        ensures works { WorksOn self.old.core self.new.core }
+        ensures works { WorksOn 0 0 self.old.core self.new.core }
         ensures refused { keep_of result ≡ keep_refused → open_at query (machine_of self.old.core).queries ≡ None }
         ensures stands { Stands self.new.core }
         ensures out { self.new.out ≡ self.old.out }
@@ -132,7 +132,7 @@ impl Client {
 
     /// Runs the `keep` of the ask of a line. Where there is no memory to gather its query's steps, the query is stopped.
     pub fn keep(&mut self, number: u32, id: &Text, asked: u32) -> Result<(), OutOfMemory>
-        ensures grows { OnOk result (Grows self.old.core self.new.core) }
+        ensures grows { OnOk result (Grows 0 0 self.old.core self.new.core) }
         ensures step { OnOk result ((known : Known) (above : List Ran) (hands : List Hand) → IsKnown known self.new.core → Each (λ e. e.client ≡ self.old.client) self.old.core.journal → SlotRight known above (own_of self.old.client self.old.core) asked (get nat_cmp self.old.slots asked) → (get nat_cmp self.old.slots asked ≡ None → ⊥) → IsStep known (naming (own_of self.old.client self.old.core) above hands (script.keep id.now asked)) self.old (record { number = number; line = script.keep id.now asked }) On self.new) }
         ensures slots { OnOk result (self.new.slots ≡ self.old.slots) }
         ensures hands { OnOk result (self.new.hands ≡ self.old.hands) }
@@ -178,7 +178,7 @@ impl Client {
         requires worker { worker ≤ 15 }
         requires holds { HoldsJobs self.old }
         ensures holds { OnOk result (HoldsJobs self.new) }
-        ensures grows { OnOk result (Grows self.old.core self.new.core) }
+        ensures grows { OnOk result (Grows 0 0 self.old.core self.new.core) }
         ensures step { OnOk result ((known : Known) (above : List Ran) (hands : List Hand) → IsKnown known self.new.core → Each (λ e. e.client ≡ self.old.client) self.old.core.journal → AreAsked self.old.client known above self.old.core → HaveHands self.old hands → IsStep known (naming (own_of self.old.client self.old.core) above hands (script.take worker)) self.old (record { number = number; line = script.take worker }) On self.new) }
         ensures slots { OnOk result (self.new.slots ≡ self.old.slots) }
         ensures client { OnOk result (self.new.client ≡ self.old.client) }
@@ -203,7 +203,9 @@ impl Client {
         requires worker { worker ≤ 15 }
         requires holds { HoldsJobs self.old }
         ensures holds { OnOk result (HoldsJobs self.new) }
-        ensures grows { OnOk result (Grows self.old.core self.new.core) }
+        ensures grows { OnOk result (Grows (H.faults hop.old) (H.faults hop.new) self.old.core self.new.core) }
+        ensures risen { H.faults hop.old ≤ H.faults hop.new }
+        ensures most { H.most hop.new ≡ H.most hop.old }
         ensures step { OnOk result ((known : Known) (above : List Ran) (hands : List Hand) → IsKnown known self.new.core → HaveHands self.old hands → IsStep known (naming (own_of self.old.client self.old.core) above hands (script.done worker)) self.old (record { number = number; line = script.done worker }) On self.new) }
         ensures slots { OnOk result (self.new.slots ≡ self.old.slots) }
         ensures client { OnOk result (self.new.client ≡ self.old.client) }

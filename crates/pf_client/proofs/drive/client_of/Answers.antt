@@ -1,6 +1,7 @@
 use Rattle.std.proofs.Common.{rules}
 use Rattle.pf_client.proofs.Reports.{begins, begins_holds}
 use Rattle.pf_client.proofs.Tallying.{counted_first}
+use Rattle.pf_client.proofs.Tries.{none_failed}
 use Rattle.pf_client.proofs.drive.client_of.Goals as goal
 
 pub returns-clause-going : goal.returns-clause-going
@@ -11,3 +12,6 @@ returns-clause-holds c = begins_holds c.args.limits _ (search rules) (search rul
 
 pub returns-clause-counted : goal.returns-clause-counted
 returns-clause-counted c = λ loaded known told kn. counted_first c.args.limits c.in_ok-core.core (search rules)
+
+pub returns-clause-untried : goal.returns-clause-untried
+returns-clause-untried c = none_failed c.args.limits c.in_ok-core.core (search rules)

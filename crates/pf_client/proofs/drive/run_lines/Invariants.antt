@@ -1,4 +1,5 @@
-use Rattle.std.specs.Prelude.{◌≡◌, length}
+use Rattle.std.specs.Prelude.{◌≡◌, ◌≤◌, length, map, sum_by}
+use Rattle.pf_front.specs.Works.{AreCarried}
 use Rattle.pf_script.specs.Lines.{lines_of}
 use Rattle.pf_client.proofs.Sending.{Sends}
 use Rattle.pf_client.specs.Drives.{CanRun}
@@ -15,4 +16,7 @@ invariant-loop-line g l = record {
   client : l.client.client ≡ l.fn.client.client;
   actors : length l.hops ≡ 32;
   steady : g.O.Sink.faults l.out ≡ g.O.Sink.faults l.fn.out;
+  carried : AreCarried (sum_by g.H.Hop.faults l.fn.hops) (sum_by g.H.Hop.faults l.hops) l.fn.client.core l.client.core;
+  risen : sum_by g.H.Hop.faults l.fn.hops ≤ sum_by g.H.Hop.faults l.hops;
+  most : map g.H.Hop.most l.hops ≡ map g.H.Hop.most l.fn.hops;
 }

@@ -1,9 +1,11 @@
-use Rattle.std.proofs.Common.{rules, refl, [], ◌++◌, ◌+◌, ◌∙◌, subst, sym}
+use Rattle.std.proofs.Common.{arith, rules, refl, [], ◌++◌, ◌+◌, ◌∙◌, subst, sym}
+use Rattle.std.specs.Prelude.{sum_by}
 use Rattle.pf_script.specs.Lines.{lines_of, numbered_of}
 use Rattle.pf_client.specs.Replays.{file_of}
 use Rattle.pf_client.specs.Going.{GoesOn}
 use Rattle.pf_client.proofs.Runs.{ends, follows, part_on, ready, runs_on, there}
 use Rattle.pf_client.proofs.Sending.{all_sent, going_sent, holds_sent}
+use Rattle.pf_client.proofs.Tries.{carried_on, none_carried}
 use Rattle.pf_client.proofs.session.run_lines_counted.Goals as goal
 
 pub loop-line-init : goal.loop-line-init
@@ -15,6 +17,9 @@ loop-line-init g c = record {
   holds = c.requires.holds;
   client = refl;
   actors = c.requires.actors;
+  carried = none_carried (sum_by g.H.Hop.faults c.args.hops.now) c.args.client.now.core;
+  risen = omega arith;
+  most = refl;
 }
 
 pub run_counted-requires-clause-ready : goal.run_counted-requires-clause-ready
@@ -61,6 +66,10 @@ loop-line-preserved g c =
       holds = holds_sent c.run_counted.new.client c.clear.new.self (search rules);
       client = search rules;
       actors = search rules;
+      carried = carried_on (sum_by g.H.Hop.faults c.args.hops.now) (sum_by g.H.Hop.faults c.loop-line.hops) (sum_by g.H.Hop.faults c.run_counted.new.hops) c.args.client.now.core c.loop-line.client.core c.run_counted.new.client.core c.run_counted.ensures.risen
+          c.loop-line.invariant.carried c.in_ok-run_counted.ensures.carried;
+      risen = let a = c.loop-line.invariant.risen in let b = c.run_counted.ensures.risen in omega (arith, a, b);
+      most = c.run_counted.ensures.most ∙ c.loop-line.invariant.most;
     }
 
 pub returns-clause-ended : goal.returns-clause-ended
@@ -69,3 +78,8 @@ returns-clause-ended g c = λ limits g k.
       (s.0, ends c.args.script.now c.args.loaded.now limits c.loop-line.line-index s.0 c.loop-line.client (search rules) s.1),
       c.loop-line.invariant.counted limits g k,
     )
+
+pub returns-in-Full-clause-carried : goal.returns-in-Full-clause-carried
+returns-in-Full-clause-carried g c =
+    carried_on (sum_by g.H.Hop.faults c.args.hops.now) (sum_by g.H.Hop.faults c.loop-line.hops) (sum_by g.H.Hop.faults c.run_counted.new.hops) c.args.client.now.core c.loop-line.client.core c.run_counted.new.client.core c.run_counted.ensures.risen
+    c.loop-line.invariant.carried c.in_ok-run_counted.ensures.carried

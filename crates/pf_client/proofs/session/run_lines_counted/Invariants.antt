@@ -1,6 +1,7 @@
-use Rattle.std.specs.Prelude.{◌≡◌, [], ℕ, List, length}
+use Rattle.std.specs.Prelude.{◌≡◌, ◌≤◌, [], ℕ, List, length, map, sum_by}
 use Rattle.pf_base.specs.declared.plain.Limits.{Limits}
 use Rattle.pf_journal.specs.Summaries.{nothing_counted}
+use Rattle.pf_front.specs.Works.{AreCarried}
 use Rattle.pf_script.specs.Lines.{lines_of}
 use Rattle.pf_client.specs.Drives.{CanRun}
 use Rattle.pf_client.specs.Going.{IsGoing}
@@ -18,4 +19,7 @@ invariant-loop-line g l = record {
   holds : HoldsJobs l.client;
   client : l.client.client ≡ l.fn.client.client;
   actors : length l.hops ≡ 32;
+  carried : AreCarried (sum_by g.H.Hop.faults l.fn.hops) (sum_by g.H.Hop.faults l.hops) l.fn.client.core l.client.core;
+  risen : sum_by g.H.Hop.faults l.fn.hops ≤ sum_by g.H.Hop.faults l.hops;
+  most : map g.H.Hop.most l.hops ≡ map g.H.Hop.most l.fn.hops;
 }

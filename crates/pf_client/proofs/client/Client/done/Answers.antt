@@ -53,7 +53,7 @@ returns-clause-grows g c =
     let there = at_worker c.args.self.now.hands.items c.args.worker c.index_mut.result.now inside c.index_mut.ensures.value ∙ got in
     let holds = c.requires.holds.stands c.args.worker c.in-Some.held there in
     on_ok_all _ c.push_done_reply-2.result
-    (grows_worked c.args.self.now.core c.work-worked.new.core c.in-Some.held _ _ c.work-worked.result holds.0 c.work-worked.ensures.worked (λ client below. c.work-worked.ensures.idle client))
+    (grows_worked c.args.self.now.core c.work-worked.new.core c.in-Some.held _ _ c.work-worked.result holds.0 c.work-worked.ensures.worked (λ client below. c.work-worked.ensures.idle client) c.work-worked.ensures.carried)
 
 pub returns-clause-holds : goal.returns-clause-holds
 returns-clause-holds g c =
@@ -65,7 +65,7 @@ returns-clause-holds g c =
     let holds = c.requires.holds.stands c.args.worker c.in-Some.held there in
     on_ok_all _ c.push_done_reply-2.result
     (holds_dropped c.args.self.now (record c.args.self.now { core = c.work-worked.new.core; hands = with_item c.args.self.now.hands c.args.worker c.replace.new.dest; out = c.push_done_reply-2.new.out }) c.args.worker refl
-    (grows_worked c.args.self.now.core c.work-worked.new.core c.in-Some.held _ _ c.work-worked.result holds.0 c.work-worked.ensures.worked (λ client below. c.work-worked.ensures.idle client))
+    (grows_worked c.args.self.now.core c.work-worked.new.core c.in-Some.held _ _ c.work-worked.result holds.0 c.work-worked.ensures.worked (λ client below. c.work-worked.ensures.idle client) c.work-worked.ensures.carried)
     (ap (slice_set c.args.self.now.hands.items c.args.worker) c.replace.ensures.after) low c.requires.holds)
 
 pub returns-in_default-clause-step : goal.returns-in_default-clause-step
@@ -93,4 +93,4 @@ returns-in_default-clause-holds g c =
     let vacant = at_worker c.args.self.now.hands.items c.args.worker c.index_mut.result.now inside c.index_mut.ensures.value ∙ got in
     let same = ap (slice_set c.args.self.now.hands.items c.args.worker) c.replace.ensures.after ∙ none_set c.args.self.now.hands.items c.args.worker c.index_mut.result.now inside c.index_mut.ensures.value got in
     on_ok_all _ c.push_done_reply.result
-    (holds_same c.args.self.now (record c.args.self.now { hands = with_item c.args.self.now.hands c.args.worker c.replace.new.dest; out = c.push_done_reply.new.out }) refl (grows_same c.args.self.now.core c.args.self.now.core refl) same c.requires.holds)
+    (holds_same c.args.self.now (record c.args.self.now { hands = with_item c.args.self.now.hands c.args.worker c.replace.new.dest; out = c.push_done_reply.new.out }) refl (grows_same {count = 0} c.args.self.now.core c.args.self.now.core refl) same c.requires.holds)

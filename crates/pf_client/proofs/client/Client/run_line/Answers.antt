@@ -1,4 +1,5 @@
-use Rattle.std.proofs.Common.{rules, refl, subst, sym, ℕ, IfOk, OnOk}
+use Rattle.std.proofs.Common.{rules, refl, subst, sym, ◌+◌, ℕ, IfOk, OnOk}
+use Rattle.std.proofs.Math.Seq.{map-set_same}
 use Rattle.pf_journal.specs.Scripts.{Numbered}
 use Rattle.pf_script.specs.Lines.{line_of}
 use Rattle.pf_script.specs.declared.script.Line.{Line}
@@ -42,19 +43,19 @@ returns-in-Instant-clause-runs g c =
 pub returns-in_ok-cancel-in-Cancel-clause-runs : goal.returns-in_ok-cancel-in-Cancel-clause-runs
 returns-in_ok-cancel-in-Cancel-clause-runs g c =
     subst (λ (l : Line). GoesOnWith c.args.loaded.now c.args.self.now (numbered c.args.line.now.number l) run.On c.cancel.new.self) (sym c.in-Cancel.is)
-    (λ first part. quiet_goes first c.args.self.now c.cancel.new.self _ (search rules) (search rules) tt (λ id a. a)
+    (λ first part. quiet_goes first c.args.self.now c.cancel.new.self _ (search rules) c.in_ok-cancel-in-Cancel.ensures.grows tt (λ id a. a)
     (λ known above hands done k alone have kept hs follows.
     c.in_ok-cancel-in-Cancel.ensures.step known above hands k alone (have.right c.in-Cancel.asked _ follows.names)) (search rules))
 
 pub returns-in_ok-answer-in-Answer-clause-runs : goal.returns-in_ok-answer-in-Answer-clause-runs
 returns-in_ok-answer-in-Answer-clause-runs g c =
     subst (λ (l : Line). GoesOnWith c.args.loaded.now c.args.self.now (numbered c.args.line.now.number l) run.On c.answer.new.self) (sym c.in-Answer.is)
-    (λ first part. answer_goes first c.args.self.now c.answer.new.self _ c.in-Answer.asked _ (search rules) (search rules) c.in_ok-answer-in-Answer.ensures.step)
+    (λ first part. answer_goes first c.args.self.now c.answer.new.self _ c.in-Answer.asked _ (search rules) c.in_ok-answer-in-Answer.ensures.grows c.in_ok-answer-in-Answer.ensures.step)
 
 pub returns-in_ok-plan-in-Plan-clause-runs : goal.returns-in_ok-plan-in-Plan-clause-runs
 returns-in_ok-plan-in-Plan-clause-runs g c =
     subst (λ (l : Line). GoesOnWith c.args.loaded.now c.args.self.now (numbered c.args.line.now.number l) run.On c.plan.new.self) (sym c.in-Plan.is)
-    (λ first part. quiet_goes first c.args.self.now c.plan.new.self _ (search rules) (search rules) tt (λ id a. a)
+    (λ first part. quiet_goes first c.args.self.now c.plan.new.self _ (search rules) c.in_ok-plan-in-Plan.ensures.grows tt (λ id a. a)
     (λ known above hands done k alone have kept hs follows.
     c.in_ok-plan-in-Plan.ensures.step known above hands k alone (have.right c.in-Plan.asked _ follows.names)
     (have.kept c.in-Plan.asked _ follows.names follows.is_open)) (search rules))
@@ -62,7 +63,7 @@ returns-in_ok-plan-in-Plan-clause-runs g c =
 pub returns-in_ok-keep-in-Keep-clause-runs : goal.returns-in_ok-keep-in-Keep-clause-runs
 returns-in_ok-keep-in-Keep-clause-runs g c =
     subst (λ (l : Line). GoesOnWith c.args.loaded.now c.args.self.now (numbered c.args.line.now.number l) run.On c.keep.new.self) (sym c.in-Keep.is)
-    (λ first part. quiet_goes first c.args.self.now c.keep.new.self _ (search rules) (search rules) tt (λ id a. a)
+    (λ first part. quiet_goes first c.args.self.now c.keep.new.self _ (search rules) c.in_ok-keep-in-Keep.ensures.grows tt (λ id a. a)
     (λ known above hands done k alone have kept hs follows.
     c.in_ok-keep-in-Keep.ensures.step known above hands k alone (have.right c.in-Keep.asked _ follows.names)
     (have.kept c.in-Keep.asked _ follows.names follows.is_open.0)) (search rules))
@@ -70,14 +71,14 @@ returns-in_ok-keep-in-Keep-clause-runs g c =
 pub returns-in_ok-take-in-Take-clause-runs : goal.returns-in_ok-take-in-Take-clause-runs
 returns-in_ok-take-in-Take-clause-runs g c =
     subst (λ (l : Line). GoesOnWith c.args.loaded.now c.args.self.now (numbered c.args.line.now.number l) run.On c.take.new.self) (sym c.in-Take.is)
-    (λ first part. quiet_goes first c.args.self.now c.take.new.self _ (search rules) (search rules) tt (λ id a. a)
+    (λ first part. quiet_goes first c.args.self.now c.take.new.self _ (search rules) c.in_ok-take-in-Take.ensures.grows tt (λ id a. a)
     (λ known above hands done k alone have kept hs follows.
     c.in_ok-take-in-Take.ensures.step known above hands k alone (asked_all c.args.self.now.client known above c.args.self.now.core _ done c.args.self.now.slots have kept) hs) (search rules))
 
 pub returns-in_ok-done-in-Done-clause-runs : goal.returns-in_ok-done-in-Done-clause-runs
 returns-in_ok-done-in-Done-clause-runs g c =
     subst (λ (l : Line). GoesOnWith c.args.loaded.now c.args.self.now (numbered c.args.line.now.number l) run.On c.done.new.self) (sym c.in-Done.is)
-    (λ first part. quiet_goes first c.args.self.now c.done.new.self _ (search rules) (search rules) tt (λ id a. a)
+    (λ first part. quiet_goes first c.args.self.now c.done.new.self _ (search rules) c.in_ok-done-in-Done.ensures.grows tt (λ id a. a)
     (λ known above hands done k alone have kept hs follows. c.in_ok-done-in-Done.ensures.step known above hands k hs) (search rules))
 
 pub returns-in-Ingest-clause-holds : goal.returns-in-Ingest-clause-holds
@@ -93,16 +94,16 @@ pub returns-in-Instant-clause-holds : goal.returns-in-Instant-clause-holds
 returns-in-Instant-clause-holds g c = holds_if c.args.self.now c.instant.new.self c.instant.result c.instant.ensures.client c.instant.ensures.grows c.instant.ensures.hands c.requires.holds
 
 pub returns-in_ok-cancel-in-Cancel-clause-holds : goal.returns-in_ok-cancel-in-Cancel-clause-holds
-returns-in_ok-cancel-in-Cancel-clause-holds g c = holds_on c.args.self.now c.cancel.new.self (search rules) (search rules) (search rules) c.requires.holds
+returns-in_ok-cancel-in-Cancel-clause-holds g c = holds_on c.args.self.now c.cancel.new.self (search rules) c.in_ok-cancel-in-Cancel.ensures.grows (search rules) c.requires.holds
 
 pub returns-in_ok-answer-in-Answer-clause-holds : goal.returns-in_ok-answer-in-Answer-clause-holds
-returns-in_ok-answer-in-Answer-clause-holds g c = holds_on c.args.self.now c.answer.new.self (search rules) (search rules) (search rules) c.requires.holds
+returns-in_ok-answer-in-Answer-clause-holds g c = holds_on c.args.self.now c.answer.new.self (search rules) c.in_ok-answer-in-Answer.ensures.grows (search rules) c.requires.holds
 
 pub returns-in_ok-plan-in-Plan-clause-holds : goal.returns-in_ok-plan-in-Plan-clause-holds
-returns-in_ok-plan-in-Plan-clause-holds g c = holds_on c.args.self.now c.plan.new.self (search rules) (search rules) (search rules) c.requires.holds
+returns-in_ok-plan-in-Plan-clause-holds g c = holds_on c.args.self.now c.plan.new.self (search rules) c.in_ok-plan-in-Plan.ensures.grows (search rules) c.requires.holds
 
 pub returns-in_ok-keep-in-Keep-clause-holds : goal.returns-in_ok-keep-in-Keep-clause-holds
-returns-in_ok-keep-in-Keep-clause-holds g c = holds_on c.args.self.now c.keep.new.self (search rules) (search rules) (search rules) c.requires.holds
+returns-in_ok-keep-in-Keep-clause-holds g c = holds_on c.args.self.now c.keep.new.self (search rules) c.in_ok-keep-in-Keep.ensures.grows (search rules) c.requires.holds
 
 pub returns-in-Ingest-clause-counted : goal.returns-in-Ingest-clause-counted
 returns-in-Ingest-clause-counted g c =
@@ -131,7 +132,7 @@ returns-in-Instant-clause-counted g c =
 pub returns-in_ok-cancel-in-Cancel-clause-counted : goal.returns-in_ok-cancel-in-Cancel-clause-counted
 returns-in_ok-cancel-in-Cancel-clause-counted g c =
     subst (λ (l : Line). CountsNothing c.args.loaded.now c.args.self.now (numbered c.args.line.now.number l) c.cancel.new.self) (sym c.in-Cancel.is)
-    (quiet_counts c.args.loaded.now c.args.self.now c.cancel.new.self _ (search rules)
+    (quiet_counts c.args.loaded.now c.args.self.now c.cancel.new.self _ c.in_ok-cancel-in-Cancel.ensures.grows
     (λ known above hands done k alone have kept hs follows.
     c.in_ok-cancel-in-Cancel.ensures.step known above hands k alone (have.right c.in-Cancel.asked _ follows.names)))
 
@@ -142,7 +143,7 @@ returns-in_ok-answer-in-Answer-clause-counted g c =
 pub returns-in_ok-plan-in-Plan-clause-counted : goal.returns-in_ok-plan-in-Plan-clause-counted
 returns-in_ok-plan-in-Plan-clause-counted g c =
     subst (λ (l : Line). CountsNothing c.args.loaded.now c.args.self.now (numbered c.args.line.now.number l) c.plan.new.self) (sym c.in-Plan.is)
-    (quiet_counts c.args.loaded.now c.args.self.now c.plan.new.self _ (search rules)
+    (quiet_counts c.args.loaded.now c.args.self.now c.plan.new.self _ c.in_ok-plan-in-Plan.ensures.grows
     (λ known above hands done k alone have kept hs follows.
     c.in_ok-plan-in-Plan.ensures.step known above hands k alone (have.right c.in-Plan.asked _ follows.names)
     (have.kept c.in-Plan.asked _ follows.names follows.is_open)))
@@ -150,7 +151,7 @@ returns-in_ok-plan-in-Plan-clause-counted g c =
 pub returns-in_ok-keep-in-Keep-clause-counted : goal.returns-in_ok-keep-in-Keep-clause-counted
 returns-in_ok-keep-in-Keep-clause-counted g c =
     subst (λ (l : Line). CountsNothing c.args.loaded.now c.args.self.now (numbered c.args.line.now.number l) c.keep.new.self) (sym c.in-Keep.is)
-    (quiet_counts c.args.loaded.now c.args.self.now c.keep.new.self _ (search rules)
+    (quiet_counts c.args.loaded.now c.args.self.now c.keep.new.self _ c.in_ok-keep-in-Keep.ensures.grows
     (λ known above hands done k alone have kept hs follows.
     c.in_ok-keep-in-Keep.ensures.step known above hands k alone (have.right c.in-Keep.asked _ follows.names)
     (have.kept c.in-Keep.asked _ follows.names follows.is_open.0)))
@@ -158,12 +159,24 @@ returns-in_ok-keep-in-Keep-clause-counted g c =
 pub returns-in_ok-take-in-Take-clause-counted : goal.returns-in_ok-take-in-Take-clause-counted
 returns-in_ok-take-in-Take-clause-counted g c =
     subst (λ (l : Line). CountsNothing c.args.loaded.now c.args.self.now (numbered c.args.line.now.number l) c.take.new.self) (sym c.in-Take.is)
-    (quiet_counts c.args.loaded.now c.args.self.now c.take.new.self _ (search rules)
+    (quiet_counts c.args.loaded.now c.args.self.now c.take.new.self _ c.in_ok-take-in-Take.ensures.grows
     (λ known above hands done k alone have kept hs follows.
     c.in_ok-take-in-Take.ensures.step known above hands k alone (asked_all c.args.self.now.client known above c.args.self.now.core _ done c.args.self.now.slots have kept) hs))
 
 pub returns-in_ok-done-in-Done-clause-counted : goal.returns-in_ok-done-in-Done-clause-counted
 returns-in_ok-done-in-Done-clause-counted g c =
     subst (λ (l : Line). CountsNothing c.args.loaded.now c.args.self.now (numbered c.args.line.now.number l) c.done.new.self) (sym c.in-Done.is)
-    (quiet_counts c.args.loaded.now c.args.self.now c.done.new.self _ (search rules)
+    (quiet_counts c.args.loaded.now c.args.self.now c.done.new.self _ c.in_ok-done-in-Done.ensures.grows
     (λ known above hands done k alone have kept hs follows. c.in_ok-done-in-Done.ensures.step known above hands k hs))
+
+pub returns-in_err-answer-in-Answer-clause-most : goal.returns-in_err-answer-in-Answer-clause-most
+returns-in_err-answer-in-Answer-clause-most g c = map-set_same g.H.Hop.most c.args.hops.now c.args.self.now.client c.answer.new.hop _ c.answer.ensures.most
+
+pub returns-in_err-done-in-Done-clause-most : goal.returns-in_err-done-in-Done-clause-most
+returns-in_err-done-in-Done-clause-most g c = map-set_same g.H.Hop.most c.args.hops.now (16 + c.in-Done.worker) c.done.new.hop _ c.done.ensures.most
+
+pub returns-in_ok-answer-in-Answer-clause-most : goal.returns-in_ok-answer-in-Answer-clause-most
+returns-in_ok-answer-in-Answer-clause-most g c = map-set_same g.H.Hop.most c.args.hops.now c.args.self.now.client c.answer.new.hop _ c.answer.ensures.most
+
+pub returns-in_ok-done-in-Done-clause-most : goal.returns-in_ok-done-in-Done-clause-most
+returns-in_ok-done-in-Done-clause-most g c = map-set_same g.H.Hop.most c.args.hops.now (16 + c.in-Done.worker) c.done.new.hop _ c.done.ensures.most

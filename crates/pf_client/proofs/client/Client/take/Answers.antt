@@ -40,7 +40,7 @@ pub returns-in-None-clause-holds : goal.returns-in-None-clause-holds
 returns-in-None-clause-holds c =
     on_ok_all _ c.push_take_reply-in-None.result
     (holds_on c.args.self.now (record c.args.self.now { core = c.take.new.self; out = c.push_take_reply-in-None.new.out }) refl
-    (grows_same c.args.self.now.core c.take.new.self (search rules)) refl c.requires.holds)
+    (grows_same {count = 0} c.args.self.now.core c.take.new.self (search rules)) refl c.requires.holds)
 
 pub returns-in-Some-clause-step : goal.returns-in-Some-clause-step
 returns-in-Some-clause-step c =
