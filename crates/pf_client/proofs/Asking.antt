@@ -57,7 +57,7 @@ code_507 = refl
 -- ---- a line that asks
 
 named_as : (known : Known) (t : Turn) (id tenant : List ℕ) (line : Line) (u : ℕ) (a : Asked) (pin generation : ℕ) (floor : Option ℕ)
-    → AsksAs id tenant line → Fits known t line (ask u a pin generation floor) → slice_get known.names u ≡ Some tenant
+    → AsksAs id tenant line → Fits known (asker_of t.asking) t.asked line (ask u a pin generation floor) → slice_get known.names u ≡ Some tenant
 named_as known t id tenant (script.ask i n start end step query) u a pin generation floor own_it fits = fits.0 ∙ ap Some own_it.1
 named_as known t id tenant (script.instant i n time query) u a pin generation floor own_it fits = fits.0 ∙ ap Some own_it.1
 named_as known t id tenant (script.ingest n file time) u a pin generation floor own_it fits = absurd own_it

@@ -16,7 +16,7 @@ use Rattle.pf_journal.specs.Report.{client_text}
 use Rattle.pf_journal.specs.Rest.{Known, Told, Why, at_end, at_full, at_memory}
 use Rattle.pf_journal.specs.Scripts as script
 use Rattle.pf_journal.specs.Scripts.{Line, Numbered}
-use Rattle.pf_journal.specs.Turns.{Hand, Ran, Turn, hands_after, is_answer_of, own_moments, ran_lines}
+use Rattle.pf_journal.specs.Turns.{Hand, Ran, Turn, asker_of, hands_after, is_answer_of, own_moments, ran_lines}
 use Rattle.pf_journal.specs.Unentered.{HasQuery}
 use Rattle.pf_journal.specs.Weave.{IsMatched, Lacks, LacksRoom, RunsTo, Woven, stops_at}
 use Rattle.pf_model.specs.Lists.{Each}
@@ -215,7 +215,7 @@ abbrev pub IsNotAnswer : Line → Type 0
 IsNotAnswer (script.answer id k) = ⊥
 IsNotAnswer _ = Unit {0}
 
-no_answer : (known : Known) (t : Turn) (line : Line) (q k code c e : ℕ) → IsNotAnswer line → Fits known t line (answer k code c e) → is_answer_of q (answer k code c e) ≡ false
+no_answer : (known : Known) (t : Turn) (line : Line) (q k code c e : ℕ) → IsNotAnswer line → Fits known (asker_of t.asking) t.asked line (answer k code c e) → is_answer_of q (answer k code c e) ≡ false
 no_answer known t (script.ingest tenant file time) q k code c e n fits = absurd fits.0
 no_answer known t (script.delete tenant from to selector) q k code c e n fits = absurd fits.0
 no_answer known t (script.ask id tenant start end by query) q k code c e n fits = absurd fits.0
@@ -229,7 +229,7 @@ no_answer known t (script.done w) q k code c e n fits = absurd fits
 
 abbrev pub IsMatchedAs : Known → Turn → Line → Option What → Type 0
 IsMatchedAs known t line None = Unit {0}
-IsMatchedAs known t line (Some what) = Fits known t line what
+IsMatchedAs known t line (Some what) = Fits known (asker_of t.asking) t.asked line what
 
 pub matched_as : (known : Known) (t : Turn) (m : Machine) (client n : ℕ) (entered : Option What) → IsMatched known t (moment_with m client n entered) → IsMatchedAs known t t.ran.line.line entered
 matched_as known t m client n None h = tt

@@ -14,6 +14,7 @@ use Rattle.pf_journal.specs.Replies.{ingested, memory_words, reply_line, reply_t
 use Rattle.pf_journal.specs.Rest.{Known, Told, nothing, no_memory, journal_full}
 use Rattle.pf_journal.specs.Scripts as script
 use Rattle.pf_journal.specs.Scripts.{Line, Numbered}
+use Rattle.pf_journal.specs.Turns.{asker_of}
 use Rattle.pf_journal.specs.Unentered.{ToldOfDelete, Unentered}
 use Rattle.pf_journal.specs.Weave.{ToldBeside, failed_in, stops_at}
 use Rattle.pf_model.specs.Lists.{Each}
@@ -45,7 +46,7 @@ name_known known c u name k h =
 -- a line with an entry
 abbrev pub step_entered : (known : Known) (n : Told → Naming) (old new : Client) (by : By) (l : Numbered) (t : Told) (what : What)
     → IsKnown known new.core → Enters old.core by what new.core → by.client ≡ old.client → by.line ≡ l.number
-    → Fits known (turn_by (n t) l t (Some (moment_by (machine_of old.core) old.client l.number what))) l.line what
+    → Fits known (asker_of (n t).asking) (n t).asked l.line what
     → ToldBeside what t → HasRoomFor old.core (room_of l.line) → stops_at l.line t ≡ None
     → CountsTries old.core t new.core → HandsAfter l.line t old new
     → new.out.items ≡ old.out.items ++ reply_to known (turn_by (n t) l t (Some (moment_by (machine_of old.core) old.client l.number what))) l.number l.line

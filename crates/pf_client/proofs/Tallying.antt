@@ -16,8 +16,8 @@ use Rattle.pf_journal.specs.Rest.{Known, Told}
 use Rattle.pf_journal.specs.Scripts as script
 use Rattle.pf_journal.specs.Scripts.{Line, Numbered}
 use Rattle.pf_journal.specs.Summaries.{Tally, asks, is_ask, nothing_counted, rows_answered, rows_of, tally_of, with_answer, with_entry}
-use Rattle.pf_journal.specs.Turns.{Hand, Ran, Turn, ran_lines}
-use Rattle.pf_model.specs.Direct.{MatrixRow}
+use Rattle.pf_journal.specs.Turns.{Hand, Ran, Turn, ran_lines, asker_of}
+use Rattle.pf_model.specs.Direct.{MatrixRow, Answer, gathered}
 use Rattle.pf_model.specs.Lists.{Each}
 use Rattle.pf_model.specs.declared.expr.Kind.{Kind}
 use Rattle.pf_model.specs.declared.expr.Kind.TheVariants.{Scalar, Instant, Range, Text}
@@ -102,7 +102,7 @@ counted_waits old new query jobs h = counted_same old new h.works.history.limits
 
 -- ---- lines that answer nothing
 
-fits_nothing : (known : Known) (t : Turn) (line : Line) (q code c e : ℕ) → AnswersNothing line → Fits known t line (answer q code c e) → ⊥
+fits_nothing : (known : Known) (t : Turn) (line : Line) (q code c e : ℕ) → AnswersNothing line → Fits known (asker_of t.asking) t.asked line (answer q code c e) → ⊥
 fits_nothing known t (script.ingest tenant file time) q code c e n fits = fits.0
 fits_nothing known t (script.delete tenant from to selector) q code c e n fits = fits.0
 fits_nothing known t (script.ask id tenant start end by query) q code c e n fits = fits.0
@@ -114,7 +114,7 @@ fits_nothing known t (script.keep id asked) q code c e n fits = fits
 fits_nothing known t (script.take w) q code c e n fits = fits
 fits_nothing known t (script.done w) q code c e n fits = fits
 
-with_nothing : (limits : Limits) (tally : Tally) (m : Machine) (known : Known) (t : Turn) (line : Line) (what : What) → AnswersNothing line → Fits known t line what
+with_nothing : (limits : Limits) (tally : Tally) (m : Machine) (known : Known) (t : Turn) (line : Line) (what : What) → AnswersNothing line → Fits known (asker_of t.asking) t.asked line what
     → with_entry limits tally m what ≡ tally
 with_nothing limits tally m known t line (append u b vs e) quiet fits = refl
 with_nothing limits tally m known t line (delete u ms from to g e) quiet fits = refl

@@ -12,7 +12,7 @@ use Rattle.pf_journal.specs.Machine.{Entry, Machine, What, append, delete, ask, 
 use Rattle.pf_journal.specs.Rest.{Client, Known, Told}
 use Rattle.pf_journal.specs.Scripts as script
 use Rattle.pf_journal.specs.Scripts.{Line, Numbered}
-use Rattle.pf_journal.specs.Turns.{Hand, Ran, Turn, hands_after, moment_of, own_moments, ran_lines, turn_of, turns_from}
+use Rattle.pf_journal.specs.Turns.{Hand, Ran, Turn, asker_of, hands_after, moment_of, own_moments, ran_lines, turn_of, turns_from}
 use Rattle.pf_journal.specs.Weave.{IsLineOf, IsMatched, IsWoven, Rises, Woven}
 
 -- ---- an entry's tenant
@@ -51,17 +51,17 @@ answer_name names asked (no_tenant name) h = tt
 answer_name names asked (cancel query) h = tt
 answer_name names asked (answer query code cached evaluated) h = tt
 
-fits_name : (known : Known) (t : Turn) (line : Line) (what : What) → Fits known t line what → HasName known.names what
-fits_name known t (script.ingest tenant file time) what h = has_name known.names tenant what h.0
-fits_name known t (script.delete tenant from to selector) what h = has_name known.names tenant what h.0
-fits_name known t (script.ask id tenant start end step query) what h = has_name known.names tenant what h.0
-fits_name known t (script.instant id tenant time query) what h = has_name known.names tenant what h.0
-fits_name known t (script.cancel id line tenant) what h = cancel_name known.names tenant _ t.asked what h
-fits_name known t (script.answer id line) what h = answer_name known.names t.asked what h
-fits_name known t (script.plan id line) what h = absurd h
-fits_name known t (script.keep id line) what h = absurd h
-fits_name known t (script.take worker) what h = absurd h
-fits_name known t (script.done worker) what h = absurd h
+fits_name : (known : Known) (asker : List ℕ) (asked : Option Moment) (line : Line) (what : What) → Fits known asker asked line what → HasName known.names what
+fits_name known asker asked (script.ingest tenant file time) what h = has_name known.names tenant what h.0
+fits_name known asker asked (script.delete tenant from to selector) what h = has_name known.names tenant what h.0
+fits_name known asker asked (script.ask id tenant start end step query) what h = has_name known.names tenant what h.0
+fits_name known asker asked (script.instant id tenant time query) what h = has_name known.names tenant what h.0
+fits_name known asker asked (script.cancel id line tenant) what h = cancel_name known.names tenant asker asked what h
+fits_name known asker asked (script.answer id line) what h = answer_name known.names asked what h
+fits_name known asker asked (script.plan id line) what h = absurd h
+fits_name known asker asked (script.keep id line) what h = absurd h
+fits_name known asker asked (script.take worker) what h = absurd h
+fits_name known asker asked (script.done worker) what h = absurd h
 
 -- ---- own entries and their turns
 
@@ -105,7 +105,7 @@ has_turn known own above hands (l ∷ lines) (t ∷ told) line (inr there) h =
 own_name : (known : Known) (own : List Moment) (x : Moment) → HasTurn known own x.entry.line → moment_of x.entry.line own ≡ Some x → HasName known.names x.entry.what
 own_name known own x h found =
     let matched : IsMatched known h.turn (Some x) = subst (IsMatched known h.turn) (h.mine ∙ found) h.woven.matched in
-    fits_name known h.turn h.turn.ran.line.line x.entry.what matched.0
+    fits_name known (asker_of h.turn.asking) h.turn.asked h.turn.ran.line.line x.entry.what matched.0
 
 each_at : (P : Moment → Type 0) (xs : List Moment) (x : Moment) → Each P xs → IsAmong x xs → P x
 each_at P [] x h among = absurd among

@@ -79,11 +79,11 @@ cancel_of_an_open_query : Unentered usual (turn [] None) (script.cancel (codes "
 cancel_of_an_open_query h = h (record { query = tt; unanswered = refl; uncancelled = refl }, refl)
 
 -- a tenant too many
-no_tenant_fits : Fits usual (turn [] None) (script.instant (codes "r") (codes "beta") 0 (codes "1 / 0")) (no_tenant (codes "beta"))
+no_tenant_fits : Fits usual [] None (script.instant (codes "r") (codes "beta") 0 (codes "1 / 0")) (no_tenant (codes "beta"))
 no_tenant_fits = (refl, tt)
 
 -- but not for a query that is refused
-no_tenant_after_a_refusal : Fits usual (turn [] None) (script.instant (codes "r") (codes "beta") 0 (codes "sum(")) (no_tenant (codes "beta")) → ⊥
+no_tenant_after_a_refusal : Fits usual [] None (script.instant (codes "r") (codes "beta") 0 (codes "sum(")) (no_tenant (codes "beta")) → ⊥
 no_tenant_after_a_refusal h = h.1
 
 -- ---- clients

@@ -11,7 +11,7 @@ use Rattle.pf_journal.specs.Machine.{What, append, delete, ask, full, no_tenant,
 use Rattle.pf_journal.specs.Rest.{Known}
 use Rattle.pf_journal.specs.Scripts.{Line}
 use Rattle.pf_journal.specs.Scripts as script
-use Rattle.pf_journal.specs.Turns.{Turn, asker_of, place_of}
+use Rattle.pf_journal.specs.Turns.{place_of}
 
 -- the entry's tenant is the one that the line names
 abbrev pub IsNamed : List (List ℕ) → List ℕ → What → Type 0
@@ -67,18 +67,18 @@ abbrev pub FitsAnswer : Option Moment → What → Type 0
 FitsAnswer asked (answer query code cached evaluated) = IsOfAsk asked query
 FitsAnswer asked _ = ⊥
 
--- an entry fits a line
-abbrev pub Fits : Known → Turn → Line → What → Type 0
-Fits known t (script.ingest tenant file time) what = IsNamed known.names tenant what × FitsIngest (known.files file) time what
-Fits known t (script.delete tenant from to selector) what =
+-- an entry fits a line; of a line that names an ask's line, the tenant that asked there and the ask's moment are told
+abbrev pub Fits : Known → (asker : List ℕ) → (asked : Option Moment) → Line → What → Type 0
+Fits known asker asked (script.ingest tenant file time) what = IsNamed known.names tenant what × FitsIngest (known.files file) time what
+Fits known asker asked (script.delete tenant from to selector) what =
     IsNamed known.names tenant what × FitsDelete from to selector what
-Fits known t (script.ask id tenant start end step query) what =
+Fits known asker asked (script.ask id tenant start end step query) what =
     IsNamed known.names tenant what × FitsAsk (ranged known.readings start end step query) what
-Fits known t (script.instant id tenant time query) what =
+Fits known asker asked (script.instant id tenant time query) what =
     IsNamed known.names tenant what × FitsAsk (at_once known.readings time query) what
-Fits known t (script.cancel id asked tenant) what = FitsCancel tenant (asker_of t.asking) t.asked what
-Fits known t (script.answer id asked) what = FitsAnswer t.asked what
-Fits known t _ what = ⊥
+Fits known asker asked (script.cancel id line tenant) what = FitsCancel tenant asker asked what
+Fits known asker asked (script.answer id line) what = FitsAnswer asked what
+Fits known asker asked _ what = ⊥
 
 -- the room that a line's entry wants in the journal beside what open queries keep: an ask's is for its cancel and its answer too,
 -- and these have what the ask kept

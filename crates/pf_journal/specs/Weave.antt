@@ -11,7 +11,7 @@ use Rattle.pf_journal.specs.Rest.{Known, Told, nothing, failed_five, no_memory, 
 use Rattle.pf_journal.specs.Scripts.{Line, Numbered}
 use Rattle.pf_journal.specs.Scripts as script
 use Rattle.pf_journal.specs.Steps.{again, exhausted}
-use Rattle.pf_journal.specs.Turns.{Ran, Turn, own_moments, ran_lines, turns}
+use Rattle.pf_journal.specs.Turns.{Ran, Turn, asker_of, own_moments, ran_lines, turns}
 use Rattle.pf_journal.specs.Unentered.{Unentered}
 
 -- ---- one line
@@ -29,7 +29,7 @@ ToldBeside _ told = told ≡ nothing
 -- a line's entry fits it, or the line has none for a cause
 abbrev pub IsMatched : Known → Turn → Option Moment → Type 0
 IsMatched known t None = Unentered known t t.ran.line.line t.ran.told
-IsMatched known t (Some x) = Fits known t t.ran.line.line x.entry.what × ToldBeside x.entry.what t.ran.told
+IsMatched known t (Some x) = Fits known (asker_of t.asking) t.asked t.ran.line.line x.entry.what × ToldBeside x.entry.what t.ran.told
 
 -- an entry found the room that it wants
 abbrev pub FoundRoom : Limits → Line → Option Moment → Type 0
