@@ -4,6 +4,7 @@ mod Examples
 pub mod FrozenSteps
 pub mod Going
 pub mod Growing
+pub mod Histories
 mod Named
 pub mod Opened
 mod Pages

@@ -6,6 +6,8 @@ pub mod Files
 pub mod Frozen
 pub mod Legal
 pub mod Machine
+pub mod Named
+pub mod Owned
 pub mod Replies
 pub mod Report
 pub mod Rest
