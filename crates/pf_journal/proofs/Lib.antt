@@ -7,6 +7,7 @@ pub mod Growing
 pub mod Histories
 mod Named
 pub mod Opened
+pub mod Owning
 mod Pages
 mod Sessions
 pub mod Tallying

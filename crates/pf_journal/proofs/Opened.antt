@@ -8,7 +8,7 @@ use Rattle.pf_journal.specs.Legal.{IsLawful, Moment, machine_after, moments, mom
 use Rattle.pf_journal.specs.Machine.{Allowed, CancelsOpen, AnswersOpen, Entry, Machine, Open, What, append, delete, ask, full, no_tenant, cancel, answer, cancelled_at, closed, log_of, next, open_at, started}
 use Rattle.pf_journal.specs.Turns.{answer_of, cancel_of, entered_above, is_answer_of, is_cancel_of, own_moments, place_of}
 
-bool_cases : (b : Bool) → (b ≡ true) ⊎ (b ≡ false)
+pub bool_cases : (b : Bool) → (b ≡ true) ⊎ (b ≡ false)
 bool_cases true = inl refl
 bool_cases false = inr refl
 

@@ -41,6 +41,10 @@ own_at own xs = filter (λ x. owns own (place_of x)) xs
 abbrev pub own_of : (own : List ℕ) → List Named → List Moment
 own_of own xs = own_at own (moments (journal_of xs))
 
+-- a moment is of no cancel, or of an own query's
+abbrev pub CancelsOwn : (own : List ℕ) → Moment → Type 0
+CancelsOwn own x = (query : ℕ) → is_cancel_of query x.entry.what ≡ true → owns own query ≡ true
+
 -- ---- clients
 
 -- what holds of a client's places in a history that it saw, whatever others enter: its own entries are there and bear its
@@ -48,7 +52,7 @@ own_of own xs = own_at own (moments (journal_of xs))
 pub record Holds (client : ℕ) (own : List ℕ) (seen : List Named) : Type 0 where
   pub within : OwnsWithin (length seen) own
   pub mine : Each (λ x. x.entry.client ≡ client) (own_of own seen)
-  pub home : Each (λ x. (query : ℕ) → is_cancel_of query x.entry.what ≡ true → owns own query ≡ true) (own_of own seen)
+  pub home : Each (CancelsOwn own) (own_of own seen)
 
 -- the places of several
 abbrev pub all_own : {K : Type 0} → (own : K → List ℕ) → List K → List ℕ
