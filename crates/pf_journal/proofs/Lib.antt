@@ -1,6 +1,7 @@
 mod CacheSessions
 pub mod Ending
 mod Examples
+pub mod Found
 pub mod FrozenSteps
 pub mod Going
 pub mod Growing

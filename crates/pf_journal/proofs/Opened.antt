@@ -85,7 +85,7 @@ closed_other place query (p ∷ qs) n = elim (bool_cases (nat_eq p.place query))
 ]
 
 -- a query that is cancelled at a place
-abbrev cancelled_from : Open → ℕ → Open
+abbrev pub cancelled_from : Open → ℕ → Open
 cancelled_from o place = record { place = o.place; tenant = o.tenant; asked = o.asked; log = o.log; cancelled = Some place }
 
 cancelled_same : (at place : ℕ) (qs : List Open) (o : Open) → open_at place qs ≡ Some o → open_at place (cancelled_at at place qs) ≡ Some (cancelled_from o at)
@@ -111,7 +111,7 @@ cancelled_other at place query (p ∷ qs) n = elim (bool_cases (nat_eq p.place q
 
 -- ---- what becomes of a query
 
-abbrev cancelled_by : Open → Option ℕ → Option Moment → Open
+abbrev pub cancelled_by : Open → Option ℕ → Option Moment → Open
 cancelled_by o (Some place) c = o
 cancelled_by o None None = o
 cancelled_by o None (Some y) = cancelled_from o (place_of y)
@@ -263,7 +263,7 @@ not_yet m query place o h g late =
     let same = open_place query m.queries o g in
     grind (arith, nat_tests, low, same, late)
 
-no_cancel_yet : (l : Limits) (names : List (List ℕ)) (m : Machine) (w : What) (place : ℕ) → AreBelow m → Allowed l names m w → m.count ≤ place
+pub no_cancel_yet : (l : Limits) (names : List (List ℕ)) (m : Machine) (w : What) (place : ℕ) → AreBelow m → Allowed l names m w → m.count ≤ place
     → is_cancel_of place w ≡ false
 no_cancel_yet l names m (append u batch vs entry) place h k late = refl
 no_cancel_yet l names m (delete u ms from to generation entry) place h k late = refl
@@ -276,7 +276,7 @@ no_cancel_yet l names m (cancel query) place h k late = by (open_at query m.quer
   by (Some o) g k = not_yet m query place o h g late
 no_cancel_yet l names m (answer query code cached evaluated) place h k late = refl
 
-no_answer_yet : (l : Limits) (names : List (List ℕ)) (m : Machine) (w : What) (place : ℕ) → AreBelow m → Allowed l names m w → m.count ≤ place
+pub no_answer_yet : (l : Limits) (names : List (List ℕ)) (m : Machine) (w : What) (place : ℕ) → AreBelow m → Allowed l names m w → m.count ≤ place
     → is_answer_of place w ≡ false
 no_answer_yet l names m (append u batch vs entry) place h k late = refl
 no_answer_yet l names m (delete u ms from to generation entry) place h k late = refl
