@@ -18,7 +18,7 @@ use Rattle.pf_journal.specs.Scripts.{Numbered}
 use Rattle.pf_journal.specs.Summaries.{Tally}
 use Rattle.pf_journal.specs.Turns.{own_moments, ran_lines}
 use Rattle.pf_journal.specs.Steps.{again, empty, exhausted, gone, lacked, not_held, stored}
-use Rattle.pf_journal.specs.Weave.{AreTried, RunsTo, Weave, Woven, failed_answers, failed_in, failed_told}
+use Rattle.pf_journal.specs.Weave.{AreTried, RunsTo, Weave, Woven, WovenClient, failed_answers, failed_in, failed_told}
 use Rattle.pf_model.specs.Lists.{Each}
 use Rattle.pf_model.specs.Queries.{IsReading, Reading, refused}
 use Rattle.pf_script.specs.Lines.{lines_of}
@@ -240,12 +240,12 @@ woven_alone limits loaded lines why sent c held first are right short stands has
       each_one : (known : Known) (c : Client) (lines : List Numbered) (one : ToldClient) → Woven known (own_of 0 c.core) lines one
           → RunsTo known.limits c.core.journal 0 one.why (drop (length one.told) lines) (ran_lines lines one.told)
           → (client : ℕ) (ls : List Numbered) (d : ToldClient) → slice_get (lines ∷ []) client ≡ Some ls → slice_get (one ∷ []) client ≡ Some d
-          → Woven known (own_moments client (moments c.core.journal)) ls d × RunsTo known.limits c.core.journal client d.why (drop (length d.told) ls) (ran_lines ls d.told)
+          → WovenClient known c.core.journal client (own_moments client (moments c.core.journal)) ls d
       each_one known c lines one woven runs zero ls d at_ls at_d =
           let same_ls : lines ≡ ls = some_is lines ls at_ls in
           let same_d : one ≡ d = some_is one d at_d in
-          subst (λ (x : List Numbered). Woven known (own_of 0 c.core) x d × RunsTo known.limits c.core.journal 0 d.why (drop (length d.told) x) (ran_lines x d.told)) same_ls
-          (subst (λ (y : ToldClient). Woven known (own_of 0 c.core) lines y × RunsTo known.limits c.core.journal 0 y.why (drop (length y.told) lines) (ran_lines lines y.told)) same_d (woven, runs))
+          subst (λ (x : List Numbered). WovenClient known c.core.journal 0 (own_of 0 c.core) x d) same_ls
+          (subst (WovenClient known c.core.journal 0 (own_of 0 c.core) lines) same_d (record { woven = woven; runs = runs }))
       each_one known c lines one woven runs (suc n) ls d at_ls at_d = cc
 
 pub reported : (limits : Limits) (loaded : Loaded) (lines : List Numbered) (run : LineRun) (sent : List ℕ) (c : Client) (held : Held)

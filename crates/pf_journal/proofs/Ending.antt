@@ -23,7 +23,7 @@ use Rattle.pf_journal.specs.Scripts.{Line, Numbered}
 use Rattle.pf_journal.specs.Steps.{plan_refused, planned_before, busy, none_waits, empty, lacked, keep_refused, unplanned}
 use Rattle.pf_journal.specs.Turns.{Turn, answer_of, asker_of, cancel_of, entered_above, holds, moment_of, own_moments, place_of, ran_lines}
 use Rattle.pf_journal.specs.Unentered.{HasNoQuery, HasQuery, IsOpen, IsUncancelled, Unentered}
-use Rattle.pf_journal.specs.Weave.{AreTried, FoundRoom, IsLineOf, IsMatched, RunsTo, Weave, Woven, failed_answers, failed_in, failed_told, is_500, stops_at}
+use Rattle.pf_journal.specs.Weave.{AreTried, FoundRoom, IsLineOf, IsMatched, RunsTo, Weave, Woven, WovenClient, failed_answers, failed_in, failed_told, is_500, stops_at}
 
 -- ---- lists
 
@@ -589,10 +589,10 @@ begins_report known journal lines told failed legal names alone woven goes rise 
       each_one : (c : Client) (es : List Entry) → Woven known (own_moments 0 (moments es)) lines c
           → RunsTo known.limits es 0 c.why (drop (length c.told) lines) (ran_lines lines c.told)
           → (client : ℕ) (ls : List Numbered) (d : Client) → slice_get (lines ∷ []) client ≡ Some ls → slice_get (c ∷ []) client ≡ Some d
-          → Woven known (own_moments client (moments es)) ls d × RunsTo known.limits es client d.why (drop (length d.told) ls) (ran_lines ls d.told)
+          → WovenClient known es client (own_moments client (moments es)) ls d
       each_one c es w runs client ls d at_ls at_d =
           let one = only_one lines ls client at_ls in
           let other = only_one c d client at_d in
-          subst (λ n. Woven known (own_moments n (moments es)) ls d × RunsTo known.limits es n d.why (drop (length d.told) ls) (ran_lines ls d.told)) (sym one.0)
-          (subst (λ (x : List Numbered). Woven known (own_moments 0 (moments es)) x d × RunsTo known.limits es 0 d.why (drop (length d.told) x) (ran_lines x d.told)) one.1
-          (subst (λ (y : Client). Woven known (own_moments 0 (moments es)) lines y × RunsTo known.limits es 0 y.why (drop (length y.told) lines) (ran_lines lines y.told)) other.1 (w, runs)))
+          subst (λ n. WovenClient known es n (own_moments n (moments es)) ls d) (sym one.0)
+          (subst (λ (x : List Numbered). WovenClient known es 0 (own_moments 0 (moments es)) x d) one.1
+          (subst (WovenClient known es 0 (own_moments 0 (moments es)) lines) other.1 (record { woven = w; runs = runs })))

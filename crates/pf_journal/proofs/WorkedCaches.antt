@@ -63,8 +63,8 @@ at_the_end_is_a_session = (
   ),
   (
     (
-      (
-        record {
+      record {
+        woven = record {
           few = lit≤ tt;
           rising = (lit< tt, (lit< tt, (lit< tt, tt)));
           lined = (inl refl, (inr (inl refl), (inr (inr (inr (inl refl))), tt)));
@@ -81,9 +81,9 @@ at_the_end_is_a_session = (
               ),
             ),
           );
-        },
-        (refl, refl),
-      ),
+        };
+        runs = (refl, refl);
+      },
       tt,
     ),
     record { actors = lit≤ tt; five = inr (lit≤ tt); shown = lit≤ tt },
@@ -124,8 +124,8 @@ later_asker_is_a_session = (
   ),
   (
     (
-      (
-        record {
+      record {
+        woven = record {
           few = lit≤ tt;
           rising = (lit< tt, (lit< tt, (lit< tt, (lit< tt, (lit< tt, (lit< tt, (lit< tt, tt)))))));
           lined = (inl refl, (inr (inl refl), (inr (inr (inl refl)), (inr (inr (inr (inl refl))), (inr (inr (inr (inr (inl refl)))), (inr (inr (inr (inr (inr (inl refl))))), (inr (inr (inr (inr (inr (inr (inr (inl refl))))))), tt)))))));
@@ -154,9 +154,9 @@ later_asker_is_a_session = (
               ),
             ),
           );
-        },
-        (refl, refl),
-      ),
+        };
+        runs = (refl, refl);
+      },
       tt,
     ),
     record { actors = lit≤ tt; five = inr (lit≤ tt); shown = lit≤ tt },
@@ -194,8 +194,8 @@ counted_is_a_session = (
   ),
   (
     (
-      (
-        record {
+      record {
+        woven = record {
           few = lit≤ tt;
           rising = (lit< tt, (lit< tt, (lit< tt, (lit< tt, (lit< tt, (lit< tt, tt))))));
           lined = (inl refl, (inr (inl refl), (inr (inr (inl refl)), (inr (inr (inr (inl refl))), (inr (inr (inr (inr (inl refl)))), (inr (inr (inr (inr (inr (inl refl))))), tt))))));
@@ -218,9 +218,9 @@ counted_is_a_session = (
               ),
             ),
           );
-        },
-        (refl, refl),
-      ),
+        };
+        runs = (refl, refl);
+      },
       tt,
     ),
     record { actors = lit≤ tt; five = inr (lit≤ tt); shown = lit≤ tt },
@@ -264,8 +264,8 @@ deleted_is_a_session = (
   ),
   (
     (
-      (
-        record {
+      record {
+        woven = record {
           few = lit≤ tt;
           rising = (lit< tt, (lit< tt, (lit< tt, (lit< tt, (lit< tt, (lit< tt, (lit< tt, (lit< tt, tt))))))));
           lined = (inl refl, (inr (inl refl), (inr (inr (inl refl)), (inr (inr (inr (inl refl))), (inr (inr (inr (inr (inl refl)))), (inr (inr (inr (inr (inr (inl refl))))), (inr (inr (inr (inr (inr (inr (inl refl)))))), (inr (inr (inr (inr (inr (inr (inr (inl refl))))))), tt))))))));
@@ -294,9 +294,9 @@ deleted_is_a_session = (
               ),
             ),
           );
-        },
-        (refl, refl),
-      ),
+        };
+        runs = (refl, refl);
+      },
       tt,
     ),
     record { actors = lit≤ tt; five = inr (lit≤ tt); shown = lit≤ tt },
@@ -337,8 +337,8 @@ two_open_is_a_session = (
   ),
   (
     (
-      (
-        record {
+      record {
+        woven = record {
           few = lit≤ tt;
           rising = (lit< tt, (lit< tt, (lit< tt, (lit< tt, (lit< tt, (lit< tt, (lit< tt, tt)))))));
           lined = (inl refl, (inr (inl refl), (inr (inr (inl refl)), (inr (inr (inr (inl refl))), (inr (inr (inr (inr (inr (inl refl))))), (inr (inr (inr (inr (inr (inr (inl refl)))))), (inr (inr (inr (inr (inr (inr (inr (inl refl))))))), tt)))))));
@@ -367,9 +367,9 @@ two_open_is_a_session = (
               ),
             ),
           );
-        },
-        (refl, refl),
-      ),
+        };
+        runs = (refl, refl);
+      },
       tt,
     ),
     record { actors = lit≤ tt; five = inr (lit≤ tt); shown = lit≤ tt },
@@ -419,8 +419,8 @@ in_turn_is_a_session = (
   ),
   (
     (
-      (
-        record {
+      record {
+        woven = record {
           few = lit≤ tt;
           rising = (lit< tt, (lit< tt, (lit< tt, (lit< tt, (lit< tt, (lit< tt, (lit< tt, (lit< tt, (lit< tt, (lit< tt, tt))))))))));
           lined = (inl refl, (inr (inl refl), (inr (inr (inl refl)), (inr (inr (inr (inl refl))), (inr (inr (inr (inr (inl refl)))), (inr (inr (inr (inr (inr (inl refl))))), (inr (inr (inr (inr (inr (inr (inl refl)))))), (inr (inr (inr (inr (inr (inr (inr (inl refl))))))), (inr (inr (inr (inr (inr (inr (inr (inr (inl refl)))))))), (inr (inr (inr (inr (inr (inr (inr (inr (inr (inl refl))))))))), tt))))))))));
@@ -455,9 +455,9 @@ in_turn_is_a_session = (
               ),
             ),
           );
-        },
-        (refl, refl),
-      ),
+        };
+        runs = (refl, refl);
+      },
       tt,
     ),
     record { actors = lit≤ tt; five = inr (lit≤ tt); shown = lit≤ tt },

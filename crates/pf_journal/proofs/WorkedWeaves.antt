@@ -15,13 +15,11 @@ use Rattle.pf_journal.specs.Machine.{Entry}
 use Rattle.pf_journal.specs.Rest.{Client, Known, Rest, ran}
 use Rattle.pf_journal.specs.Scripts.{Numbered}
 use Rattle.pf_journal.specs.Turns.{own_moments, ran_lines}
-use Rattle.pf_journal.specs.Weave.{AreTried, RunsTo, Weave, Woven}
+use Rattle.pf_journal.specs.Weave.{AreTried, RunsTo, Weave, WovenClient}
 
 -- a client is woven into a journal
 abbrev pub IsWovenIn : Known → List Entry → ℕ → List Numbered → Client → Type 0
-IsWovenIn known journal client lines c =
-    Woven known (own_moments client (moments journal)) lines c
-    × RunsTo known.limits journal client c.why (drop (ran c) lines) (ran_lines lines c.told)
+IsWovenIn known journal client lines c = WovenClient known journal client (own_moments client (moments journal)) lines c
 
 -- each client of a session
 abbrev pub AllWoven : Known → List Entry → ℕ → List (List Numbered) → List Client → Type 0
@@ -65,8 +63,8 @@ limit_is_a_session = (
   ),
   (
     (
-      (
-        record {
+      record {
+        woven = record {
           few = lit≤ tt;
           rising = (lit< tt, (lit< tt, (lit< tt, (lit< tt, tt))));
           lined = (inl refl, ((inr (inl refl)), ((inr (inr (inr (inl refl)))), ((inr (inr (inr (inr (inl refl))))), tt))));
@@ -86,9 +84,9 @@ limit_is_a_session = (
               ),
             ),
           );
-        },
-        (refl, refl),
-      ),
+        };
+        runs = (refl, refl);
+      },
       tt,
     ),
     record { actors = lit≤ tt; five = inr (lit≤ tt); shown = lit≤ tt },
@@ -113,8 +111,8 @@ cancel_is_a_session = (
   ),
   (
     (
-      (
-        record {
+      record {
+        woven = record {
           few = lit≤ tt;
           rising = (lit< tt, (lit< tt, (lit< tt, (lit< tt, tt))));
           lined = (inl refl, ((inr (inl refl)), ((inr (inr (inr (inr (inr (inl refl)))))), ((inr (inr (inr (inr (inr (inr (inr (inr (inr (inl refl)))))))))), tt))));
@@ -152,9 +150,9 @@ cancel_is_a_session = (
               ),
             ),
           );
-        },
-        (refl, refl),
-      ),
+        };
+        runs = (refl, refl);
+      },
       tt,
     ),
     record { actors = lit≤ tt; five = inr (lit≤ tt); shown = lit≤ tt },
@@ -170,8 +168,8 @@ full_is_a_session = (
   ),
   (
     (
-      (
-        record {
+      record {
+        woven = record {
           few = lit≤ tt;
           rising = (lit< tt, tt);
           lined = (inl refl, tt);
@@ -182,9 +180,9 @@ full_is_a_session = (
               tt,
             ),
           );
-        },
-        (refl, refl, record { front = 1; has_all = tt; over = lit< tt }),
-      ),
+        };
+        runs = (refl, refl, record { front = 1; has_all = tt; over = lit< tt });
+      },
       tt,
     ),
     record { actors = lit≤ tt; five = inr (lit≤ tt); shown = lit≤ tt },
@@ -203,8 +201,8 @@ steps_is_a_session = (
   ),
   (
     (
-      (
-        record {
+      record {
+        woven = record {
           few = lit≤ tt;
           rising = (lit< tt, (lit< tt, tt));
           lined = (inl refl, ((inr (inl refl)), tt));
@@ -251,9 +249,9 @@ steps_is_a_session = (
               ),
             ),
           );
-        },
-        (refl, refl),
-      ),
+        };
+        runs = (refl, refl);
+      },
       tt,
     ),
     record { actors = lit≤ tt; five = inr (lit≤ tt); shown = lit≤ tt },
@@ -275,8 +273,8 @@ failed_is_a_session = (
   ),
   (
     (
-      (
-        record {
+      record {
+        woven = record {
           few = lit≤ tt;
           rising = (lit< tt, (lit< tt, (lit< tt, tt)));
           lined = (inl refl, ((inr (inl refl)), ((inr (inr (inr (inr (inr (inl refl)))))), tt)));
@@ -299,9 +297,9 @@ failed_is_a_session = (
               ),
             ),
           );
-        },
-        (refl, refl),
-      ),
+        };
+        runs = (refl, refl);
+      },
       tt,
     ),
     record { actors = lit≤ tt; five = inr (lit≤ tt); shown = lit≤ tt },
@@ -323,8 +321,8 @@ want_is_a_session = (
   ),
   (
     (
-      (
-        record {
+      record {
+        woven = record {
           few = lit≤ tt;
           rising = (lit< tt, (lit< tt, (lit< tt, tt)));
           lined = (inl refl, ((inr (inl refl)), ((inr (inr (inr (inl refl)))), tt)));
@@ -350,9 +348,9 @@ want_is_a_session = (
               ),
             ),
           );
-        },
-        (refl, refl, tt),
-      ),
+        };
+        runs = (refl, refl, tt);
+      },
       tt,
     ),
     record { actors = lit≤ tt; five = inr (lit≤ tt); shown = lit≤ tt },
@@ -380,8 +378,8 @@ two_is_a_session = (
   ),
   (
     (
-      (
-        record {
+      record {
+        woven = record {
           few = lit≤ tt;
           rising = (lit< tt, (lit< tt, (lit< tt, tt)));
           lined = (inl refl, ((inr (inl refl)), ((inr (inr (inl refl))), tt)));
@@ -395,12 +393,12 @@ two_is_a_session = (
               ),
             ),
           );
-        },
-        (refl, refl),
-      ),
+        };
+        runs = (refl, refl);
+      },
       (
-        (
-          record {
+        record {
+          woven = record {
             few = lit≤ tt;
             rising = (lit< tt, (lit< tt, tt));
             lined = (inl refl, ((inr (inl refl)), tt));
@@ -411,9 +409,9 @@ two_is_a_session = (
                 tt,
               ),
             );
-          },
-          (refl, refl),
-        ),
+          };
+          runs = (refl, refl);
+        },
         tt,
       ),
     ),

@@ -93,6 +93,12 @@ pub record Woven (known : Known) (own : List Moment) (lines : List Numbered) (c 
   pub lined : Each (λ x. IsLineOf (take (ran c) lines) x.entry.line) own
   pub each : Each (IsWoven known) (turns own (ran_lines lines c.told))
 
+-- One client's weave, over a journal in which others have entries too: its own moments in their order, what was told of each of its
+-- lines by these alone and by the front of the journal that each of them met, and where it stops.
+pub record WovenClient (known : Known) (journal : List Entry) (client : ℕ) (own : List Moment) (lines : List Numbered) (c : Client) : Type 0 where
+  pub woven : Woven known own lines c
+  pub runs : RunsTo known.limits journal client c.why (drop (ran c) lines) (ran_lines lines c.told)
+
 -- ---- failed tries
 
 abbrev pub failed_in : Told → ℕ
@@ -132,8 +138,7 @@ pub record Weave (known : Known) (journal : List Entry) (scripts : List (List Nu
   pub many : length rest.clients ≡ length scripts
   pub each : (client : ℕ) (lines : List Numbered) (c : Client)
       → slice_get scripts client ≡ Some lines → slice_get rest.clients client ≡ Some c
-      → Woven known (own_moments client (moments journal)) lines c
-      × RunsTo known.limits journal client c.why (drop (ran c) lines) (ran_lines lines c.told)
+      → WovenClient known journal client (own_moments client (moments journal)) lines c
   pub nobody_else : Each (λ e. e.client < length scripts) journal
   pub read : (text : List ℕ) (r : Reading) → known.readings text ≡ Some r → IsReading text r
   pub tried : AreTried journal rest
