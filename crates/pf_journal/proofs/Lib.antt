@@ -12,6 +12,7 @@ pub mod Owning
 mod Pages
 mod Sessions
 pub mod Tallying
+pub mod Whole
 mod WorkedCaches
 mod WorkedFrozen
 mod WorkedRefusals

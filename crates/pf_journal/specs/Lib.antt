@@ -1,5 +1,6 @@
 pub mod Asking
 pub mod Bodies
+pub mod Clients
 pub mod Entered
 pub mod Evaluations
 pub mod Files

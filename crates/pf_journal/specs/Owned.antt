@@ -1,5 +1,5 @@
 -- One client's share of a journal that several write: the places that are its own, and the moments there. This project's own.
-use Rattle.std.specs.Prelude.{◌≡◌, ℕ, ◌<◌, Bool, true, false, Some, List, [], ◌∷◌, ◌++◌, cond, filter, length, nat_eq, slice_get}
+use Rattle.std.specs.Prelude.{◌≡◌, ℕ, ◌<◌, Bool, true, false, Some, List, [], ◌∷◌, cond, filter, length, nat_eq, slice_get}
 use Rattle.pf_model.specs.Lists.{Each}
 use Rattle.pf_journal.specs.Legal.{Moment, moments}
 use Rattle.pf_journal.specs.Named.{Named, closes_of, journal_of}
@@ -53,8 +53,3 @@ pub record Holds (client : ℕ) (own : List ℕ) (seen : List Named) : Type 0 wh
   pub within : OwnsWithin (length seen) own
   pub mine : Each (λ x. x.entry.client ≡ client) (own_of own seen)
   pub home : Each (CancelsOwn own) (own_of own seen)
-
--- the places of several
-abbrev pub all_own : {K : Type 0} → (own : K → List ℕ) → List K → List ℕ
-all_own own [] = []
-all_own own (k ∷ ks) = own k ++ all_own own ks

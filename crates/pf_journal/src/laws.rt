@@ -1,5 +1,6 @@
-//! Laws of frozen steps.
+//! Laws of frozen steps, and of clients that share a journal.
 
+ghost use Rattle.pf_journal.specs.Clients.{SharedWeave};
 ghost use Rattle.pf_journal.specs.Frozen.{FrozenSteps, KeptCells};
 
 /// Does nothing. Its contract is a law: a step that is frozen at a log's floor has the same value over each longer log of the
@@ -13,4 +14,11 @@ pub fn frozen_steps()
 #[tactic(auto, using(crate::proofs::FrozenSteps::kept_cells))]
 pub fn kept_cells()
     ensures { KeptCells }
+{}
+
+/// Does nothing. Its contract is a law: clients that share a history, each woven by its own places and by what it saw, are woven
+/// into its journal.
+#[tactic(auto, using(crate::proofs::Whole::shared_weave))]
+pub fn shared_weave()
+    ensures { SharedWeave }
 {}
