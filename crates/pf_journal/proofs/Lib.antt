@@ -14,6 +14,7 @@ mod Sessions
 pub mod Tallying
 pub mod Whole
 mod WorkedCaches
+mod WorkedClients
 mod WorkedFrozen
 mod WorkedRefusals
 mod WorkedReplies

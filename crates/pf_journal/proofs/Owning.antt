@@ -62,6 +62,15 @@ owns_other : (own : List ℕ) (n p : ℕ) → nat_eq n p ≡ false → owns (own
 owns_other [] n p h = rw h refl
 owns_other (x ∷ own) n p h = rw (owns_other own n p h) refl
 
+pub within_each : (n : ℕ) (own : List ℕ) → Each (λ p. p < n) own → OwnsWithin n own
+within_each n [] h p mine = cc
+within_each n (q ∷ own) h p mine = elim (bool_cases (nat_eq q p)) [
+  | inl t ↦ let same : q ≡ p = grind (arith, nat_tests, t) in let low = h.0 in omega (arith, same, low)
+  | inr t ↦
+      let there : owns own p ≡ true = rw t at mine in
+      within_each n own h.1 p there
+]
+
 pub within_later : (m n : ℕ) (own : List ℕ) → m ≤ n → OwnsWithin m own → OwnsWithin n own
 within_later m n own le h p mine = let low = h p mine in omega (arith, low, le)
 

@@ -357,7 +357,7 @@ want_is_a_session = (
   ),
 )
 
-two_is_a_session : IsSession two_known two_journal two_scripts two_rest
+pub two_is_a_session : IsSession two_known two_journal two_scripts two_rest
 unfolding clamp digits
 two_is_a_session = (
   (
