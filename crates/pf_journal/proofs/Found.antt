@@ -1,17 +1,17 @@
 -- What a client's own moments say of a history that it finds: of its own queries, what is answered, cancelled and open there.
-use Rattle.std.proofs.Common.{◌≡◌, ℕ, zero, suc, ◌+◌, ◌<◌, ◌≤◌, inl, inr, Bool, true, false, nat_eq, Option, Some, None, List, [], ◌∷◌, ◌++◌, length, filter, slice_get, refl, sym, ap, ◌∙◌, subst, arith}
+use Rattle.std.proofs.Common.{◌≡◌, ℕ, suc, ◌+◌, ◌≤◌, inl, inr, Bool, true, false, Option, Some, None, List, [], ◌∷◌, ◌++◌, length, filter, slice_get, refl, sym, ap, ◌∙◌, subst, arith}
 use mathlib.Core.List.{IsPrefix}
 use Rattle.std.proofs.lemmas.Bool.Decides.{nat_tests}
 use Rattle.pf_base.specs.declared.plain.Limits.{Limits}
 use Rattle.pf_model.specs.Lists.{Each, first_with}
 use Rattle.pf_journal.proofs.Histories.{journal_length, journal_prefix}
 use Rattle.pf_journal.proofs.Opened.{AreBelow, IsAmong, asked_at, below_next, bool_cases, cancelled_by, no_answer_yet, no_cancel_yet, opened, opened_by}
-use Rattle.pf_journal.proofs.Owning.{count_after, moments_append, own_later}
+use Rattle.pf_journal.proofs.Owning.{moments_append, own_later}
 use Rattle.pf_journal.specs.Asking.{Asked}
 use Rattle.pf_journal.specs.Legal.{IsLawful, Legal, Moment, machine_after, moments, moments_from}
 use Rattle.pf_journal.specs.Machine.{Entry, Machine, Open, What, append, delete, ask, full, no_tenant, cancel, answer, next, open_at, started}
-use Rattle.pf_journal.specs.Named.{Named, closes_in, closes_of, journal_of}
-use Rattle.pf_journal.specs.Owned.{AreCancelsOwn, AreClosesOwn, OwnsWithin, own_at, own_of, owns}
+use Rattle.pf_journal.specs.Named.{Named, closes_in, journal_of}
+use Rattle.pf_journal.specs.Owned.{AreCancelsOwn, AreClosesOwn, OwnsWithin, own_of, owns}
 use Rattle.pf_journal.specs.Turns.{answer_of, cancel_of, is_answer_of, is_cancel_of, place_of}
 
 -- ---- lists

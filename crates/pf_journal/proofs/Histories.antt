@@ -1,10 +1,10 @@
 -- Histories and their journals: a history grows as its journal does, and its names stay where more names follow.
-use Rattle.std.proofs.Common.{◌≡◌, ℕ, zero, suc, ◌+◌, ◌<◌, ◌≤◌, Option, Some, None, List, [], ◌∷◌, ◌++◌, length, map, slice_get, refl, sym, ap, ◌∙◌, subst, arith}
+use Rattle.std.proofs.Common.{◌≡◌, ℕ, zero, suc, ◌<◌, ◌≤◌, List, [], ◌∷◌, ◌++◌, length, map, slice_get, refl, sym, ap, ◌∙◌, subst, arith}
 use mathlib.Core.List.{IsPrefix}
 use Rattle.pf_base.specs.declared.plain.Limits.{Limits}
 use Rattle.pf_model.specs.Lists.{Each}
 use Rattle.pf_model.specs.Log.{Change, log_with, log_without}
-use Rattle.pf_journal.specs.Legal.{IsLawful, Legal, Moment, machine_after, moments, moments_from}
+use Rattle.pf_journal.specs.Legal.{IsLawful, Legal, machine_after, moments_from}
 use Rattle.pf_journal.specs.Machine.{Allowed, Entry, Machine, What, append, delete, ask, full, no_tenant, cancel, answer, log_of, next, started, with_log}
 use Rattle.pf_journal.specs.Named.{AreNamedBy, Named, history, journal_of, name_in, named}
 

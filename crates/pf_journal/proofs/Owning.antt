@@ -1,5 +1,5 @@
 -- A client's own moments grow with the entries that it adds, and with no other.
-use Rattle.std.proofs.Common.{◌≡◌, ℕ, zero, suc, ◌+◌, ◌<◌, ◌≤◌, ◌⊎◌, inl, inr, Bool, true, false, nat_eq, List, [], ◌∷◌, ◌++◌, length, filter, refl, sym, ap, ◌∙◌, subst, append-nil, arith}
+use Rattle.std.proofs.Common.{◌≡◌, ℕ, ◌+◌, ◌<◌, ◌≤◌, ◌⊎◌, inl, inr, true, false, nat_eq, List, [], ◌∷◌, ◌++◌, length, refl, sym, ap, ◌∙◌, subst, append-nil, arith}
 use Rattle.std.proofs.lemmas.Bool.Decides.{nat_tests}
 use Rattle.std.proofs.lemmas.List.{length-append}
 use Rattle.std.proofs.lemmas.List.Elements.{filter-append}
@@ -11,7 +11,7 @@ use Rattle.pf_journal.specs.Legal.{Moment, machine_after, moments, moments_from}
 use Rattle.pf_journal.specs.Machine.{Entry, Machine, next, started}
 use Rattle.pf_journal.specs.Named.{Named, journal_of}
 use Rattle.pf_journal.specs.Owned.{CancelsOwn, Holds, OwnsEach, OwnsWithin, own_at, own_of, owns}
-use Rattle.pf_journal.specs.Turns.{is_cancel_of, place_of}
+use Rattle.pf_journal.specs.Turns.{place_of}
 
 -- ---- lists
 

@@ -1,17 +1,17 @@
 -- Clients that share a history: what is at a client's own places is what it entered, so each client's weave by what it saw is its
 -- weave in the whole journal.
-use Rattle.std.proofs.Common.{◌≡◌, ℕ, zero, suc, ◌+◌, ◌<◌, ◌≤◌, inl, inr, Bool, true, false, nat_eq, Option, Some, None, List, [], ◌∷◌, ◌++◌, length, filter, slice_get, take, drop, refl, sym, ap, ◌∙◌, subst, arith}
+use Rattle.std.proofs.Common.{◌≡◌, ℕ, zero, suc, ◌+◌, ◌<◌, inl, inr, Bool, true, nat_eq, Option, Some, None, List, [], ◌∷◌, ◌++◌, length, filter, slice_get, take, drop, refl, sym, ap, ◌∙◌, subst, arith}
 use mathlib.Core.List.{IsPrefix}
 use Rattle.std.proofs.lemmas.Bool.Decides.{nat_tests}
 use Rattle.std.proofs.lemmas.Option.{none-some, slice_get_within}
 use Rattle.pf_base.specs.declared.plain.Limits.{Limits}
 use Rattle.pf_model.specs.Lists.{Each}
 use Rattle.pf_model.specs.Queries.{IsReading, Reading}
-use Rattle.pf_journal.proofs.Found.{Stands, stands}
-use Rattle.pf_journal.proofs.Histories.{journal_append, journal_length, journal_prefix, named_front}
+use Rattle.pf_journal.proofs.Found.{stands}
+use Rattle.pf_journal.proofs.Histories.{journal_append, journal_length, named_front}
 use Rattle.pf_journal.proofs.Opened.{IsAmong, bool_cases}
 use Rattle.pf_journal.proofs.Owning.{count_after, moments_append, own_later, owns_either, prefix_length}
-use Rattle.pf_journal.specs.Clients.{Part, Share, SharedWeave, WovenBy, all_own}
+use Rattle.pf_journal.specs.Clients.{Share, SharedWeave, WovenBy, all_own}
 use Rattle.pf_journal.specs.Legal.{Moment, machine_after, moments, moments_from}
 use Rattle.pf_journal.specs.Machine.{Entry, Machine, next, reserved, started}
 use Rattle.pf_journal.specs.Entered.{room_of}
@@ -20,7 +20,7 @@ use Rattle.pf_journal.specs.Owned.{AreCancelsOwn, CancelsOwn, own_at, own_of, ow
 use Rattle.pf_journal.specs.Rest.{Client, Known, Rest, Why, at_end, at_full, at_memory}
 use Rattle.pf_journal.specs.Scripts.{Line, Numbered}
 use Rattle.pf_journal.specs.Turns.{Ran, is_cancel_of, own_moments, place_of, ran_lines}
-use Rattle.pf_journal.specs.Weave.{AreTried, Lacks, LacksRoom, RunsTo, StopsAt, UnlessStopped, Weave, WovenClient, stops_at}
+use Rattle.pf_journal.specs.Weave.{AreTried, Lacks, RunsTo, StopsAt, UnlessStopped, Weave, WovenClient, stops_at}
 
 -- ---- lists
 

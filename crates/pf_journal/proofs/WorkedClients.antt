@@ -1,12 +1,11 @@
 -- Worked examples of two clients that share a journal: each is woven by its own places and by what it saw, and so into all of it.
 -- Wrong weaves are refused.
-use Rattle.std.proofs.Common.{◌≡◌, Bool, true, false, ℕ, zero, suc, ◌<◌, Some, List, [], ◌∷◌, slice_get, refl, sym, subst, codes, nat_eq, length, take, drop, inl, inr, arith, lit≤, lit<}
+use Rattle.std.proofs.Common.{◌≡◌, Bool, true, false, ℕ, zero, suc, Some, List, [], ◌∷◌, slice_get, refl, sym, subst, codes, nat_eq, length, take, drop, inl, inr, arith, lit≤, lit<}
 use Rattle.std.proofs.lemmas.Option.{none-some}
 use Rattle.std.specs.Fmt.{digits}
 use mathlib.Core.List.{IsPrefix}
 use Rattle.json.proofs.Found.{Some_inj}
 use Rattle.pf_base.specs.Arithmetic.{clamp}
-use Rattle.pf_model.specs.Lists.{Each}
 use Rattle.pf_model.specs.Queries.{IsReading, Reading}
 use Rattle.pf_journal.proofs.Examples.{differ, is_name, line, usual}
 use Rattle.pf_journal.proofs.Histories.{history_named}
@@ -15,10 +14,10 @@ use Rattle.pf_journal.proofs.Sessions.{ask_up, asked_up, ingest_up, ingested_up,
 use Rattle.pf_journal.proofs.Whole.{shared_weave}
 use Rattle.pf_journal.proofs.WorkedWeaves.{two_is_a_session}
 use Rattle.pf_journal.specs.Clients.{Part, Share, WovenBy}
-use Rattle.pf_journal.specs.Legal.{Moment, moments}
-use Rattle.pf_journal.specs.Machine.{Entry, cancel}
-use Rattle.pf_journal.specs.Named.{AreNamedBy, Named, history, journal_of}
-use Rattle.pf_journal.specs.Owned.{AreCancelsOwn, CancelsOwn, Holds, OwnsEach, OwnsWithin, own_at, own_of, owns}
+use Rattle.pf_journal.specs.Legal.{moments}
+use Rattle.pf_journal.specs.Machine.{cancel}
+use Rattle.pf_journal.specs.Named.{AreNamedBy, Named, history}
+use Rattle.pf_journal.specs.Owned.{AreCancelsOwn, Holds, OwnsEach, own_at, own_of}
 use Rattle.pf_journal.specs.Rest.{Client, Told, at_end, nothing, waiting}
 use Rattle.pf_journal.specs.Scripts.{Numbered}
 use Rattle.pf_journal.specs.Scripts as script

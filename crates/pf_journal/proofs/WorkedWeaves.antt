@@ -1,5 +1,5 @@
 -- Worked examples of legal and woven journals: those of the small sessions.
-use Rattle.std.proofs.Common.{◌≡◌, Some, zero, suc, subst, slice_get, add-zero, zero-add, arith, ℕ, ◌+◌, List, [], ◌∷◌, drop, refl, sym, codes, inl, inr, lit≤, lit<}
+use Rattle.std.proofs.Common.{◌≡◌, Some, zero, suc, subst, slice_get, add-zero, zero-add, arith, ℕ, ◌+◌, List, [], ◌∷◌, refl, sym, codes, inl, inr, lit≤, lit<}
 use Rattle.std.proofs.lemmas.Option.{none-some}
 use Rattle.json.proofs.Found.{Some_inj}
 use Rattle.pf_model.specs.Queries.{IsReading, Reading}
@@ -12,10 +12,10 @@ use Rattle.pf_journal.proofs.Pages.{up_gives}
 use Rattle.pf_journal.proofs.Sessions.{cancel_journal, cancel_known, cancel_rest, cancel_scripts, failed_journal, failed_known, failed_rest, failed_scripts, full_journal, full_known, full_rest, full_scripts, limit_journal, limit_known, limit_rest, limit_scripts, steps_journal, steps_known, steps_rest, steps_scripts, two_journal, two_known, two_rest, two_scripts, want_journal, want_known, want_rest, want_scripts}
 use Rattle.pf_journal.specs.Legal.{Legal, moments}
 use Rattle.pf_journal.specs.Machine.{Entry}
-use Rattle.pf_journal.specs.Rest.{Client, Known, Rest, ran}
+use Rattle.pf_journal.specs.Rest.{Client, Known, Rest}
 use Rattle.pf_journal.specs.Scripts.{Numbered}
-use Rattle.pf_journal.specs.Turns.{own_moments, ran_lines}
-use Rattle.pf_journal.specs.Weave.{AreTried, RunsTo, Weave, WovenClient}
+use Rattle.pf_journal.specs.Turns.{own_moments}
+use Rattle.pf_journal.specs.Weave.{AreTried, Weave, WovenClient}
 
 -- a client is woven into a journal
 abbrev pub IsWovenIn : Known → List Entry → ℕ → List Numbered → Client → Type 0

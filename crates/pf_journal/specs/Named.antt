@@ -2,7 +2,7 @@
 -- This project's own.
 use Rattle.std.specs.Prelude.{◌≡◌, ℕ, Option, Some, None, List, map, slice_get}
 use Rattle.pf_model.specs.Lists.{Each}
-use Rattle.pf_journal.specs.Machine.{Entry, What, append, delete, ask, full, no_tenant, cancel, answer}
+use Rattle.pf_journal.specs.Machine.{Entry, What, append, delete, ask, full, answer}
 
 -- an entry, with its tenant's name where it has a tenant's number
 pub record Named : Type 0 where
