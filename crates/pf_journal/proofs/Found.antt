@@ -1,12 +1,13 @@
 -- What a client's own moments say of a history that it finds: of its own queries, what is answered, cancelled and open there.
-use Rattle.std.proofs.Common.{◌≡◌, ℕ, suc, ◌+◌, ◌≤◌, inl, inr, Bool, true, false, Option, Some, None, List, [], ◌∷◌, ◌++◌, length, filter, slice_get, refl, sym, ap, ◌∙◌, subst, arith}
+use Rattle.std.proofs.Common.{◌≡◌, ℕ, zero, suc, nat_eq, ◌+◌, ◌≤◌, inl, inr, Bool, true, false, Option, Some, None, List, [], ◌∷◌, ◌++◌, length, filter, slice_get, refl, sym, ap, ◌∙◌, subst, arith}
 use mathlib.Core.List.{IsPrefix}
 use Rattle.std.proofs.lemmas.Bool.Decides.{nat_tests}
+use Rattle.std.proofs.lemmas.Option.{none-some, slice_get_within}
 use Rattle.pf_base.specs.declared.plain.Limits.{Limits}
 use Rattle.pf_model.specs.Lists.{Each, first_with}
 use Rattle.pf_journal.proofs.Histories.{journal_length, journal_prefix}
 use Rattle.pf_journal.proofs.Opened.{AreBelow, IsAmong, asked_at, below_next, bool_cases, cancelled_by, no_answer_yet, no_cancel_yet, opened, opened_by}
-use Rattle.pf_journal.proofs.Owning.{moments_append, own_later}
+use Rattle.pf_journal.proofs.Owning.{moments_append, own_later, owns_more, owns_other}
 use Rattle.pf_journal.specs.Asking.{Asked}
 use Rattle.pf_journal.specs.Legal.{IsLawful, Legal, Moment, machine_after, moments, moments_from}
 use Rattle.pf_journal.specs.Machine.{Entry, Machine, Open, What, append, delete, ask, full, no_tenant, cancel, answer, next, open_at, started}
@@ -130,6 +131,26 @@ pub cancel_found : (own : List ℕ) (seen found : List Named) (x : Moment) → I
 cancel_found own seen found x grows within cancels mine =
     first_filter (λ y. is_cancel_of (place_of x) y.entry.what) (λ y. owns own (place_of y)) (moments (journal_of found)) (cancels_own own found (place_of x) cancels mine)
     ∙ ap (cancel_of (Some x)) (own_later own seen found grows within)
+
+-- ---- cancels of a shorter history
+
+get_front : {X : Type 0} (xs ys : List X) (i : ℕ) (x : X) → slice_get xs i ≡ Some x → slice_get (xs ++ ys) i ≡ Some x
+get_front [] ys i x h = absurd (none-some _ h)
+get_front (y ∷ xs) ys zero x h = h
+get_front (y ∷ xs) ys (suc i) x h = get_front xs ys i x h
+
+-- nobody else cancels own queries in a front of a history where nobody else does
+pub cancels_front : (own : List ℕ) (seen found : List Named) → IsPrefix seen found → AreCancelsOwn own found → AreCancelsOwn own seen
+cancels_front own seen found grows h place query x at =
+    h place query x (subst (λ (xs : List Named). slice_get xs place ≡ Some x) grows.1 (get_front seen grows.0 place x at))
+
+-- nor did before a further own entry
+pub cancels_before : (own : List ℕ) (n : ℕ) (seen found : List Named) → IsPrefix seen found → length seen ≤ n → AreCancelsOwn (own ++ n ∷ []) found
+    → AreCancelsOwn own seen
+cancels_before own n seen found grows le h place query x at is mine =
+    let front = slice_get_within seen place x at in
+    let other : nat_eq n place ≡ false = grind (arith, nat_tests, front, le) in
+    sym (owns_other own n place other) ∙ cancels_front (own ++ n ∷ []) seen found grows h place query x at is (owns_more own (n ∷ []) query mine)
 
 -- ---- what is open
 

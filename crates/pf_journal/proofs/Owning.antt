@@ -58,7 +58,8 @@ owns_last (x ∷ own) n = elim (bool_cases (nat_eq x n)) [
   | inr t ↦ rw t (owns_last own n)
 ]
 
-owns_other : (own : List ℕ) (n p : ℕ) → nat_eq n p ≡ false → owns (own ++ n ∷ []) p ≡ owns own p
+-- and change nothing else
+pub owns_other : (own : List ℕ) (n p : ℕ) → nat_eq n p ≡ false → owns (own ++ n ∷ []) p ≡ owns own p
 owns_other [] n p h = rw h refl
 owns_other (x ∷ own) n p h = rw (owns_other own n p h) refl
 

@@ -1,13 +1,12 @@
 -- Clients that share a history: what is at a client's own places is what it entered, so each client's weave by what it saw is its
 -- weave in the whole journal.
 use Rattle.std.proofs.Common.{◌≡◌, ℕ, zero, suc, ◌+◌, ◌<◌, inl, inr, Bool, true, nat_eq, Option, Some, None, List, [], ◌∷◌, ◌++◌, length, filter, slice_get, take, drop, refl, sym, ap, ◌∙◌, subst, arith}
-use mathlib.Core.List.{IsPrefix}
 use Rattle.std.proofs.lemmas.Bool.Decides.{nat_tests}
 use Rattle.std.proofs.lemmas.Option.{none-some, slice_get_within}
 use Rattle.pf_base.specs.declared.plain.Limits.{Limits}
 use Rattle.pf_model.specs.Lists.{Each}
 use Rattle.pf_model.specs.Queries.{IsReading, Reading}
-use Rattle.pf_journal.proofs.Found.{stands}
+use Rattle.pf_journal.proofs.Found.{cancels_front, stands}
 use Rattle.pf_journal.proofs.Histories.{journal_append, journal_length, named_front}
 use Rattle.pf_journal.proofs.Opened.{IsAmong, bool_cases}
 use Rattle.pf_journal.proofs.Owning.{count_after, moments_append, own_later, owns_either, prefix_length}
@@ -28,11 +27,6 @@ get_exists : {X : Type 0} (xs : List X) (i : ℕ) → i < length xs → (x : X) 
 get_exists [] i h = absurd (omega (arith, h))
 get_exists (x ∷ xs) zero h = (x, refl)
 get_exists (x ∷ xs) (suc i) h = get_exists xs i (omega (arith, h))
-
-get_front : {X : Type 0} (xs ys : List X) (i : ℕ) (x : X) → slice_get xs i ≡ Some x → slice_get (xs ++ ys) i ≡ Some x
-get_front [] ys i x h = absurd (none-some _ h)
-get_front (y ∷ xs) ys zero x h = h
-get_front (y ∷ xs) ys (suc i) x h = get_front xs ys i x h
 
 one_got : {X : Type 0} (xs : List X) (i j : ℕ) (x y : X) → i ≡ j → slice_get xs i ≡ Some x → slice_get xs j ≡ Some y → x ≡ y
 one_got xs i j x y same a b = let c : slice_get xs j ≡ Some x = subst (λ n. slice_get xs n ≡ Some x) same a in let d = b in cc
@@ -134,11 +128,6 @@ runs_later limits es more client why left (r ∷ rs) none h =
     unless_later (stops_at r.line.line r.told) (StopsAt limits es client why r.line.line rs) (StopsAt limits (es ++ more) client why r.line.line rs)
     (RunsTo limits es client why left rs) (RunsTo limits (es ++ more) client why left rs)
     (λ w k. (k.0, k.1, lacks_later limits es more client r.line.line w none k.2)) (runs_later limits es more client why left rs none) h
-
--- cancels of a front are those of the whole
-pub cancels_front : (own : List ℕ) (seen found : List Named) → IsPrefix seen found → AreCancelsOwn own found → AreCancelsOwn own seen
-cancels_front own seen found grows h place query x at =
-    h place query x (subst (λ (xs : List Named). slice_get xs place ≡ Some x) grows.1 (get_front seen grows.0 place x at))
 
 -- ---- clients that share a history
 

@@ -63,6 +63,8 @@ ran_at line rs = first_with (λ r. nat_eq r.line.number line) rs
 
 -- ---- jobs in workers' hands
 
+-- Jobs are counted by the client's own `take` and `done` lines and what was told of them. What others have in hand is not counted.
+
 -- a worker with a job of the query that was asked at a place
 pub record Hand : Type 0 where
   pub worker : ℕ
