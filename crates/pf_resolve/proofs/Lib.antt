@@ -9,3 +9,4 @@ pub mod Selectors
 pub mod Settling
 pub mod Variants
 pub mod Walks
+pub mod Windows

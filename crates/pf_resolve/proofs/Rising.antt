@@ -13,7 +13,7 @@ use Rattle.pf_model.specs.declared.expr.At.TheVariants as at
 use Rattle.pf_model.specs.declared.expr.Mods.{Mods}
 use Rattle.pf_model.specs.Evaluation.{fixed_time, multiples, multiples_behind, read_time, resolution_or_minute}
 use Rattle.pf_model.specs.Micros.{cut_down}
-use Rattle.pf_model.specs.Reach.{Times, all_times_read, all_together, reach, times_read, together}
+use Rattle.pf_model.specs.Reach.{Times, all_times_read, all_together, times_read, together}
 use Rattle.pf_model.specs.Trees as tree
 use Rattle.pf_model.specs.Trees.{Tree, Trees}
 use Rattle.pf_resolve.proofs.Multiples.{above, down_times, in_steps, up_to}
@@ -71,7 +71,7 @@ succ_is (pos a) = omega (arith, ints)
 succ_is (negsuc zero) = omega (arith, ints)
 succ_is (negsuc (suc a)) = omega (arith, ints)
 
-next_times : (d : ℕ) (k : ℤ) → (k +ℤ pos 1) *ℤ pos d ≡ k *ℤ pos d +ℤ pos d
+pub next_times : (d : ℕ) (k : ℤ) → (k +ℤ pos 1) *ℤ pos d ≡ k *ℤ pos d +ℤ pos d
 next_times d k = ap (λ x. x *ℤ pos d) (succ_is k) ∙ suc_ℤ-*ℤ k (pos d)
 
 unless : (x y : ℤ) (test : Bool) → int_lt x y ≡ test → (y ≤ℤ x → x <ℤ y) → x <ℤ y
@@ -161,7 +161,7 @@ fixed_rises (Some (at.Time millis)) t u h = ≤ℤ_refl (pos millis)
 fixed_rises (Some at.Start) t u h = h
 fixed_rises (Some at.End) t u h = h
 
-read_rises : (mods : Mods) (t u : ℤ) → t ≤ℤ u → read_time mods t ≤ℤ read_time mods u
+pub read_rises : (mods : Mods) (t u : ℤ) → t ≤ℤ u → read_time mods t ≤ℤ read_time mods u
 read_rises mods t u h = omega (arith, ints, fixed_rises mods.at t u h)
 
 -- ---- a steady query

@@ -1,8 +1,15 @@
 -- The ends of the times that a query reads: this project's own.
-use Rattle.std.specs.Prelude.{ℕ, ◌-◌, ℤ, pos, ◌+ℤ◌, ◌-ℤ◌, Option, Some, None, option_map}
+use Rattle.std.specs.Prelude.{ℕ, ◌-◌, ℤ, pos, ◌+ℤ◌, ◌-ℤ◌, Option, Some, None, map, option_map, Bool, true, false, ◌||◌, nat_le, ◌≡◌, ◌<◌, ◌*ℤ◌, unsigned_abs}
 use Rattle.std.specs.Int.{int_max, int_min}
-use Rattle.pf_model.specs.Reach.{Times}
+use Rattle.pf_model.specs.declared.expr.At.{At}
+use Rattle.pf_model.specs.declared.expr.At.TheVariants as at
+use Rattle.pf_model.specs.declared.expr.Mods.{Mods}
+use Rattle.pf_model.specs.Evaluation.{multiples, read_time}
+use Rattle.pf_model.specs.Micros.{cut_down}
+use Rattle.pf_model.specs.Reach.{Times, all_times_read, all_together, times_read}
+use Rattle.pf_model.specs.Trees.{Tree, Trees}
 use Rattle.pf_resolve.specs.declared.reading.End.{End}
+use Rattle.pf_resolve.specs.declared.reading.Window.{Window}
 use Rattle.pf_resolve.specs.declared.reading.End.TheVariants as end
 
 abbrev pub end_of : End → Option Times → Option ℤ
@@ -28,3 +35,32 @@ window_end end.Latest range to = to
 abbrev pub behind : End → ℕ → ℕ
 behind end.Earliest count = count - 1
 behind end.Latest count = 0
+
+-- of what a query may read at the multiples of a step in (from, to]
+abbrev pub end_over : End → Tree → (step : ℕ) → (from to : ℤ) → Option ℤ
+end_over e query step from to = end_of e (all_together (map (times_read query) (multiples step from to)))
+
+abbrev pub end_over_all : End → Trees → (step : ℕ) → (from to : ℤ) → Option ℤ
+end_over_all e args step from to = end_of e (all_together (map (all_times_read args) (multiples step from to)))
+
+-- the same in a window
+abbrev pub end_in_window : End → Tree → (step : ℕ) → Option Window → Option ℤ
+end_in_window e query step None = None
+end_in_window e query step (Some w) = end_over e query step w.from w.to
+
+-- `@` fixes the time
+abbrev pub is_fixed : Option At → Bool
+is_fixed None = false
+is_fixed (Some (at.Time millis)) = true
+is_fixed (Some at.Start) = false
+is_fixed (Some at.End) = false
+
+-- the windows before the multiples of a step touch, or are the same one
+abbrev pub are_touching : Mods → (range step : ℕ) → Bool
+are_touching mods range step = is_fixed mods.at || nat_le step range
+
+-- the one window in place of those before the multiples of a step in (from, to], of which there are some
+pub record IsJoined (mods : Mods) (range step : ℕ) (from to : ℤ) (w : Window) : Type 0 where
+  pub some : 0 < unsigned_abs (cut_down to step -ℤ cut_down from step)
+  pub start : w.from ≡ read_time mods ((cut_down to step -ℤ pos (unsigned_abs (cut_down to step -ℤ cut_down from step) - 1)) *ℤ pos step) -ℤ pos range
+  pub finish : w.to ≡ read_time mods ((cut_down to step -ℤ pos 0) *ℤ pos step)

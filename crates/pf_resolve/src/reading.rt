@@ -1,14 +1,14 @@
 //! The times that a query reads.
 
-ghost use Rattle.std.specs.Prelude.{◌≡◌, ◌+◌, ◌*◌, ◌<◌, ◌≤◌, ◌≤ℤ◌, ◌<ℤ◌, ℤ, pos, ◌-ℤ◌, ◌*ℤ◌, true, unsigned_abs, map};
+ghost use Rattle.std.specs.Prelude.{◌≡◌, ◌+◌, ◌*◌, ◌<◌, ◌≤◌, ◌≤ℤ◌, ◌<ℤ◌, ℤ, pos, ◌-ℤ◌, ◌*ℤ◌, true, unsigned_abs, map, max, None, IfSome};
 ghost use Rattle.pf_base.specs.Limits.{greatest_time};
 ghost use Rattle.pf_model.specs.Evaluation.{fixed_time, multiples, read_time};
 ghost use Rattle.pf_model.specs.Micros.{cut_down};
 ghost use Rattle.pf_model.specs.Reach.{all_times_read, all_together, lowest, reach, times_read};
 ghost use Rattle.pf_model.specs.Trees.{height, heights, tree_of, trees_of};
 ghost use Rattle.pf_resolve.specs.Bounds.{HasRoom, are_small, are_small_mods, is_small, is_small_at};
-ghost use Rattle.pf_resolve.specs.Ends.{behind, end_of, farther, farther_of, window_end};
-ghost use Rattle.pf_resolve.specs.Steady.{are_steady, is_steady};
+ghost use Rattle.pf_resolve.specs.Ends.{IsJoined, are_touching, behind, end_in_window, end_of, end_over, end_over_all, farther, farther_of, window_end};
+ghost use Rattle.pf_resolve.specs.Steady.{is_steady};
 
 use crate::steady::is_steady;
 use pf_model::{At, Expr, Mods};
@@ -24,6 +24,13 @@ const MINUTE: u64 = 60_000;
 enum End {
     Earliest,
     Latest,
+}
+
+/// From the one time on, without it, to the other.
+#[derive(Clone, Copy)]
+struct Window {
+    from: i64,
+    to: i64,
 }
 
 fn farther(end: End, left: i64, right: i64) -> i64
@@ -159,61 +166,175 @@ fn behind(end: End, count: u64) -> u64
     }
 }
 
-/// An end of the times that a steady subquery's expression reads whose window ends at a time. It is asked at one multiple of the
-/// step, the first or the last.
-#[cycle(times)]
-fn end_at_edge(arg: &Expr, end: End, range: u64, step: u64, to: i64) -> Option<i64>
-    requires steady { is_steady (tree_of arg.now) ≡ true }
-    requires small { is_small (tree_of arg.now) ≡ true }
+/// Whether the windows before the multiples of a step touch. They are the same one where `@` fixes the time.
+fn are_touching(mods: Mods, range: u64, step: u64) -> bool
+    ensures { result ≡ are_touching mods range step }
+{
+    match mods.at {
+        Some(At::Time { .. }) => true,
+        Some(At::Start) => step <= range,
+        Some(At::End) => step <= range,
+        None => step <= range,
+    }
+}
+
+/// The window in place of those before the multiples of a step in (from, to], none where there is no multiple.
+fn joined_window(mods: Mods, range: u64, step: u64, from: i64, to: i64) -> Option<Window>
+    requires mods { are_small_mods mods ≡ true }
     requires range { range ≤ greatest_time }
     requires step { step ≤ greatest_time }
-    requires room { unsigned_abs to + greatest_time + 17592186044416 * height (tree_of arg.now) ≤ 2251799813685248 }
-    ensures { result ≡ end_of end (all_together (map (λ u. times_read (tree_of arg.now) u) (multiples step (to -ℤ pos range) to))) }
+    requires order { from ≤ℤ to }
+    requires first { unsigned_abs from + 17592186044416 ≤ 2251799813685248 }
+    requires last { unsigned_abs to + 17592186044416 ≤ 2251799813685248 }
+    ensures none { result ≡ None → unsigned_abs (cut_down to step -ℤ cut_down from step) ≡ 0 }
+    ensures order { IfSome result (λ w. w.from ≤ℤ w.to) }
+    ensures first { IfSome result (λ w. unsigned_abs w.from ≤ max (unsigned_abs from) (unsigned_abs to) + 17592186044416) }
+    ensures last { IfSome result (λ w. unsigned_abs w.to ≤ max (unsigned_abs from) (unsigned_abs to) + 17592186044416) }
+    ensures window { IfSome result (IsJoined mods range step from to) }
 {
-    let from = window_start(range, to);
     let count = count_of(step, from, to);
     if count == 0 {
         return None;
     }
-    read_end(arg, end, true, multiple(step, from, to, behind(end, count)))
+    let early = multiple(step, from, to, count - 1);
+    let late = multiple(step, from, to, 0);
+    let first = read_time(mods, early);
+    let last = read_time(mods, late);
+    let start = window_start(range, first);
+    Some(Window {
+        from: start,
+        to: last,
+    })
 }
 
-/// The same of any expression, which is asked at each multiple.
+/// An end of what a steady query reads at the multiples of a step in (from, to]. It is asked at the first or at the last one.
 #[cycle(times)]
-fn end_at_multiples(arg: &Expr, end: End, range: u64, step: u64, to: i64) -> Option<i64>
-    requires small { is_small (tree_of arg.now) ≡ true }
-    requires range { range ≤ greatest_time }
+fn end_at_edge(expr: &Expr, end: End, step: u64, from: i64, to: i64) -> Option<i64>
+    requires steady { is_steady (tree_of expr.now) ≡ true }
+    requires small { is_small (tree_of expr.now) ≡ true }
     requires step { step ≤ greatest_time }
-    requires room { unsigned_abs to + greatest_time + 17592186044416 * height (tree_of arg.now) ≤ 2251799813685248 }
-    ensures { result ≡ end_of end (all_together (map (λ u. times_read (tree_of arg.now) u) (multiples step (to -ℤ pos range) to))) }
+    requires order { from ≤ℤ to }
+    requires first { HasRoom (tree_of expr.now) from }
+    requires last { HasRoom (tree_of expr.now) to }
+    ensures { result ≡ end_over end (tree_of expr.now) step from to }
 {
-    let from = window_start(range, to);
+    let count = count_of(step, from, to);
+    if count == 0 {
+        return None;
+    }
+    read_end(expr, end, multiple(step, from, to, behind(end, count)))
+}
+
+/// The same of any query, which is asked at each multiple.
+#[cycle(times)]
+fn end_at_multiples(expr: &Expr, end: End, step: u64, from: i64, to: i64) -> Option<i64>
+    requires small { is_small (tree_of expr.now) ≡ true }
+    requires step { step ≤ greatest_time }
+    requires order { from ≤ℤ to }
+    requires first { HasRoom (tree_of expr.now) from }
+    requires last { HasRoom (tree_of expr.now) to }
+    ensures { result ≡ end_over end (tree_of expr.now) step from to }
+{
     let mut found = None;
     for k in 0..count_of(step, from, to) {
-        let read = read_end(arg, end, false, multiple(step, from, to, k));
+        let read = read_end(expr, end, multiple(step, from, to, k));
         found = farther_of(end, read, found);
     }
     found
 }
 
 #[cycle(times)]
-fn end_of_all(args: &[Expr], end: End, steady: bool, t: i64) -> Option<i64>
-    requires steady { steady ≡ true → are_steady (trees_of (map tree_of args.now)) ≡ true }
+fn end_over_all(args: &[Expr], end: End, step: u64, from: i64, to: i64) -> Option<i64>
+    requires small { are_small (trees_of (map tree_of args.now)) ≡ true }
+    requires step { step ≤ greatest_time }
+    requires order { from ≤ℤ to }
+    requires first { unsigned_abs from + 17592186044416 * heights (trees_of (map tree_of args.now)) ≤ 2251799813685248 }
+    requires last { unsigned_abs to + 17592186044416 * heights (trees_of (map tree_of args.now)) ≤ 2251799813685248 }
+    ensures { result ≡ end_over_all end (trees_of (map tree_of args.now)) step from to }
+{
+    let mut found = None;
+    for arg in args {
+        found = farther_of(end, found, end_over(arg, end, step, from, to));
+    }
+    found
+}
+
+/// The same in a window, none where there is none.
+#[cycle(times)]
+fn end_in_window(expr: &Expr, end: End, step: u64, window: Option<Window>) -> Option<i64>
+    requires small { is_small (tree_of expr.now) ≡ true }
+    requires step { step ≤ greatest_time }
+    requires order { IfSome window (λ w. w.from ≤ℤ w.to) }
+    requires first { IfSome window (λ w. HasRoom (tree_of expr.now) w.from) }
+    requires last { IfSome window (λ w. HasRoom (tree_of expr.now) w.to) }
+    ensures { result ≡ end_in_window end (tree_of expr.now) step window }
+{
+    let Window { from, to } = window?;
+    end_over(expr, end, step, from, to)
+}
+
+/// An end of what a query reads at the multiples of a step in (from, to], none where it reads nothing. A subquery is asked at each
+/// of them only where it isn't steady and its windows are apart.
+#[cycle(times)]
+fn end_over(expr: &Expr, end: End, step: u64, from: i64, to: i64) -> Option<i64>
+    requires small { is_small (tree_of expr.now) ≡ true }
+    requires step { step ≤ greatest_time }
+    requires order { from ≤ℤ to }
+    requires first { HasRoom (tree_of expr.now) from }
+    requires last { HasRoom (tree_of expr.now) to }
+    ensures { result ≡ end_over end (tree_of expr.now) step from to }
+{
+    match expr {
+        Expr::Number { .. } => None,
+        Expr::Text { .. } => None,
+        Expr::Unary { arg, .. } => end_over(arg, end, step, from, to),
+        Expr::Binary { left, right, .. } => farther_of(
+            end,
+            end_over(left, end, step, from, to),
+            end_over(right, end, step, from, to),
+        ),
+        Expr::Call { args, .. } => end_over_all(args, end, step, from, to),
+        Expr::Aggregate { args, .. } => end_over_all(args, end, step, from, to),
+        Expr::Select { .. } => end_at_edge(expr, end, step, from, to),
+        Expr::Subquery {
+            arg,
+            range,
+            resolution,
+            mods,
+        } => {
+            let inner = resolution.unwrap_or(MINUTE);
+            if is_steady(expr) {
+                end_at_edge(expr, end, step, from, to)
+            } else if are_touching(*mods, *range, step) {
+                end_in_window(
+                    arg,
+                    end,
+                    inner,
+                    joined_window(*mods, *range, step, from, to),
+                )
+            } else {
+                end_at_multiples(expr, end, step, from, to)
+            }
+        }
+    }
+}
+
+#[cycle(times)]
+fn end_of_all(args: &[Expr], end: End, t: i64) -> Option<i64>
     requires small { are_small (trees_of (map tree_of args.now)) ≡ true }
     requires room { unsigned_abs t + 17592186044416 * heights (trees_of (map tree_of args.now)) ≤ 2251799813685248 }
     ensures { result ≡ end_of end (all_times_read (trees_of (map tree_of args.now)) t) }
 {
     let mut found = None;
     for arg in args {
-        found = farther_of(end, found, read_end(arg, end, steady, t));
+        found = farther_of(end, found, read_end(arg, end, t));
     }
     found
 }
 
-/// An end of the times that a query may read at a time, none where it reads nothing. `steady` is true only of a steady one.
+/// An end of the times that a query may read at a time, none where it reads nothing.
 #[cycle(times)]
-fn read_end(expr: &Expr, end: End, steady: bool, t: i64) -> Option<i64>
-    requires steady { steady ≡ true → is_steady (tree_of expr.now) ≡ true }
+fn read_end(expr: &Expr, end: End, t: i64) -> Option<i64>
     requires small { is_small (tree_of expr.now) ≡ true }
     requires room { HasRoom (tree_of expr.now) t }
     ensures { result ≡ end_of end (times_read (tree_of expr.now) t) }
@@ -221,14 +342,14 @@ fn read_end(expr: &Expr, end: End, steady: bool, t: i64) -> Option<i64>
     match expr {
         Expr::Number { .. } => None,
         Expr::Text { .. } => None,
-        Expr::Unary { arg, .. } => read_end(arg, end, steady, t),
+        Expr::Unary { arg, .. } => read_end(arg, end, t),
         Expr::Binary { left, right, .. } => farther_of(
             end,
-            read_end(left, end, steady, t),
-            read_end(right, end, steady, t),
+            read_end(left, end, t),
+            read_end(right, end, t),
         ),
-        Expr::Call { args, .. } => end_of_all(args, end, steady, t),
-        Expr::Aggregate { args, .. } => end_of_all(args, end, steady, t),
+        Expr::Call { args, .. } => end_of_all(args, end, t),
+        Expr::Aggregate { args, .. } => end_of_all(args, end, t),
         Expr::Select { range, mods, .. } => {
             let to = read_time(*mods, t);
             Some(window_end(end, range.unwrap_or(LOOKBACK), to))
@@ -240,12 +361,9 @@ fn read_end(expr: &Expr, end: End, steady: bool, t: i64) -> Option<i64>
             mods,
         } => {
             let to = read_time(*mods, t);
+            let from = window_start(*range, to);
             let step = resolution.unwrap_or(MINUTE);
-            if steady || is_steady(arg) {
-                end_at_edge(arg, end, *range, step, to)
-            } else {
-                end_at_multiples(arg, end, *range, step, to)
-            }
+            end_over(arg, end, step, from, to)
         }
     }
 }
@@ -258,7 +376,7 @@ pub fn reach(expr: &Expr, t: i64) -> Option<i64>
     requires time { (pos 0 ≤ℤ t) × (t ≤ℤ pos greatest_time) }
     ensures { result ≡ reach (tree_of expr.now) t }
 {
-    read_end(expr, End::Latest, false, t)
+    read_end(expr, End::Latest, t)
 }
 
 /// The earliest time in milliseconds that a query may read at a time, none where it reads nothing. It takes no memory, and calls
@@ -269,5 +387,5 @@ pub fn lowest(expr: &Expr, t: i64) -> Option<i64>
     requires time { (pos 0 ≤ℤ t) × (t ≤ℤ pos greatest_time) }
     ensures { result ≡ lowest (tree_of expr.now) t }
 {
-    read_end(expr, End::Earliest, false, t)
+    read_end(expr, End::Earliest, t)
 }
