@@ -87,6 +87,10 @@ pub both_over : (e : End) (f g : ℤ → Option Times) (us : List ℤ)
     → farther_of e (end_of e (all_together (map f us))) (end_of e (all_together (map g us))) ≡ end_of e (all_together (map (λ u. together (f u) (g u)) us))
 both_over e f g us = sym (ap (end_of e) (over_both f g us) ∙ end_together e (all_together (map f us)) (all_together (map g us)))
 
+pub over_two : (e : End) (left right : Tree) (step : ℕ) (from to : ℤ) (a b : Option ℤ) → a ≡ end_over e left step from to → b ≡ end_over e right step from to
+    → farther_of e a b ≡ end_of e (all_together (map (λ u. together (times_read left u) (times_read right u)) (multiples step from to)))
+over_two e left right step from to a b p q = (λ i. farther_of e (p i) (q i)) ∙ both_over e (times_read left) (times_read right) (multiples step from to)
+
 min_assoc : (a b c : ℤ) → int_min (int_min a b) c ≡ int_min a (int_min b c)
 min_assoc a b c = grind (arith, ints)
 

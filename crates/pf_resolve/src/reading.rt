@@ -369,7 +369,8 @@ fn read_end(expr: &Expr, end: End, t: i64) -> Option<i64>
 }
 
 /// The latest time in milliseconds that a query may read at a time, none where it reads nothing. It takes no memory, and calls
-/// itself as deep as the tree is high. A subquery's expression is asked at one of its times where it is steady, else at each.
+/// itself as deep as the tree is high. A subquery inside another is asked at each time of the one around it only where it isn't
+/// steady and its windows are apart.
 pub fn reach(expr: &Expr, t: i64) -> Option<i64>
     requires tall { height (tree_of expr.now) ≤ 64 }
     requires small { is_small (tree_of expr.now) ≡ true }
@@ -380,7 +381,8 @@ pub fn reach(expr: &Expr, t: i64) -> Option<i64>
 }
 
 /// The earliest time in milliseconds that a query may read at a time, none where it reads nothing. It takes no memory, and calls
-/// itself as deep as the tree is high. A subquery's expression is asked at one of its times where it is steady, else at each.
+/// itself as deep as the tree is high. A subquery inside another is asked at each time of the one around it only where it isn't
+/// steady and its windows are apart.
 pub fn lowest(expr: &Expr, t: i64) -> Option<i64>
     requires tall { height (tree_of expr.now) ≤ 64 }
     requires small { is_small (tree_of expr.now) ≡ true }

@@ -7,7 +7,7 @@ use Rattle.pf_model.specs.Reach.{Times, times_read}
 use Rattle.pf_base.specs.Limits.{greatest_time}
 use Rattle.pf_model.specs.Trees.{tree_of, trees_of}
 use Rattle.pf_resolve.specs.Ends.{end_in_window, end_of, end_over, farther_of}
-use Rattle.pf_resolve.proofs.Edges.{both_over, edge_tells, end_step, end_together, joined_over, none_over, over_end, over_left, same_over, same_over_all}
+use Rattle.pf_resolve.proofs.Edges.{edge_tells, end_step, end_together, joined_over, none_over, over_end, over_left, over_two, same_over, same_over_all}
 use Rattle.pf_resolve.proofs.Rising.{times_rise_with}
 use Rattle.pf_resolve.proofs.Variants.{number_is, text_is, unary_is, binary_is, call_is, aggregate_is, subquery_is}
 use Rattle.pf_resolve.proofs.Walks.{room_left, small_left}
@@ -82,9 +82,9 @@ end_over-returns-in-Binary t c =
     let left = tree_of c.deref-in-Binary.result.now in
     let right = tree_of c.deref-in-Binary-2.result.now in
     c.farther_of.ensures
-    ∙ ap (λ x. farther_of e x c.end_over-in-Binary-2.result) (c.end_over-in-Binary.ensures ∙ same_over e left c.args.step c.args.step _ c.args.from _ c.args.to refl from to)
-    ∙ ap (farther_of e (end_over e left c.args.step c.args.from c.args.to)) (c.end_over-in-Binary-2.ensures ∙ same_over e right c.args.step c.args.step _ c.args.from _ c.args.to refl from to)
-    ∙ both_over e (times_read left) (times_read right) (multiples c.args.step c.args.from c.args.to)
+    ∙ over_two e left right c.args.step c.args.from c.args.to c.end_over-in-Binary.result c.end_over-in-Binary-2.result
+    (c.end_over-in-Binary.ensures ∙ same_over e left c.args.step c.args.step _ c.args.from _ c.args.to refl from to)
+    (c.end_over-in-Binary-2.ensures ∙ same_over e right c.args.step c.args.step _ c.args.from _ c.args.to refl from to)
     ∙ sym (binary_is (λ x. end_over e x c.args.step c.args.from c.args.to) c.args.expr.now c.deref-in-Binary.result.now c.deref-in-Binary-2.result.now c.in-Binary.op c.in-Binary.matching
     c.in-Binary.left c.in-Binary.right c.in-Binary.is c.deref-in-Binary.ensures c.deref-in-Binary-2.ensures)
 
