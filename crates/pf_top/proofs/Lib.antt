@@ -4,6 +4,8 @@ pub mod Printed
 pub mod RangeSteps
 pub mod Seeds
 pub mod SessionLaws
+pub mod SessionLines
+pub mod SessionScripts
 pub mod WordLaws
 mod WorkedReads
 mod WorkedWords
