@@ -3,10 +3,18 @@
 -- verdicts and generations are this project's own.
 use Rattle.std.specs.Prelude.{◌≡◌, ℕ, ◌+◌, ◌-◌, ℤ, Bool, true, false, ◌&&◌, ◌||◌, not, Option, Some, None, cond, List, [], ◌∷◌, ◌++◌, filter, max, nat_lt, nat_le, nat_eq}
 use Rattle.std.specs.Ordering.{int_eq}
+use Rattle.pf_base.specs.declared.plain.Limits.{Limits}
 use Rattle.pf_base.specs.declared.plain.Row.{Row}
 use Rattle.pf_base.specs.LabelSets.{Pairs}
 use Rattle.pf_model.specs.declared.expr.Matcher.{Matcher}
 use Rattle.pf_model.specs.Selection.{accepts, same_labels}
+
+-- the rules of a log: how far below the newest time a row is still taken, at first
+pub record Rules : Type 0 where
+  pub window : ℕ
+
+abbrev pub rules_of : Limits → Rules
+rules_of limits = record { window = limits.window }
 
 -- a step of a log: a batch is appended, or the samples that matchers accept are deleted from a time to a time
 pub data Change : Type 0 where
@@ -63,22 +71,27 @@ newest_with newest [] = newest
 newest_with None (r ∷ rs) = newest_with (Some r.time) rs
 newest_with (Some newest) (r ∷ rs) = newest_with (Some (max newest r.time)) rs
 
--- what stands after a log: its samples, the greatest time ever taken, and the number of deletions
+-- what stands after a log: its samples, the greatest time ever taken, the number of deletions, and its window now
 pub record Store : Type 0 where
   pub samples : List Row
   pub newest : Option ℕ
   pub generation : ℕ
+  pub window : ℕ
 
-abbrev pub empty_store : Store
-empty_store = record { samples = []; newest = None; generation = 0 }
+abbrev pub empty_store : Rules → Store
+empty_store rules = record { samples = []; newest = None; generation = 0; window = rules.window }
 
 -- the newest time less the window, at least 0, and none where nothing was ever taken
 abbrev pub floor_below : ℕ → Option ℕ → Option ℕ
 floor_below window None = None
 floor_below window (Some newest) = Some (newest - window)
 
+abbrev pub floor_at : Store → Option ℕ
+floor_at s = floor_below s.window s.newest
+
 abbrev pub appended : Store → List Row → Store
-appended s rows = record { samples = s.samples ++ rows; newest = newest_with s.newest rows; generation = s.generation }
+appended s rows =
+    record { samples = s.samples ++ rows; newest = newest_with s.newest rows; generation = s.generation; window = s.window }
 
 -- whether a deletion removes a sample; both ends belong to it
 abbrev pub is_deleted : List Matcher → ℕ → ℕ → Row → Bool
@@ -91,27 +104,26 @@ left_by ms from to rows = filter (λ r. not (is_deleted ms from to r)) rows
 -- a deletion raises the generation, and leaves the greatest time ever taken
 abbrev pub deleted : Store → List Matcher → ℕ → ℕ → Store
 deleted s ms from to =
-    record { samples = left_by ms from to s.samples; newest = s.newest; generation = s.generation + 1 }
+    record { samples = left_by ms from to s.samples; newest = s.newest; generation = s.generation + 1; window = s.window }
 
-abbrev pub changed : ℕ → Store → Change → Store
-changed window s (append rows) =
-    appended s (taken_rows rows (verdicts_on (floor_below window s.newest) s.samples rows))
-changed window s (delete ms from to) = deleted s ms from to
+abbrev pub changed : Store → Change → Store
+changed s (append rows) = appended s (taken_rows rows (verdicts_on (floor_at s) s.samples rows))
+changed s (delete ms from to) = deleted s ms from to
 
-abbrev pub store_after : ℕ → Store → List Change → Store
-store_after window s [] = s
-store_after window s (c ∷ cs) = store_after window (changed window s c) cs
+abbrev pub store_after : Store → List Change → Store
+store_after s [] = s
+store_after s (c ∷ cs) = store_after (changed s c) cs
 
 -- what stands after a whole log
-abbrev pub store_of : ℕ → List Change → Store
-store_of window log = store_after window empty_store log
+abbrev pub store_of : Rules → List Change → Store
+store_of rules log = store_after (empty_store rules) log
 
-abbrev pub floor_of : ℕ → List Change → Option ℕ
-floor_of window log = floor_below window (store_of window log).newest
+abbrev pub floor_of : Rules → List Change → Option ℕ
+floor_of rules log = floor_at (store_of rules log)
 
 -- the verdicts on a batch behind a log
-abbrev pub verdicts_of : ℕ → List Change → List Row → List Verdict
-verdicts_of window log rows = verdicts_on (floor_of window log) (store_of window log).samples rows
+abbrev pub verdicts_of : Rules → List Change → List Row → List Verdict
+verdicts_of rules log rows = verdicts_on (floor_of rules log) (store_of rules log).samples rows
 
 abbrev pub any_taken : List Verdict → Bool
 any_taken [] = false

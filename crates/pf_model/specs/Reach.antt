@@ -1,6 +1,6 @@
 -- The times that a query may read, and its frozen steps: those that no later sample can change, since samples below the floor
 -- are refused. This project's own; Cortex and Mimir do not cache very recent results.
-use Rattle.std.specs.Prelude.{ℕ, ℤ, pos, ◌+ℤ◌, ◌-ℤ◌, int_lt, Bool, true, false, Option, Some, None, option_map, unwrap_or, List, [], ◌∷◌, map}
+use Rattle.std.specs.Prelude.{ℕ, ℤ, pos, ◌+ℤ◌, ◌-ℤ◌, int_lt, Bool, true, false, ◌&&◌, ◌||◌, nat_eq, nat_le, Option, Some, None, option_map, unwrap_or, List, [], ◌∷◌, map}
 use Rattle.std.specs.Int.{int_min, int_max}
 use Rattle.pf_base.specs.Limits.{lookback}
 use Rattle.pf_model.specs.Evaluation.{read_time, multiples, resolution_or_minute}
@@ -59,3 +59,14 @@ is_below (Some latest) (Some floor) = int_lt latest (pos floor)
 
 abbrev pub is_frozen : Tree → ℤ → Option ℕ → Bool
 is_frozen query t floor = is_below (reach query t) floor
+
+-- a step that was evaluated may be kept: it is frozen at the floor there
+abbrev pub may_be_kept : Tree → ℤ → Option ℕ → Bool
+may_be_kept query t floor = is_frozen query t floor
+
+-- what was evaluated after the first `pin` changes of a log may be used by who asks after the first `asked`: the generations there
+-- are the same, and the samples are all among the asker's, or what the asker's lack is not read, since no sample below its floor is
+-- taken any more
+abbrev pub may_be_used : (pin generation asked aged : ℕ) → (floor : Option ℕ) → (reached : Option ℤ) → Bool
+may_be_used pin generation asked aged floor reached =
+    nat_eq generation aged && (nat_le pin asked || is_below reached floor)
