@@ -11,7 +11,7 @@ use Rattle.pf_base.specs.declared.plain.Row.{Row}
 use Rattle.pf_journal.specs.Frozen.{FrozenSteps, KeptCells}
 use Rattle.pf_model.proofs.TimesRead.{frozen_same, is_before}
 use Rattle.pf_model.specs.Evaluation.{eval}
-use Rattle.pf_model.specs.Log.{Change, Store, append, changed, compared, delete, empty_store, floor_below, floor_of, held_value, is_taken, newest_with, store_after, store_of, taken_rows, too_old, verdict_on, verdicts_on}
+use Rattle.pf_model.specs.Log.{Change, Rules, Store, append, changed, compared, delete, empty_store, floor_at, floor_below, floor_of, held_value, is_taken, newest_with, store_after, store_of, taken_rows, too_old, verdict_on, verdicts_on}
 use Rattle.pf_model.specs.Reach.{is_below, is_frozen, reach}
 use Rattle.pf_model.specs.Trees.{Tree}
 
@@ -60,32 +60,32 @@ level_rises window (Some newest) (r ∷ rs) =
     let h : newest - window ≤ max newest r.time - window = grind arith in
     omega (arith, h, level_rises window (Some (max newest r.time)) rs)
 
-generation_rises : (window : ℕ) (s : Store) (cs : List Change) → s.generation ≤ (store_after window s cs).generation
-generation_rises window s [] = omega arith
-generation_rises window s (append rows ∷ cs) = generation_rises window (changed window s (append rows)) cs
-generation_rises window s (delete ms from to ∷ cs) =
-    omega (arith, generation_rises window (changed window s (delete ms from to)) cs)
+generation_rises : (s : Store) (cs : List Change) → s.generation ≤ (store_after s cs).generation
+generation_rises s [] = omega arith
+generation_rises s (append rows ∷ cs) = generation_rises (changed s (append rows)) cs
+generation_rises s (delete ms from to ∷ cs) =
+    omega (arith, generation_rises (changed s (delete ms from to)) cs)
 
 -- ---- more changes
 
 -- the samples below a level are the same after changes that leave the generation, if the floor is not below the level
-same_below : (window low : ℕ) (s : Store) (cs : List Change) → low ≤ level (floor_below window s.newest)
-    → (store_after window s cs).generation ≡ s.generation
-    → filter (is_before low) s.samples ≡ filter (is_before low) (store_after window s cs).samples
-same_below window low s [] h g = refl
-same_below window low s (append rows ∷ cs) h g =
-    let rows' = taken_rows rows (verdicts_on (floor_below window s.newest) s.samples rows) in
-    let still : low ≤ level (floor_below window (newest_with s.newest rows')) = omega (arith, h, level_rises window s.newest rows') in
+same_below : (low : ℕ) (s : Store) (cs : List Change) → low ≤ level (floor_at s)
+    → (store_after s cs).generation ≡ s.generation
+    → filter (is_before low) s.samples ≡ filter (is_before low) (store_after s cs).samples
+same_below low s [] h g = refl
+same_below low s (append rows ∷ cs) h g =
+    let rows' = taken_rows rows (verdicts_on (floor_at s) s.samples rows) in
+    let still : low ≤ level (floor_below s.window (newest_with s.newest rows')) = omega (arith, h, level_rises s.window s.newest rows') in
     sym (filter-append (is_before low) s.samples rows'
-    ∙ ap (λ xs. filter (is_before low) s.samples ++ xs) (none_before (floor_below window s.newest) low s.samples rows h)
+    ∙ ap (λ xs. filter (is_before low) s.samples ++ xs) (none_before (floor_at s) low s.samples rows h)
     ∙ append-nil (filter (is_before low) s.samples))
-    ∙ same_below window low (changed window s (append rows)) cs still g
-same_below window low s (delete ms from to ∷ cs) h g =
-    absurd (omega (arith, g, generation_rises window (changed window s (delete ms from to)) cs))
+    ∙ same_below low (changed s (append rows)) cs still g
+same_below low s (delete ms from to ∷ cs) h g =
+    absurd (omega (arith, g, generation_rises (changed s (delete ms from to)) cs))
 
-after_both : (window : ℕ) (s : Store) (log more : List Change) → store_after window s (log ++ more) ≡ store_after window (store_after window s log) more
-after_both window s [] more = refl
-after_both window s (c ∷ cs) more = after_both window (changed window s c) cs more
+after_both : (s : Store) (log more : List Change) → store_after s (log ++ more) ≡ store_after (store_after s log) more
+after_both s [] more = refl
+after_both s (c ∷ cs) more = after_both (changed s c) cs more
 
 -- a step that is frozen where there is no floor reads nothing, and so is frozen at each
 frozen_by : (reached : Option ℤ) (floor : Option ℕ) → is_below reached floor ≡ true → is_below reached (Some (level floor)) ≡ true
@@ -94,13 +94,13 @@ frozen_by (Some latest) None h = cc
 frozen_by (Some latest) (Some floor) h = h
 
 pub frozen_steps : FrozenSteps
-frozen_steps window log more query t g h =
-    let s = store_of window log in
-    let low = level (floor_of window log) in
-    let e : store_of window (log ++ more) ≡ store_after window s more = after_both window empty_store log more in
-    frozen_same low s.samples (store_after window s more).samples
-    (same_below window low s more (let l : low ≤ low = omega arith in l) (sym (ap (λ x. x.generation) e) ∙ g))
-    query t (frozen_by (reach query t) (floor_of window log) h)
+frozen_steps rules log more query t g h =
+    let s = store_of rules log in
+    let low = level (floor_of rules log) in
+    let e : store_of rules (log ++ more) ≡ store_after s more = after_both (empty_store rules) log more in
+    frozen_same low s.samples (store_after s more).samples
+    (same_below low s more (let l : low ≤ low = omega arith in l) (sym (ap (λ x. x.generation) e) ∙ g))
+    query t (frozen_by (reach query t) (floor_of rules log) h)
     ∙ ap (λ x. eval x.samples query t) (sym e)
 
 -- ---- two fronts of one log
@@ -111,28 +111,28 @@ longer log short long h =
     let e : long ≡ short + (long - short) = omega (arith, h) in
     ap (λ n. take n log) e ∙ take-add short (long - short) log
 
-fronts : (window : ℕ) (log : List Change) (short long : ℕ) (query : Tree) (t : ℤ) → short ≤ long
-    → (store_of window (take long log)).generation ≡ (store_of window (take short log)).generation
-    → is_frozen query t (floor_of window (take short log)) ≡ true
-    → eval (store_of window (take short log)).samples query t ≡ eval (store_of window (take long log)).samples query t
-fronts window log short long query t h g k =
+fronts : (rules : Rules) (log : List Change) (short long : ℕ) (query : Tree) (t : ℤ) → short ≤ long
+    → (store_of rules (take long log)).generation ≡ (store_of rules (take short log)).generation
+    → is_frozen query t (floor_of rules (take short log)) ≡ true
+    → eval (store_of rules (take short log)).samples query t ≡ eval (store_of rules (take long log)).samples query t
+fronts rules log short long query t h g k =
     let e = longer log short long h in
-    frozen_steps window (take short log) (take (long - short) (drop short log)) query t (sym (ap (λ l. (store_of window l).generation) e) ∙ g) k
-    ∙ ap (λ l. eval (store_of window l).samples query t) (sym e)
+    frozen_steps rules (take short log) (take (long - short) (drop short log)) query t (sym (ap (λ l. (store_of rules l).generation) e) ∙ g) k
+    ∙ ap (λ l. eval (store_of rules l).samples query t) (sym e)
 
-kept_by : (window : ℕ) (log : List Change) (pin asked : ℕ) (query : Tree) (t : ℤ) (b : Bool) → nat_le pin asked ≡ b
-    → (store_of window (take pin log)).generation ≡ (store_of window (take asked log)).generation
-    → is_frozen query t (floor_of window (take pin log)) ≡ true
-    → (b || is_frozen query t (floor_of window (take asked log))) ≡ true
-    → eval (store_of window (take pin log)).samples query t ≡ eval (store_of window (take asked log)).samples query t
-kept_by window log pin asked query t true e g h k = fronts window log pin asked query t (leb-true pin asked e) (sym g) h
-kept_by window log pin asked query t false e g h k =
+kept_by : (rules : Rules) (log : List Change) (pin asked : ℕ) (query : Tree) (t : ℤ) (b : Bool) → nat_le pin asked ≡ b
+    → (store_of rules (take pin log)).generation ≡ (store_of rules (take asked log)).generation
+    → is_frozen query t (floor_of rules (take pin log)) ≡ true
+    → (b || is_frozen query t (floor_of rules (take asked log))) ≡ true
+    → eval (store_of rules (take pin log)).samples query t ≡ eval (store_of rules (take asked log)).samples query t
+kept_by rules log pin asked query t true e g h k = fronts rules log pin asked query t (leb-true pin asked e) (sym g) h
+kept_by rules log pin asked query t false e g h k =
     let below : asked ≤ pin = grind (arith, nat_tests) in
-    sym (fronts window log asked pin query t below g k)
+    sym (fronts rules log asked pin query t below g k)
 
 pub kept_cells : KeptCells
-kept_cells window log pin asked query t h k =
-    let a = (store_of window (take pin log)).generation in
-    let b = (store_of window (take asked log)).generation in
-    let c = nat_le pin asked || is_frozen query t (floor_of window (take asked log)) in
-    kept_by window log pin asked query t (nat_le pin asked) refl (eqb-true a b (first_so (nat_eq a b) c k)) h (second_so (nat_eq a b) c k)
+kept_cells rules log pin asked query t h k =
+    let a = (store_of rules (take pin log)).generation in
+    let b = (store_of rules (take asked log)).generation in
+    let c = nat_le pin asked || is_frozen query t (floor_of rules (take asked log)) in
+    kept_by rules log pin asked query t (nat_le pin asked) refl (eqb-true a b (first_so (nat_eq a b) c k)) h (second_so (nat_eq a b) c k)

@@ -4,7 +4,7 @@ use Rattle.std.proofs.Common.{◌≡◌, ◌∙◌, ℕ, zero, suc, ◌+◌, ◌
 use Rattle.std.proofs.lemmas.Bool.Decides.{nat_tests}
 use Rattle.std.proofs.lemmas.Option.{none-some}
 use Rattle.pf_model.specs.Lists.{Each}
-use Rattle.pf_model.specs.Log.{floor_of, store_of}
+use Rattle.pf_model.specs.Log.{floor_of, rules_of, store_of}
 use Rattle.pf_journal.proofs.Examples.{at_line, differ, is_name, usual}
 use Rattle.pf_journal.proofs.Sessions.{vector_over}
 use Rattle.pf_journal.specs.Legal.{IsLawful, Legal, moments_from}
@@ -103,8 +103,8 @@ ask_is_lawful n h =
         tenant = record { next = omega (arith, logs); most = h };
         below = omega (arith, none);
         pinned = sym (ap length log);
-        aged = sym (ap (λ l. (store_of 600000 l).generation) log);
-        floored = sym (ap (floor_of 600000) log);
+        aged = sym (ap (λ l. (store_of (rules_of usual.limits) l).generation) log);
+        floored = sym (ap (floor_of (rules_of usual.limits)) log);
       };
       room = subst (HasRoom usual.limits) (sym (next_asked n)) (omega (arith, kept, h));
       named = omega (arith, logs, h);

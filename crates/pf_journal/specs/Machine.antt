@@ -5,7 +5,7 @@ use Rattle.pf_base.specs.Batches.{BatchData}
 use Rattle.pf_base.specs.Grids.{points}
 use Rattle.pf_model.specs.declared.expr.Matcher.{Matcher}
 use Rattle.pf_model.specs.Direct.{Answer, gathered, failed, direct}
-use Rattle.pf_model.specs.Log.{Change, Verdict, store_of, floor_of, verdicts_of, log_with, log_without}
+use Rattle.pf_model.specs.Log.{Change, Verdict, rules_of, store_of, floor_of, verdicts_of, log_with, log_without}
 use Rattle.pf_journal.specs.Asking.{Asked}
 
 -- what an entry of the journal says; a tenant is a number, and a query the place of its ask in the journal
@@ -111,6 +111,10 @@ next m x = record { logs = logs_after m.logs x; queries = queries_after m x; cou
 abbrev pub most_tenants : ℕ
 most_tenants = 1024
 
+-- how many open queries a tenant may have
+abbrev pub outstanding_of : Limits → (tenant : ℕ) → ℕ
+outstanding_of l u = l.outstanding
+
 -- the tenant is known, or the next new one where fewer than 1,024 are known
 pub record IsTenant (m : Machine) (u : ℕ) : Type 0 where
   pub next : u ≤ length m.logs
@@ -122,29 +126,29 @@ code_of (failed step kind) = 422
 
 -- what a query's answer is over the samples that its tenant had at the ask
 abbrev pub answer_of : Limits → Open → Answer
-answer_of l o = direct (store_of l.window o.log).samples o.asked.query
+answer_of l o = direct (store_of (rules_of l) o.log).samples o.asked.query
 
 pub record AppendsRight (l : Limits) (m : Machine) (u : ℕ) (batch : BatchData) (vs : List Verdict) (entry : ℕ) : Type 0 where
   pub tenant : IsTenant m u
-  pub judged : vs ≡ verdicts_of l.window (log_of m.logs u) batch.rows
+  pub judged : vs ≡ verdicts_of (rules_of l) (log_of m.logs u) batch.rows
   pub counted : entry ≡ length (log_with (log_of m.logs u) batch.rows vs)
 
 pub record DeletesRight (l : Limits) (m : Machine) (u : ℕ) (ms : List Matcher) (from to generation entry : ℕ) : Type 0 where
   pub tenant : IsTenant m u
-  pub aged : generation ≡ (store_of l.window (log_without (log_of m.logs u) ms from to)).generation
+  pub aged : generation ≡ (store_of (rules_of l) (log_without (log_of m.logs u) ms from to)).generation
   pub counted : entry ≡ length (log_without (log_of m.logs u) ms from to)
 
 pub record AsksRight (l : Limits) (m : Machine) (u pin generation : ℕ) (floor : Option ℕ) : Type 0 where
   pub tenant : IsTenant m u
-  pub below : open_of u m.queries < l.outstanding
+  pub below : open_of u m.queries < outstanding_of l u
   pub pinned : pin ≡ length (log_of m.logs u)
-  pub aged : generation ≡ (store_of l.window (log_of m.logs u)).generation
-  pub floored : floor ≡ floor_of l.window (log_of m.logs u)
+  pub aged : generation ≡ (store_of (rules_of l) (log_of m.logs u)).generation
+  pub floored : floor ≡ floor_of (rules_of l) (log_of m.logs u)
 
 pub record FillsRight (l : Limits) (m : Machine) (u outstanding : ℕ) : Type 0 where
   pub known : u < length m.logs
   pub counted : outstanding ≡ open_of u m.queries
-  pub most : outstanding ≡ l.outstanding
+  pub most : outstanding ≡ outstanding_of l u
 
 -- as many tenants are known as may be, and the name is none of theirs
 pub record IsNoTenant (names : List (List ℕ)) (m : Machine) (name : List ℕ) : Type 0 where
