@@ -4,7 +4,7 @@ use Rattle.std.specs.Ordering.{int_eq}
 use Rattle.std.proofs.lemmas.Bool.Decides.{nat_tests}
 use Rattle.pf_base.specs.declared.plain.Row.{Row}
 use Rattle.pf_model.specs.declared.expr.Matcher.{Matcher}
-use Rattle.pf_model.specs.Log.{AreApart, Change, Store, append, delete, changed, store_after, store_of, empty_store, floor_below, held_value, left_by, is_deleted, is_taken, taken_rows, too_old, repeated, differs, compared, verdict_on, verdicts_on}
+use Rattle.pf_model.specs.Log.{AreApart, Change, Rules, Store, append, delete, changed, store_after, store_of, empty_store, floor_at, held_value, left_by, is_deleted, is_taken, taken_rows, too_old, repeated, differs, compared, verdict_on, verdicts_on}
 use Rattle.pf_model.specs.Selection.{same_labels}
 use Rattle.pf_model.proofs.KeySets.{same_turned}
 use Rattle.pf_store.proofs.Holding.{is_at, either, held_value-append, left_held, removes}
@@ -85,14 +85,14 @@ module _ (ms : List Matcher) (from to : ℕ) where
 
 -- ---- a log
 
-apart_changed : (window : ℕ) (s : Store) (c : Change) → AreApart s.samples → AreApart (changed window s c).samples
-apart_changed window s (append rows) a = apart_taken (floor_below window s.newest) s.samples rows a
-apart_changed window s (delete ms from to) a = apart_left ms from to s.samples a
+apart_changed : (s : Store) (c : Change) → AreApart s.samples → AreApart (changed s c).samples
+apart_changed s (append rows) a = apart_taken (floor_at s) s.samples rows a
+apart_changed s (delete ms from to) a = apart_left ms from to s.samples a
 
-apart_after : (window : ℕ) (s : Store) (log : List Change) → AreApart s.samples → AreApart (store_after window s log).samples
-apart_after window s [] a = a
-apart_after window s (c ∷ cs) a = apart_after window (changed window s c) cs (apart_changed window s c a)
+apart_after : (s : Store) (log : List Change) → AreApart s.samples → AreApart (store_after s log).samples
+apart_after s [] a = a
+apart_after s (c ∷ cs) a = apart_after (changed s c) cs (apart_changed s c a)
 
 -- the samples of every log hold each series' time once
-pub apart_of_log : (window : ℕ) (log : List Change) → AreApart (store_of window log).samples
-apart_of_log window log = apart_after window empty_store log tt
+pub apart_of_log : (rules : Rules) (log : List Change) → AreApart (store_of rules log).samples
+apart_of_log rules log = apart_after (empty_store rules) log tt

@@ -4,7 +4,7 @@ use Rattle.std.specs.List.{list_any}
 use Rattle.pf_base.specs.declared.plain.Row.{Row}
 use Rattle.pf_base.specs.LabelSets.{Pairs}
 use Rattle.pf_block.specs.Snaps.{SnapData, held_of, labels_of}
-use Rattle.pf_model.specs.Log.{AreApart, Change, store_of, floor_of, verdicts_of, log_with, held_value}
+use Rattle.pf_model.specs.Log.{AreApart, Change, Rules, store_of, floor_of, verdicts_of, log_with, held_value}
 use Rattle.pf_model.specs.declared.expr.Matcher.{Matcher}
 use Rattle.pf_model.specs.Selection.{accepts}
 use Rattle.pf_store.specs.Verdicts.{VerdictsData}
@@ -39,11 +39,12 @@ abbrev pub StandsFor : SnapData → List Row → Type 0
 StandsFor snap samples = (labels : Pairs) (time : ℕ) → held_of snap labels time ≡ held_value samples labels time
 
 -- what is kept is what stands after these changes
-pub record IsLog (d : LogData) (log : List Change) : Type 0 where
+pub record IsLog (rules : Rules) (d : LogData) (log : List Change) : Type 0 where
   pub counted : d.entries ≡ length log
-  pub newest : d.newest ≡ (store_of d.window log).newest
-  pub generation : d.generation ≡ (store_of d.window log).generation
-  pub samples : StandsFor d.snap (store_of d.window log).samples
+  pub newest : d.newest ≡ (store_of rules log).newest
+  pub generation : d.generation ≡ (store_of rules log).generation
+  pub window : d.window ≡ (store_of rules log).window
+  pub samples : StandsFor d.snap (store_of rules log).samples
 
 -- neither a snapshot nor some rows hold a row's series at its time
 pub record IsFresh (snap : SnapData) (rows : List Row) (r : Row) : Type 0 where
@@ -51,21 +52,21 @@ pub record IsFresh (snap : SnapData) (rows : List Row) (r : Row) : Type 0 where
   pub apart : held_value rows r.labels r.time ≡ None
 
 -- the verdicts on rows behind some changes, and the number of entries with them
-abbrev pub verdicts_after : ℕ → List Change → List Row → VerdictsData
-verdicts_after window log rows =
-    record { list = verdicts_of window log rows; entry = length (log_with log rows (verdicts_of window log rows)) }
+abbrev pub verdicts_after : Rules → List Change → List Row → VerdictsData
+verdicts_after rules log rows =
+    record { list = verdicts_of rules log rows; entry = length (log_with log rows (verdicts_of rules log rows)) }
 
 -- the generation and the number of entries behind some changes
-abbrev pub deleted_after : ℕ → List Change → Deleted
-deleted_after window log = record { generation = (store_of window log).generation; entry = length log }
+abbrev pub deleted_after : Rules → List Change → Deleted
+deleted_after rules log = record { generation = (store_of rules log).generation; entry = length log }
 
 -- a pin of these changes, whose samples hold each series' time once
-pub record IsPin (p : PinData) (window : ℕ) (log : List Change) : Type 0 where
+pub record IsPin (p : PinData) (rules : Rules) (log : List Change) : Type 0 where
   pub numbered : p.number ≡ length log
-  pub floored : p.floor ≡ floor_of window log
-  pub aged : p.generation ≡ (store_of window log).generation
-  pub samples : StandsFor p.snap (store_of window log).samples
-  pub apart : AreApart (store_of window log).samples
+  pub floored : p.floor ≡ floor_of rules log
+  pub aged : p.generation ≡ (store_of rules log).generation
+  pub samples : StandsFor p.snap (store_of rules log).samples
+  pub apart : AreApart (store_of rules log).samples
 
 -- some ids are those of the series that matchers accept
 abbrev pub AreAccepted : List Matcher → SnapData → List ℕ → Type 0

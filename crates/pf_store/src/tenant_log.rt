@@ -2,7 +2,7 @@
 
 ghost use Rattle.std.specs.Prelude.{◌≡◌, ◌≤◌, ◌+◌, true, [], List, IfOk, OnErr, OnOk};
 ghost use Rattle.pf_block.specs.Snaps.{are_timed};
-ghost use Rattle.pf_model.specs.Log.{Change, floor_below, log_with, log_without, newest_with, verdicts_of};
+ghost use Rattle.pf_model.specs.Log.{Change, Rules, floor_below, log_with, log_without, newest_with, verdicts_of};
 ghost use Rattle.pf_store.specs.Standing.{AreAccepted, IsLog, IsPin, deleted_after, verdicts_after};
 
 use crate::judged::judge_rows;
@@ -123,7 +123,7 @@ impl TenantLog {
     /// A log without entries. `window` is in milliseconds.
     pub fn open(alloc: Global, window: u64) -> Result<TenantLog, OutOfMemory>
         ensures window { IfOk result (λ l. l.window ≡ window) }
-        ensures stands { IfOk result (λ l. IsLog l []) }
+        ensures stands { IfOk result (λ l. IsLog (record { window = window }) l []) }
     {
         Ok(TenantLog {
             alloc,
@@ -139,8 +139,8 @@ impl TenantLog {
     /// before it hold. There is a further entry exactly where a row is taken.
     pub fn append(&mut self, batch: &Batch) -> Result<Verdicts, OutOfMemory>
         requires { are_timed batch.now.rows ≡ true }
-        ensures verdicts { IfOk result (λ v. (log : List Change) → IsLog self.old log → v ≡ verdicts_after self.old.window log batch.now.rows) }
-        ensures stands { OnOk result ((log : List Change) → IsLog self.old log → IsLog self.new (log_with log batch.now.rows (verdicts_of self.old.window log batch.now.rows))) }
+        ensures verdicts { IfOk result (λ v. (rules : Rules) (log : List Change) → IsLog rules self.old log → v ≡ verdicts_after rules log batch.now.rows) }
+        ensures stands { OnOk result ((rules : Rules) (log : List Change) → IsLog rules self.old log → IsLog rules self.new (log_with log batch.now.rows (verdicts_of rules log batch.now.rows))) }
         ensures window { self.new.window ≡ self.old.window }
         ensures refused { OnErr result (self.new ≡ self.old) }
     {
@@ -175,8 +175,8 @@ impl TenantLog {
         to: u64,
     ) -> Result<Deleted, OutOfMemory>
         requires { from ≤ to }
-        ensures deleted { IfOk result (λ d. (log : List Change) → IsLog self.old log → d ≡ deleted_after self.old.window (log_without log matchers.now from to)) }
-        ensures stands { OnOk result ((log : List Change) → IsLog self.old log → IsLog self.new (log_without log matchers.now from to)) }
+        ensures deleted { IfOk result (λ d. (rules : Rules) (log : List Change) → IsLog rules self.old log → d ≡ deleted_after rules (log_without log matchers.now from to)) }
+        ensures stands { OnOk result ((rules : Rules) (log : List Change) → IsLog rules self.old log → IsLog rules self.new (log_without log matchers.now from to)) }
         ensures window { self.new.window ≡ self.old.window }
         ensures refused { OnErr result (self.new ≡ self.old) }
     {
@@ -194,7 +194,7 @@ impl TenantLog {
     /// A pin of the log as it stands. It copies no sample.
     #[tactic(auto, using(crate::proofs::ApartRows::apart_of_log))]
     pub fn pin(&self) -> Result<Pin, OutOfMemory>
-        ensures { IfOk result (λ p. (log : List Change) → IsLog self.now log → IsPin p self.now.window log) }
+        ensures { IfOk result (λ p. (rules : Rules) (log : List Change) → IsLog rules self.now log → IsPin p rules log) }
     {
         Ok(Pin {
             number: self.entries,

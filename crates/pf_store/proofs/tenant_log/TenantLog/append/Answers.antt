@@ -4,7 +4,7 @@ use Rattle.std.proofs.lemmas.Grind.{common_steps}
 use Rattle.std.specs.Arc.{arc_value}
 use Rattle.pf_base.specs.declared.plain.Row.{Row}
 use Rattle.pf_block.specs.Snaps.{are_new, with_rows}
-use Rattle.pf_model.specs.Log.{Change, Verdict, log_with, verdicts_of, verdicts_on, taken_rows, floor_below, newest_with}
+use Rattle.pf_model.specs.Log.{Change, Rules, Verdict, log_with, verdicts_of, verdicts_on, taken_rows, floor_below, newest_with}
 use Rattle.pf_store.proofs.Logs.{none_verdicts, none_stands, some_verdicts, some_stands}
 use Rattle.pf_store.proofs.Snapshots.{alike_with}
 use Rattle.pf_store.proofs.tenant_log.TenantLog.append.Goals as goal
@@ -23,8 +23,8 @@ returns-then-is_empty-clause-verdicts c =
     let g : (xs : List Row) → StandsFor d.snap xs → tk ≡ taken_rows rows (verdicts_on (floor_below d.window d.newest) xs rows) =
     (λ xs s. c.in_ok-judged.ensures.taken xs (subst (λ n. StandsFor n xs) (sym c.deref.ensures) s) ∙ (λ i. taken_rows (same i) (verdicts_on (c.floor_below.ensures i) xs (same i)))) in
     let z : length tk ≡ 0 = grind (arith, nat_tests, c.is_empty.ensures, c.if-is_empty.true) in
-    subst (λ e. (log : List Change) → IsLog e log → ◌≡◌ {A = VerdictsData} (record { list = vs; entry = c.self.inside.entries }) (verdicts_after e.window log rows)) c.self.view_is
-    (λ log k. none_verdicts d log k rows vs tk f g z)
+    subst (λ e. (rules : Rules) (log : List Change) → IsLog rules e log → ◌≡◌ {A = VerdictsData} (record { list = vs; entry = c.self.inside.entries }) (verdicts_after rules log rows)) c.self.view_is
+    (λ rules log k. none_verdicts rules d log k rows vs tk f g z)
 
 pub returns-then-is_empty-clause-stands : goal.returns-then-is_empty-clause-stands
 returns-then-is_empty-clause-stands c =
@@ -38,8 +38,8 @@ returns-then-is_empty-clause-stands c =
     let g : (xs : List Row) → StandsFor d.snap xs → tk ≡ taken_rows rows (verdicts_on (floor_below d.window d.newest) xs rows) =
     (λ xs s. c.in_ok-judged.ensures.taken xs (subst (λ n. StandsFor n xs) (sym c.deref.ensures) s) ∙ (λ i. taken_rows (same i) (verdicts_on (c.floor_below.ensures i) xs (same i)))) in
     let z : length tk ≡ 0 = grind (arith, nat_tests, c.is_empty.ensures, c.if-is_empty.true) in
-    subst (λ e. (log : List Change) → IsLog e log → IsLog e (log_with log rows (verdicts_of e.window log rows))) c.self.view_is
-    (λ log k. none_stands d log k rows vs tk f g z)
+    subst (λ e. (rules : Rules) (log : List Change) → IsLog rules e log → IsLog rules e (log_with log rows (verdicts_of rules log rows))) c.self.view_is
+    (λ rules log k. none_stands rules d log k rows vs tk f g z)
 
 pub invariant_of-self : goal.invariant_of-self
 invariant_of-self c =
@@ -63,8 +63,8 @@ returns-clause-verdicts c =
     (λ xs s. c.in_ok-judged.ensures.taken xs (subst (λ n. StandsFor n xs) (sym c.deref.ensures) s) ∙ (λ i. taken_rows (same i) (verdicts_on (c.floor_below.ensures i) xs (same i)))) in
     let z : 0 < length tk = grind (arith, nat_tests, c.is_empty.ensures, c.if-is_empty.false) in
     let n : are_new d.snap tk ≡ true = subst (λ s. are_new s tk ≡ true) c.deref.ensures c.in_ok-judged.ensures.fresh in
-    subst (λ e. (log : List Change) → IsLog e log → ◌≡◌ {A = VerdictsData} (record { list = vs; entry = c.in_ok-entries.entries }) (verdicts_after e.window log rows)) c.self.view_is
-    (λ log k. (λ i. record { list = vs; entry = c.in_ok-entries.ensures i }) ∙ some_verdicts d log k rows vs tk f g z c.self.invariant.alike n)
+    subst (λ e. (rules : Rules) (log : List Change) → IsLog rules e log → ◌≡◌ {A = VerdictsData} (record { list = vs; entry = c.in_ok-entries.entries }) (verdicts_after rules log rows)) c.self.view_is
+    (λ rules log k. (λ i. record { list = vs; entry = c.in_ok-entries.ensures i }) ∙ some_verdicts rules d log k rows vs tk f g z c.self.invariant.alike n)
 
 pub returns-clause-stands : goal.returns-clause-stands
 returns-clause-stands c =
@@ -84,8 +84,8 @@ returns-clause-stands c =
     let new : LogData = record { window = d.window; entries = c.in_ok-entries.entries; newest = c.newest_with-self-inside.result; generation = d.generation; snap = arc_value c.in_ok-self-inside.field-0 } in
     let grown : LogData = record { window = d.window; entries = d.entries + 1; newest = newest_with d.newest tk; generation = d.generation; snap = with_rows d.snap tk } in
     let p : new ≡ grown = (λ i. record { window = d.window; entries = c.in_ok-entries.ensures i; newest = newest i; generation = d.generation; snap = snap i }) in
-    subst (λ e. (log : List Change) → IsLog e log → IsLog new (log_with log rows (verdicts_of e.window log rows))) c.self.view_is
-    (λ log k. subst (λ x. IsLog x (log_with log rows (verdicts_of d.window log rows))) (sym p) (some_stands d log k rows vs tk f g z c.self.invariant.alike n))
+    subst (λ e. (rules : Rules) (log : List Change) → IsLog rules e log → IsLog rules new (log_with log rows (verdicts_of rules log rows))) c.self.view_is
+    (λ rules log k. subst (λ x. IsLog rules x (log_with log rows (verdicts_of rules log rows))) (sym p) (some_stands rules d log k rows vs tk f g z c.self.invariant.alike n))
 
 pub returns-clause-window : goal.returns-clause-window
 returns-clause-window c = grind (arith, common_steps)
