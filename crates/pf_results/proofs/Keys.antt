@@ -19,7 +19,7 @@ use Rattle.pf_results.specs.Runs.{runs_of}
 use Rattle.pf_results.specs.Serving.{is_served, served_steps, steps_of}
 use Rattle.pf_results.specs.declared.frozen.Addition.{Addition}
 use Rattle.pf_results.specs.declared.serving.Found.{Found}
-use Rattle.pf_model.specs.Log.{Change}
+use Rattle.pf_model.specs.Log.{Change, Rules}
 use Rattle.pf_results.specs.Entries.{is_key, kept_under, put_under, touched}
 use Rattle.pf_results.specs.Truth.{AreAllSpaced, AreTrue, IsTrueList}
 use Rattle.pf_results.proofs.Growing.{none_true}
@@ -54,11 +54,11 @@ found_under entries k es h =
 pub spaced_under : (entries : List (Key × Extents)) (k : Key) (es : Extents) → AreAllSpaced entries → lookup (is_key k) entries ≡ Some es → AreSpaced k.step es
 spaced_under entries k es a h = a k es (found_under entries k es h)
 
-pub true_under : (window interval : ℕ) (logs : ℕ → List Change) (c : LruCache Key Extents) (k : Key) → AreTrue window interval logs c.entries
-    → IsTrueList window interval (logs k.tenant) k (kept_under k c)
-true_under window interval logs c k a = by (lookup (is_key k) c.entries) refl where
-  by : (o : Option Extents) → lookup (is_key k) c.entries ≡ o → IsTrueList window interval (logs k.tenant) k (unwrap_or o [])
-  by None h = none_true window interval (logs k.tenant) k
+pub true_under : (rules : Rules) (interval : ℕ) (logs : ℕ → List Change) (c : LruCache Key Extents) (k : Key) → AreTrue rules interval logs c.entries
+    → IsTrueList rules interval (logs k.tenant) k (kept_under k c)
+true_under rules interval logs c k a = by (lookup (is_key k) c.entries) refl where
+  by : (o : Option Extents) → lookup (is_key k) c.entries ≡ o → IsTrueList rules interval (logs k.tenant) k (unwrap_or o [])
+  by None h = none_true rules interval (logs k.tenant) k
   by (Some es) h = a k es (found_under c.entries k es h)
 
 -- ---- a key is the one used last
@@ -66,9 +66,9 @@ true_under window interval logs c k a = by (lookup (is_key k) c.entries) refl wh
 pub touched_spaced : (c : LruCache Key Extents) (k : Key) → AreAllSpaced c.entries → AreAllSpaced (touched k c).entries
 touched_spaced c k a key es h = a key es (Contains-promoted (is_key k) c.entries (key, es) h)
 
-pub touched_true : (window interval : ℕ) (logs : ℕ → List Change) (c : LruCache Key Extents) (k : Key) → AreTrue window interval logs c.entries
-    → AreTrue window interval logs (touched k c).entries
-touched_true window interval logs c k a key es h = a key es (Contains-promoted (is_key k) c.entries (key, es) h)
+pub touched_true : (rules : Rules) (interval : ℕ) (logs : ℕ → List Change) (c : LruCache Key Extents) (k : Key) → AreTrue rules interval logs c.entries
+    → AreTrue rules interval logs (touched k c).entries
+touched_true rules interval logs c k a key es h = a key es (Contains-promoted (is_key k) c.entries (key, es) h)
 
 -- ---- a list is kept
 
@@ -86,10 +86,10 @@ pub put_spaced : (c : LruCache Key Extents) (k : Key) (o : Option Extents) → A
 put_spaced c k None a n = a
 put_spaced c k (Some new) a n = put_all (λ key es. AreSpaced key.step es) c k new a n
 
-pub put_true : (window interval : ℕ) (logs : ℕ → List Change) (c : LruCache Key Extents) (k : Key) (o : Option Extents) → AreTrue window interval logs c.entries
-    → IfSome o (IsTrueList window interval (logs k.tenant) k) → AreTrue window interval logs (put_under k o c).entries
-put_true window interval logs c k None a n = a
-put_true window interval logs c k (Some new) a n = put_all (λ key es. IsTrueList window interval (logs key.tenant) key es) c k new a n
+pub put_true : (rules : Rules) (interval : ℕ) (logs : ℕ → List Change) (c : LruCache Key Extents) (k : Key) (o : Option Extents) → AreTrue rules interval logs c.entries
+    → IfSome o (IsTrueList rules interval (logs k.tenant) k) → AreTrue rules interval logs (put_under k o c).entries
+put_true rules interval logs c k None a n = a
+put_true rules interval logs c k (Some new) a n = put_all (λ key es. IsTrueList rules interval (logs key.tenant) key es) c k new a n
 
 -- a call that keeps a list, or is refused
 pub set_spaced : {X E : Type 0} (r : Result X E) (c new : LruCache Key Extents) (k : Key) (es : Extents) (o : Option Extents) → o ≡ Some es → IfSome o (AreSpaced k.step)

@@ -14,6 +14,7 @@ use Rattle.pf_journal.specs.Frozen.{KeptCells}
 use Rattle.pf_model.specs.Canonical.{canonical}
 use Rattle.pf_model.specs.Direct.{Step}
 use Rattle.pf_model.specs.Lists.{Each}
+use Rattle.pf_model.specs.Log.{Rules}
 use Rattle.pf_model.specs.Trees.{Tree}
 use Rattle.pf_print.specs.OwnTexts.{HasText}
 use Rattle.pf_split.specs.Pieces as split
@@ -147,14 +148,14 @@ module _ (c : LruCache Key Extents) (key : Key) (q : Tree) (a : Asker) where
   each_append P [] ys h k = k
   each_append P (x ∷ xs) ys h k = (h.0, each_append P xs ys h.1 k)
 
-  pub values_over : KeptCells → (window interval : ℕ) (logs : Logs) → AreTrue window interval logs c.entries → IsAsker window (logs key.tenant) a → HasText q
-      → canonical q ≡ key.text → (ps : List Piece) → Each (IsValue window (logs key.tenant) a q) (served_over c key q a ps)
-  values_over kept window interval logs h asker w text [] = tt
-  values_over kept window interval logs h asker w text (p ∷ ps) =
+  pub values_over : KeptCells → (rules : Rules) (interval : ℕ) (logs : Logs) → AreTrue rules interval logs c.entries → IsAsker rules (logs key.tenant) a → HasText q
+      → canonical q ≡ key.text → (ps : List Piece) → Each (IsValue rules (logs key.tenant) a q) (served_over c key q a ps)
+  values_over kept rules interval logs h asker w text [] = tt
+  values_over kept rules interval logs h asker w text (p ∷ ps) =
       let own : Key = key_at key p.interval in
-      each_append (IsValue window (logs key.tenant) a q) (served_steps (kept_under own c) q a (points p.run)) (served_over c key q a ps)
-      (values kept window interval (logs key.tenant) own (kept_under own c) a q w text (true_under window interval logs c own h) asker (points p.run))
-      (values_over kept window interval logs h asker w text ps)
+      each_append (IsValue rules (logs key.tenant) a q) (served_steps (kept_under own c) q a (points p.run)) (served_over c key q a ps)
+      (values kept rules interval (logs key.tenant) own (kept_under own c) a q w text (true_under rules interval logs c own h) asker (points p.run))
+      (values_over kept rules interval logs h asker w text ps)
 
 -- ---- what is used
 
@@ -162,11 +163,11 @@ pub touched_all_spaced : (key : Key) (ps : List Piece) (c : LruCache Key Extents
 touched_all_spaced key [] c h = h
 touched_all_spaced key (p ∷ ps) c h = touched_all_spaced key ps (touched (key_at key p.interval) c) (touched_spaced c (key_at key p.interval) h)
 
-pub touched_all_true : (window interval : ℕ) (logs : Logs) (key : Key) (ps : List Piece) (c : LruCache Key Extents) → AreTrue window interval logs c.entries
-    → AreTrue window interval logs (touched_over key ps c).entries
-touched_all_true window interval logs key [] c h = h
-touched_all_true window interval logs key (p ∷ ps) c h =
-    touched_all_true window interval logs key ps (touched (key_at key p.interval) c) (touched_true window interval logs c (key_at key p.interval) h)
+pub touched_all_true : (rules : Rules) (interval : ℕ) (logs : Logs) (key : Key) (ps : List Piece) (c : LruCache Key Extents) → AreTrue rules interval logs c.entries
+    → AreTrue rules interval logs (touched_over key ps c).entries
+touched_all_true rules interval logs key [] c h = h
+touched_all_true rules interval logs key (p ∷ ps) c h =
+    touched_all_true rules interval logs key ps (touched (key_at key p.interval) c) (touched_true rules interval logs c (key_at key p.interval) h)
 
 module _ (key : Key) (before left : List Piece) (c new : LruCache Key Extents) where
   pub touched_next : (k : Key) (p : Piece) → before ≡ p ∷ left → k ≡ key_at key p.interval → new ≡ touched k c
@@ -204,12 +205,12 @@ pub record IsKeptOver (c : LruCache Key Extents) (key : Key) (q : Tree) (a : Ask
   pub now_is : now ≡ kept_over key q a interval (take i cells) c
   pub count : steps ≡ fixed_over q a (take i cells)
   pub few : steps ≤ steps_in (take i cells)
-  pub true_still : (window : ℕ) (logs : Logs) → AreTrue window interval logs c.entries → HasText q → canonical q ≡ key.text
-      → AreEvaluated window interval logs key a q cells → AreTrue window interval logs now.entries
+  pub true_still : (rules : Rules) (logs : Logs) → AreTrue rules interval logs c.entries → HasText q → canonical q ≡ key.text
+      → AreEvaluated rules interval logs key a q cells → AreTrue rules interval logs now.entries
 
 module _ (c : LruCache Key Extents) (key : Key) (q : Tree) (a : Asker) (interval : ℕ) (cells : List DoneCells) where
   pub kept_none : IsKeptOver c key q a interval cells c 0 0
-  kept_none = record { now_is = refl; count = refl; few = omega arith; true_still = λ window logs h w t e. h }
+  kept_none = record { now_is = refl; count = refl; few = omega arith; true_still = λ rules logs h w t e. h }
 
   module _ (now new : LruCache Key Extents) (steps n i : ℕ) (d : DoneCells) (f : IsKeptOver c key q a interval cells now steps i) (h : i < length cells)
       (is : d ≡ get_or cells i d) where
@@ -225,15 +226,15 @@ module _ (c : LruCache Key Extents) (key : Key) (q : Tree) (a : Asker) (interval
     pub kept_one : (k : Key) (j : ℕ) → k ≡ key_of key interval d → j ≡ suc i
         → new ≡ put_under k (kept_list (kept_under k now) (extents_of q a d.run d.cells (points d.run))) now
         → n ≡ fixed_count q a d.run → n ≤ d.run.len
-        → ((window interval : ℕ) (logs : Logs) → AreTrue window interval logs now.entries → HasText q → canonical q ≡ k.text
-        → IsEvaluated window interval (logs k.tenant) k a q d.run d.cells → AreTrue window interval logs new.entries)
+        → ((rules : Rules) (interval : ℕ) (logs : Logs) → AreTrue rules interval logs now.entries → HasText q → canonical q ≡ k.text
+        → IsEvaluated rules interval (logs k.tenant) k a q d.run d.cells → AreTrue rules interval logs new.entries)
         → IsKeptOver c key q a interval cells new (steps + n) j
     kept_one k j at next new_at n_is few still_at =
         let new_is : new ≡ kept_with key q a interval d now =
         subst (λ (x : Key). new ≡ put_under x (kept_list (kept_under x now) (extents_of q a d.run d.cells (points d.run))) now) at new_at in
         let still =
-        subst (λ (x : Key). (window interval : ℕ) (logs : Logs) → AreTrue window interval logs now.entries → HasText q → canonical q ≡ x.text
-        → IsEvaluated window interval (logs x.tenant) x a q d.run d.cells → AreTrue window interval logs new.entries) at still_at in
+        subst (λ (x : Key). (rules : Rules) (interval : ℕ) (logs : Logs) → AreTrue rules interval logs now.entries → HasText q → canonical q ≡ x.text
+        → IsEvaluated rules interval (logs x.tenant) x a q d.run d.cells → AreTrue rules interval logs new.entries) at still_at in
         let e = ap steps_in front ∙ count_more (take i cells) d in
         let before = f.few in
         let fixed = ap (fixed_over q a) front ∙ fixed_more q a (take i cells) d in
@@ -243,7 +244,7 @@ module _ (c : LruCache Key Extents) (key : Key) (q : Tree) (a : Asker) (interval
               ∙ ap (λ (ds : List DoneCells). kept_over key q a interval ds c) (sym front);
           count = omega (arith, n_is, were, fixed);
           few = omega (arith, e, before, few);
-          true_still = λ window logs t w text all. still window interval logs (f.true_still window logs t w text all) w text
-              (subst (λ (x : DoneCells). IsEvaluated window interval (logs key.tenant) (key_of key interval x) a q x.run x.cells) (sym is)
-              (each_at (λ (x : DoneCells). IsEvaluated window interval (logs key.tenant) (key_of key interval x) a q x.run x.cells) cells i d h all));
+          true_still = λ rules logs t w text all. still rules interval logs (f.true_still rules logs t w text all) w text
+              (subst (λ (x : DoneCells). IsEvaluated rules interval (logs key.tenant) (key_of key interval x) a q x.run x.cells) (sym is)
+              (each_at (λ (x : DoneCells). IsEvaluated rules interval (logs key.tenant) (key_of key interval x) a q x.run x.cells) cells i d h all));
         })

@@ -7,13 +7,13 @@ use Rattle.pf_extent.specs.Steps.{Known, has_step, known_at, known_of}
 use Rattle.pf_extent.specs.declared.extent.Asker.{Asker}
 use Rattle.pf_extent.specs.declared.extent.Extent.{Extent}
 use Rattle.pf_model.specs.declared.cell.Element.{Element}
-use Rattle.pf_model.specs.Reach.{is_frozen}
+use Rattle.pf_model.specs.Reach.{may_be_kept}
 use Rattle.pf_model.specs.Trees.{Tree}
 use Rattle.pf_results.specs.Runs.{lengths, part_of, runs_of, time_of}
 
 -- no later sample changes what the query is at the time, as the asker's floor says
 abbrev pub is_fixed : Tree → Asker → ℕ → Bool
-is_fixed query asker t = is_frozen query (pos t) asker.floor
+is_fixed query asker t = may_be_kept query (pos t) asker.floor
 
 -- the fixed steps of a run are those before one
 abbrev pub IsEdge : Tree → Asker → GridData → ℕ → Type 0

@@ -9,6 +9,7 @@ use Rattle.pf_extent.specs.declared.extent.Asker.{Asker}
 use Rattle.pf_extent.specs.declared.key.Key.{Key}
 use Rattle.pf_model.specs.Direct.{Step}
 use Rattle.pf_model.specs.Lists.{Each}
+use Rattle.pf_model.specs.Log.{Rules}
 use Rattle.pf_model.specs.Trees.{Tree}
 use Rattle.pf_split.specs.declared.splitting.Piece.{Piece}
 use Rattle.pf_results.specs.Entries.{kept_under, put_under, touched}
@@ -74,6 +75,6 @@ pub record IsDoneAt (step : ℕ) (d : DoneCells) : Type 0 where
   pub whole : length d.cells ≡ d.run.len
 
 -- the cells are what the query is for the asker, each of one interval
-abbrev pub AreEvaluated : (window interval : ℕ) → Logs → Key → Asker → Tree → List DoneCells → Type 0
-AreEvaluated window interval logs key asker query ds =
-    Each (λ d. IsEvaluated window interval (logs key.tenant) (key_of key interval d) asker query d.run d.cells) ds
+abbrev pub AreEvaluated : (rules : Rules) (interval : ℕ) → Logs → Key → Asker → Tree → List DoneCells → Type 0
+AreEvaluated rules interval logs key asker query ds =
+    Each (λ d. IsEvaluated rules interval (logs key.tenant) (key_of key interval d) asker query d.run d.cells) ds

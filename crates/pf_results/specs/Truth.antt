@@ -10,8 +10,8 @@ use Rattle.pf_model.specs.declared.cell.Element.{Element}
 use Rattle.pf_model.specs.declared.cell.StepCell.TheVariants.{Good}
 use Rattle.pf_model.specs.Direct.{Step}
 use Rattle.pf_model.specs.Evaluation.{eval}
-use Rattle.pf_model.specs.Log.{Change, floor_of, store_of}
-use Rattle.pf_model.specs.Reach.{is_frozen}
+use Rattle.pf_model.specs.Log.{Change, Rules, floor_of, store_of}
+use Rattle.pf_model.specs.Reach.{may_be_kept}
 use Rattle.pf_model.specs.Trees.{Tree}
 use Rattle.pf_print.specs.OwnTexts.{HasText}
 
@@ -19,29 +19,29 @@ use Rattle.pf_print.specs.OwnTexts.{HasText}
 abbrev pub AreAllSpaced : List (Key × Extents) → Type 0
 AreAllSpaced entries = (key : Key) (es : Extents) → Contains entries (key, es) → AreSpaced key.step es
 
--- what is known of a step is what the query is there after the first `pin` changes of a log, without error; the step is frozen at
--- the floor there, and in the key's interval
-pub record IsTrueStep (window interval : ℕ) (log : List Change) (key : Key) (query : Tree) (t : ℕ) (k : Known) : Type 0 where
+-- what is known of a step is what the query is there after the first `pin` changes of a log, without error; the step may be kept
+-- by the floor there, and is in the key's interval
+pub record IsTrueStep (rules : Rules) (interval : ℕ) (log : List Change) (key : Key) (query : Tree) (t : ℕ) (k : Known) : Type 0 where
   pub pin : k.pin ≤ length log
-  pub generation : k.generation ≡ (store_of window (take k.pin log)).generation
-  pub value : eval (store_of window (take k.pin log)).samples query (pos t) ≡ Good k.cell
-  pub frozen : is_frozen query (pos t) (floor_of window (take k.pin log)) ≡ true
+  pub generation : k.generation ≡ (store_of rules (take k.pin log)).generation
+  pub value : eval (store_of rules (take k.pin log)).samples query (pos t) ≡ Good k.cell
+  pub frozen : may_be_kept query (pos t) (floor_of rules (take k.pin log)) ≡ true
   pub place : t / interval ≡ key.interval
 
 -- all that is kept under a key, of the query whose canonical text is the key's
-abbrev pub IsTrueList : (window interval : ℕ) → List Change → Key → Extents → Type 0
-IsTrueList window interval log key es =
+abbrev pub IsTrueList : (rules : Rules) (interval : ℕ) → List Change → Key → Extents → Type 0
+IsTrueList rules interval log key es =
     (query : Tree) → HasText query → canonical query ≡ key.text → (t : ℕ) (k : Known) → known_at t es ≡ Some k
-    → IsTrueStep window interval log key query t k
+    → IsTrueStep rules interval log key query t k
 
 -- the logs of tenants
 abbrev pub Logs : Type 0
 Logs = ℕ → List Change
 
 -- all that is kept, where these are the tenants' logs
-abbrev pub AreTrue : (window interval : ℕ) → Logs → List (Key × Extents) → Type 0
-AreTrue window interval logs entries =
-    (key : Key) (es : Extents) → Contains entries (key, es) → IsTrueList window interval (logs key.tenant) key es
+abbrev pub AreTrue : (rules : Rules) (interval : ℕ) → Logs → List (Key × Extents) → Type 0
+AreTrue rules interval logs entries =
+    (key : Key) (es : Extents) → Contains entries (key, es) → IsTrueList rules interval (logs key.tenant) key es
 
 -- logs that grew
 abbrev pub HaveGrown : (old new : Logs) → Type 0
@@ -50,22 +50,22 @@ HaveGrown old new = (u : ℕ) → (more : List Change) × (new u ≡ old u ++ mo
 -- the law: it stays true
 abbrev pub StayTrue : Type 0
 StayTrue =
-    (window interval : ℕ) (old new : Logs) (entries : List (Key × Extents)) → HaveGrown old new
-    → AreTrue window interval old entries → AreTrue window interval new entries
+    (rules : Rules) (interval : ℕ) (old new : Logs) (entries : List (Key × Extents)) → HaveGrown old new
+    → AreTrue rules interval old entries → AreTrue rules interval new entries
 
 -- who asks, or has evaluated, after the first `pin` changes of a log
-pub record IsAsker (window : ℕ) (log : List Change) (asker : Asker) : Type 0 where
+pub record IsAsker (rules : Rules) (log : List Change) (asker : Asker) : Type 0 where
   pub pin : asker.pin ≤ length log
-  pub generation : asker.generation ≡ (store_of window (take asker.pin log)).generation
-  pub floor : asker.floor ≡ floor_of window (take asker.pin log)
+  pub generation : asker.generation ≡ (store_of rules (take asker.pin log)).generation
+  pub floor : asker.floor ≡ floor_of rules (take asker.pin log)
 
 -- a step's cell is what the query is there for the asker
-abbrev pub IsValue : (window : ℕ) → List Change → Asker → Tree → Step → Type 0
-IsValue window log asker query s = eval (store_of window (take asker.pin log)).samples query (pos s.time) ≡ Good s.elements
+abbrev pub IsValue : (rules : Rules) → List Change → Asker → Tree → Step → Type 0
+IsValue rules log asker query s = eval (store_of rules (take asker.pin log)).samples query (pos s.time) ≡ Good s.elements
 
 -- the cells of a run are what the query is at its steps, which are all in one interval
-pub record IsEvaluated (window interval : ℕ) (log : List Change) (key : Key) (asker : Asker) (query : Tree) (run : GridData) (cells : List (List Element)) : Type 0 where
-  pub asker_is : IsAsker window log asker
+pub record IsEvaluated (rules : Rules) (interval : ℕ) (log : List Change) (key : Key) (asker : Asker) (query : Tree) (run : GridData) (cells : List (List Element)) : Type 0 where
+  pub asker_is : IsAsker rules log asker
   pub values : (k : ℕ) → k < run.len
-      → eval (store_of window (take asker.pin log)).samples query (pos (run.start + k * run.step)) ≡ Good (slice_index_or cells k [])
+      → eval (store_of rules (take asker.pin log)).samples query (pos (run.start + k * run.step)) ≡ Good (slice_index_or cells k [])
   pub place : (k : ℕ) → k < run.len → (run.start + k * run.step) / interval ≡ key.interval

@@ -8,6 +8,7 @@ ghost use Rattle.pf_extent.specs.Done.{AreWhole, steps_in};
 ghost use Rattle.pf_extent.specs.Steps.{AreSpaced};
 ghost use Rattle.pf_model.specs.Canonical.{canonical};
 ghost use Rattle.pf_model.specs.Lists.{Each};
+ghost use Rattle.pf_model.specs.Log.{Rules};
 ghost use Rattle.pf_model.specs.Trees.{tree_of};
 ghost use Rattle.pf_print.specs.OwnTexts.{HasText};
 ghost use Rattle.pf_split.specs.Pieces.{pieces_of};
@@ -142,7 +143,7 @@ impl Results {
         ensures all { IfOk result (λ f. steps_in f.cached.items + lengths f.runs.items ≡ grid.now.len) }
 
         // What is kept being true, the cells are what the query is over the asker's samples.
-        ensures values { (window : ℕ) (logs : Logs) → AreTrue window interval logs self.now.entries → IsAsker window (logs key.old.tenant) asker.now → HasText (tree_of expr.now) → canonical (tree_of expr.now) ≡ key.old.text → IfOk result (λ f. Each (IsValue window (logs key.old.tenant) asker.now (tree_of expr.now)) (steps_of f.cached.items)) }
+        ensures values { (rules : Rules) (logs : Logs) → AreTrue rules interval logs self.now.entries → IsAsker rules (logs key.old.tenant) asker.now → HasText (tree_of expr.now) → canonical (tree_of expr.now) ≡ key.old.text → IfOk result (λ f. Each (IsValue rules (logs key.old.tenant) asker.now (tree_of expr.now)) (steps_of f.cached.items)) }
     {
         kept_cells();
         let mut found = Found {
@@ -164,7 +165,7 @@ impl Results {
         ensures key { AreOfOneQuery key.old key.new }
 
         // What is kept being true, it stays true.
-        ensures kept { (window : ℕ) (logs : Logs) → AreTrue window interval logs self.old.entries → AreTrue window interval logs self.new.entries }
+        ensures kept { (rules : Rules) (logs : Logs) → AreTrue rules interval logs self.old.entries → AreTrue rules interval logs self.new.entries }
     {
         for piece in pieces(grid, interval) {
             key.interval = piece.interval;
@@ -207,7 +208,7 @@ impl Results {
         ensures err { OnErr result (self.new ≡ self.old) }
 
         // What is kept being true, it stays true where the cells are what the query is.
-        ensures kept { (window interval : ℕ) (logs : Logs) → AreTrue window interval logs self.old.entries → HasText (tree_of expr.now) → canonical (tree_of expr.now) ≡ key.now.text → IsEvaluated window interval (logs key.now.tenant) key.now asker.now (tree_of expr.now) run cells.now → AreTrue window interval logs self.new.entries }
+        ensures kept { (rules : Rules) (interval : ℕ) (logs : Logs) → AreTrue rules interval logs self.old.entries → HasText (tree_of expr.now) → canonical (tree_of expr.now) ≡ key.now.text → IsEvaluated rules interval (logs key.now.tenant) key.now asker.now (tree_of expr.now) run cells.now → AreTrue rules interval logs self.new.entries }
     {
         have_own_texts();
         let Addition { list, steps } = self.added(alloc, key, expr, asker, run, cells)?;
@@ -239,7 +240,7 @@ impl Results {
         ensures count { IfOk result (λ n. n ≡ fixed_over (tree_of expr.now) asker.now cells.now) }
 
         // What is kept being true, it stays true where the cells are what the query is.
-        ensures kept { (window : ℕ) (logs : Logs) → AreTrue window interval logs self.old.entries → HasText (tree_of expr.now) → canonical (tree_of expr.now) ≡ key.old.text → AreEvaluated window interval logs key.old asker.now (tree_of expr.now) cells.now → AreTrue window interval logs self.new.entries }
+        ensures kept { (rules : Rules) (logs : Logs) → AreTrue rules interval logs self.old.entries → HasText (tree_of expr.now) → canonical (tree_of expr.now) ≡ key.old.text → AreEvaluated rules interval logs key.old asker.now (tree_of expr.now) cells.now → AreTrue rules interval logs self.new.entries }
     {
         let mut steps = 0;
         for done in cells {

@@ -36,10 +36,10 @@ returns-clause-woven c =
     c.loop-piece.found.cached.items c.loop-piece.found.runs.items c.loop-piece.invariant.found (search rules)
 
 pub returns-clause-values : goal.returns-clause-values
-returns-clause-values c = λ window logs h asker w text.
-    subst (λ (ss : List Step). Each (IsValue window (logs c.args.key.now.tenant) c.args.asker.now (tree_of c.args.expr.now)) ss)
+returns-clause-values c = λ log_rules logs h asker w text.
+    subst (λ (ss : List Step). Each (IsValue log_rules (logs c.args.key.now.tenant) c.args.asker.now (tree_of c.args.expr.now)) ss)
     (sym (steps_all c.args.self.now c.args.key.now (tree_of c.args.expr.now) c.args.asker.now
     (pieces_of c.args.interval c.args.grid.now.step (points c.args.grid.now)) c.loop-piece.piece-iterator c.args.grid.now.len
     c.loop-piece.found.cached.items c.loop-piece.found.runs.items c.loop-piece.invariant.found (search rules)))
-    (values_over c.args.self.now c.args.key.now (tree_of c.args.expr.now) c.args.asker.now c.kept_cells.ensures window c.args.interval logs h asker w text
+    (values_over c.args.self.now c.args.key.now (tree_of c.args.expr.now) c.args.asker.now c.kept_cells.ensures log_rules c.args.interval logs h asker w text
     (pieces_of c.args.interval c.args.grid.now.step (points c.args.grid.now)))

@@ -8,9 +8,9 @@ use Rattle.pf_results.proofs.Pieced.{fits, kept_one}
 use Rattle.pf_results.proofs.results.Results.keep_all.Goals as goal
 
 pub returns-in_err-steps-clause-kept : goal.returns-in_err-steps-clause-kept
-returns-in_err-steps-clause-kept c = λ window logs h w text e.
-    subst (λ (d : LruCache Key Extents). AreTrue window c.args.interval logs d.entries) (sym c.in_err-steps.ensures.err)
-    (c.loop-done.invariant.kept.true_still window logs h w text e)
+returns-in_err-steps-clause-kept c = λ log_rules logs h w text e.
+    subst (λ (d : LruCache Key Extents). AreTrue log_rules c.args.interval logs d.entries) (sym c.in_err-steps.ensures.err)
+    (c.loop-done.invariant.kept.true_still log_rules logs h w text e)
 
 pub overflow_add-steps : goal.overflow_add-steps
 overflow_add-steps c =

@@ -30,9 +30,9 @@ invariant_of-self c =
     (subst (λ (d : LruCache Key Extents). AreAllSpaced d.entries) (sym same) c.self.invariant))
 
 pub returns-clause-kept : goal.returns-clause-kept
-returns-clause-kept c = λ window logs h.
+returns-clause-kept c = λ log_rules logs h.
     let all : List Piece = pieces_of c.args.interval c.args.grid.now.step (points c.args.grid.now) in
     let none : c.loop-piece.piece-iterator ≡ [] = search rules in
-    subst (λ (d : LruCache Key Extents). AreTrue window c.args.interval logs d.entries)
+    subst (λ (d : LruCache Key Extents). AreTrue log_rules c.args.interval logs d.entries)
     (sym (touched_all c.args.key.now all c.loop-piece.piece-iterator c.args.self.now c.loop-piece.self-inside.cache c.loop-piece.invariant.used none))
-    (touched_all_true window c.args.interval logs c.args.key.now all c.args.self.now h)
+    (touched_all_true log_rules c.args.interval logs c.args.key.now all c.args.self.now h)
