@@ -5,6 +5,7 @@ use Rattle.pf_base.specs.declared.plain.Limits.{Limits}
 use Rattle.pf_journal.specs.Legal.{AreNames, Legal, machine_after}
 use Rattle.pf_journal.specs.Machine.{Entry, started}
 use Rattle.pf_model.specs.Lists.{Each}
+use Rattle.pf_model.specs.Log.{rules_of}
 use Rattle.pf_query.specs.Tables.{EntryData, IsNew, IsTable, entry_in, tried_of, waiting_of}
 use Rattle.pf_query.specs.declared.job.Job.{Job}
 use Rattle.lru.specs.LruCache.{lru_cache}
@@ -41,7 +42,7 @@ none_kept l t kept room e none zero = subst (λ (x : TenantsData). Keeps l x kep
   keeps_logs = λ u d g. cc;
   keeps_counts = λ u n g. cc;
   within = λ u n g. cc;
-  keeps_queries = λ place. subst (λ (k : Option Query). IsKept l.window k None) (sym (none place)) tt;
+  keeps_queries = λ place. subst (λ (k : Option Query). IsKept (rules_of l) k None) (sym (none place)) tt;
   keeps_room = zero;
   are_open = record { apart = tt; below = tt; known = tt };
 })

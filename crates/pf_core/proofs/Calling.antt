@@ -17,7 +17,7 @@ use Rattle.pf_journal.specs.Machine.{Entry, Open, open_at, started}
 use Rattle.pf_journal.specs.Weave.{failed_answers}
 use Rattle.pf_model.specs.Legs.{LegsData}
 use Rattle.pf_model.specs.Lists.{Each}
-use Rattle.pf_model.specs.Log.{store_of}
+use Rattle.pf_model.specs.Log.{rules_of, store_of}
 use Rattle.pf_query.specs.Jobs.{has_hand, hand_of, is_empty, is_other_job, job_of_held, tried, without_hand}
 use Rattle.pf_query.specs.Queueing as queues
 use Rattle.pf_query.specs.Queueing.{put_last}
@@ -379,7 +379,7 @@ same_legs l held w at o snap is same work = is.legs_are ∙ ap (legs_asked l.sha
 pub stored_value : (s : State) (held : Held) (part : Part) (w : WorkData) (o : Open) → (stands : StandsForAsk (core_of s) held) → IsPartOf (core_of s) held part
     → stands.at ≡ as_opened o → IsHeldOf s.table held w → IsWorkOf s.limits o w
     → (run : GridData) → slice_get w.runs (held.head.job / legs_in w.legs) ≡ Some run
-    → IsValueOver (store_of s.limits.window o.log).samples (legs_data w.legs) (held.head.job % legs_in w.legs) run part
+    → IsValueOver (store_of (rules_of s.limits) o.log).samples (legs_data w.legs) (held.head.job % legs_in w.legs) run part
 stored_value s held part w o stands is same of work run there =
     let runs : Some of.run ≡ Some run = sym of.head.run_is ∙ there in
     let same_one : of.run ≡ run = cc in
@@ -389,9 +389,9 @@ stored_value s held part w o stands is same of work run there =
     let first : held.run.start ≡ of.run.start = sym stands.job_of.first ∙ of.head.first in
     let last : last_of held.run ≡ last_of of.run = sym stands.job_of.last ∙ of.head.last in
     let equal : held.run ≡ run = same_run o.asked.query.grid held.run of.run job_run own_one first last ∙ same_one in
-    let samples = (store_of s.limits.window o.log).samples in
+    let samples = (store_of (rules_of s.limits) o.log).samples in
     let value : IsValueOver samples (legs_data (arc_value held.legs)) held.head.leg held.run part =
-    subst (λ (x : Open). IsValueOver (store_of s.limits.window x.log).samples (legs_data (arc_value held.legs)) held.head.leg held.run part) same
+    subst (λ (x : Open). IsValueOver (store_of (rules_of s.limits) x.log).samples (legs_data (arc_value held.legs)) held.head.leg held.run part) same
     (is.value stands.at stands.asked) in
     subst (λ (r : GridData). IsValueOver samples (legs_data w.legs) (held.head.job % legs_in w.legs) r part) equal
     (subst (λ k. IsValueOver samples (legs_data w.legs) k held.run part) of.head.leg
@@ -406,7 +406,7 @@ stored_fits s held part w o stands is same work =
 
 work_filled : (l : Limits) (o : Open) (w : WorkData) (job : ℕ) (part : Part) → IsWorkOf l o w → job < length w.slots → FitsNodes w.legs.nodes part
     → ((run : GridData) → slice_get w.runs (job / legs_in w.legs) ≡ Some run
-    → IsValueOver (store_of l.window o.log).samples (legs_data w.legs) (job % legs_in w.legs) run part)
+    → IsValueOver (store_of (rules_of l) o.log).samples (legs_data w.legs) (job % legs_in w.legs) run part)
     → IsWorkOf l o (filled job part w)
 work_filled l o w job part h inside fits new = record {
   legs_are = h.legs_are;
@@ -421,8 +421,8 @@ work_filled l o w job part h inside fits new = record {
   ];
   values = λ i run p there g. elim (filled_at w.slots job i part p inside g) [
     | inl both ↦
-        subst (λ (x : Part). IsValueOver (store_of l.window o.log).samples (legs_data w.legs) (i % legs_in w.legs) run x) both.1
-        (subst (λ x. IsValueOver (store_of l.window o.log).samples (legs_data w.legs) (x % legs_in w.legs) run part) (sym both.0)
+        subst (λ (x : Part). IsValueOver (store_of (rules_of l) o.log).samples (legs_data w.legs) (i % legs_in w.legs) run x) both.1
+        (subst (λ x. IsValueOver (store_of (rules_of l) o.log).samples (legs_data w.legs) (x % legs_in w.legs) run part) (sym both.0)
         (new run (subst (λ x. slice_get w.runs (x / legs_in w.legs) ≡ Some run) both.0 there)))
     | inr was ↦ h.values i run p there was
   ];

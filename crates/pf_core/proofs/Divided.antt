@@ -21,7 +21,7 @@ use Rattle.pf_model.specs.Canonical.{canonical}
 use Rattle.pf_model.specs.Direct.{Step}
 use Rattle.pf_model.specs.Evaluation.{eval}
 use Rattle.pf_model.specs.Lists.{Each}
-use Rattle.pf_model.specs.Log.{Change, store_of}
+use Rattle.pf_model.specs.Log.{Change, Rules, rules_of, store_of}
 use Rattle.pf_model.specs.Trees.{Tree}
 use Rattle.pf_model.specs.declared.cell.Element.{Element}
 use Rattle.pf_model.specs.declared.cell.StepCell.TheVariants.{Good}
@@ -138,16 +138,16 @@ touched_alike a b (p ∷ ps) kept h =
 
 -- ---- a query that is kept, and that of the machine
 
-pub key_is : (w : ℕ) (q : Query) (o : Open) → IsQuery w q o → key_by q ≡ key_in o 0
-key_is w q o h = λ i. record {
+pub key_is : (rules : Rules) (q : Query) (o : Open) → IsQuery rules q o → key_by q ≡ key_in o 0
+key_is rules q o h = λ i. record {
   tenant = sym h.tenant i;
   text = (sym h.asked i).text;
   step = (sym h.asked i).query.grid.step;
   interval = 0;
 }
 
-pub asker_same : (w : ℕ) (q : Query) (o : Open) → IsQuery w q o → asker_by q.pin ≡ asker_of w o
-asker_same w q o h = λ i. record { pin = h.pinned.numbered i; floor = h.pinned.floored i; generation = h.pinned.aged i }
+pub asker_same : (rules : Rules) (q : Query) (o : Open) → IsQuery rules q o → asker_by q.pin ≡ asker_of rules o
+asker_same rules q o h = λ i. record { pin = h.pinned.numbered i; floor = h.pinned.floored i; generation = h.pinned.aged i }
 
 -- ---- an instant query
 
@@ -175,8 +175,8 @@ pub divides_range : (kept : KeptData) (interval : ℕ) (q : Query) (a : Asked) (
     → steps_of found.cached.items ≡ served_over kept first tree asker (pieces_by interval grid)
     → found.runs.items ≡ missing_over kept first tree asker (pieces_by interval grid)
     → steps_in found.cached.items + lengths found.runs.items ≡ grid.len
-    → ((window : ℕ) (logs : Logs) → AreTrue window interval logs kept.entries → IsAsker window (logs first.tenant) asker → HasText tree → canonical tree ≡ first.text
-    → Each (IsValue window (logs first.tenant) asker tree) (steps_of found.cached.items))
+    → ((rules : Rules) (logs : Logs) → AreTrue rules interval logs kept.entries → IsAsker rules (logs first.tenant) asker → HasText tree → canonical tree ≡ first.text
+    → Each (IsValue rules (logs first.tenant) asker tree) (steps_of found.cached.items))
     → Divides kept interval q (record { found = found; key = Some key; grid = grid })
 divides_range kept interval q a found first key grid asker tree ea eg et ef ek g instant ranged written text all one woven whole cached runs count values = record {
   grid = grid_is;
@@ -192,12 +192,12 @@ divides_range kept interval q a found first key grid asker tree ea eg et ef ek g
       cached = cached ∙ (λ i. served_over kept (ef i) (tree_is i) (ek i) (pieces_by interval (grid_is i)));
       runs = runs ∙ (λ i. missing_over kept (ef i) (tree_is i) (ek i) (pieces_by interval (grid_is i)));
       all = count ∙ ap (λ (x : GridData). x.len) grid_is;
-      values = λ window logs stands asks.
-          (subst (λ (t : Tree). HasText t → canonical t ≡ (key_by q).text → Each (IsValue window (logs q.tenant) (asker_by q.pin) t) (steps_of found.cached.items)) tree_is
-          (subst (λ (x : Asker). IsAsker window (logs q.tenant) x → HasText tree → canonical tree ≡ (key_by q).text
-          → Each (IsValue window (logs q.tenant) x tree) (steps_of found.cached.items)) ek
-          (subst (λ (k : Key). IsAsker window (logs k.tenant) asker → HasText tree → canonical tree ≡ k.text
-          → Each (IsValue window (logs k.tenant) asker tree) (steps_of found.cached.items)) ef (values window logs stands)) asks))
+      values = λ rules logs stands asks.
+          (subst (λ (t : Tree). HasText t → canonical t ≡ (key_by q).text → Each (IsValue rules (logs q.tenant) (asker_by q.pin) t) (steps_of found.cached.items)) tree_is
+          (subst (λ (x : Asker). IsAsker rules (logs q.tenant) x → HasText tree → canonical tree ≡ (key_by q).text
+          → Each (IsValue rules (logs q.tenant) x tree) (steps_of found.cached.items)) ek
+          (subst (λ (k : Key). IsAsker rules (logs k.tenant) asker → HasText tree → canonical tree ≡ k.text
+          → Each (IsValue rules (logs k.tenant) asker tree) (steps_of found.cached.items)) ef (values rules logs stands)) asks))
           (subst (λ (x : Asked). HasText x.query.tree) ea written) (subst (λ (x : Asked). canonical x.query.tree ≡ x.text) ea text);
     },
   );
@@ -240,8 +240,8 @@ module _ (l : Limits) (kept : KeptData) (o : Open) where
               values = tt;
               alone = λ _. (refl, refl);
             }));
-        cached = ap steps_in none ∙ sym (ap (λ (b : Bool). length (cond b [] (served_over kept (key_in o 0) o.asked.query.tree (asker_of l.window o) (pieces_in l o)))) once);
-        runs = one ∙ sym (ap (λ (b : Bool). cond b (grid_in ∷ []) (missing_over kept (key_in o 0) o.asked.query.tree (asker_of l.window o) (pieces_in l o))) once);
+        cached = ap steps_in none ∙ sym (ap (λ (b : Bool). length (cond b [] (served_over kept (key_in o 0) o.asked.query.tree (asker_of (rules_of l) o) (pieces_in l o)))) once);
+        runs = one ∙ sym (ap (λ (b : Bool). cond b (grid_in ∷ []) (missing_over kept (key_in o 0) o.asked.query.tree (asker_of (rules_of l) o) (pieces_in l o))) once);
         few_cached = let zero_steps = ap steps_in none in omega (arith, zero_steps);
         few_runs = let runs = ap (λ (rs : List GridData). length rs) one in omega (arith, runs);
         most = let most = g.most in omega (arith, many, most);
@@ -250,8 +250,8 @@ module _ (l : Limits) (kept : KeptData) (o : Open) where
 
   of_range : (found : Found) → o.asked.instant ≡ false → IsGrid grid_in → steps_by_piece (pieces_in l o) ≡ points grid_in
       → AreWoven (pieces_in l o) found.cached.items found.runs.items → AreWhole found.cached.items
-      → steps_of found.cached.items ≡ served_over kept (key_in o 0) o.asked.query.tree (asker_of l.window o) (pieces_in l o)
-      → found.runs.items ≡ missing_over kept (key_in o 0) o.asked.query.tree (asker_of l.window o) (pieces_in l o)
+      → steps_of found.cached.items ≡ served_over kept (key_in o 0) o.asked.query.tree (asker_of (rules_of l) o) (pieces_in l o)
+      → found.runs.items ≡ missing_over kept (key_in o 0) o.asked.query.tree (asker_of (rules_of l) o) (pieces_in l o)
       → steps_in found.cached.items + lengths found.runs.items ≡ grid_in.len
       → Each (IsValueAt l o) (steps_of found.cached.items)
       → IsDivisionFor l kept o found false
@@ -264,8 +264,8 @@ module _ (l : Limits) (kept : KeptData) (o : Open) where
       record {
         divided = record { woven = woven; each = each; values = values; alone = λ once. let no : true ≡ false = sym once ∙ ranged in cc };
         cached = sym (steps_many found.cached.items whole) ∙ ap (λ (ss : List Step). length ss) cached
-            ∙ sym (ap (λ (b : Bool). length (cond b [] (served_over kept (key_in o 0) o.asked.query.tree (asker_of l.window o) (pieces_in l o)))) ranged);
-        runs = runs ∙ sym (ap (λ (b : Bool). cond b (grid_in ∷ []) (missing_over kept (key_in o 0) o.asked.query.tree (asker_of l.window o) (pieces_in l o))) ranged);
+            ∙ sym (ap (λ (b : Bool). length (cond b [] (served_over kept (key_in o 0) o.asked.query.tree (asker_of (rules_of l) o) (pieces_in l o)))) ranged);
+        runs = runs ∙ sym (ap (λ (b : Bool). cond b (grid_in ∷ []) (missing_over kept (key_in o 0) o.asked.query.tree (asker_of (rules_of l) o) (pieces_in l o))) ranged);
         few_cached = omega (arith, count, many);
         few_runs = omega (arith, count, few, most);
         most = omega (arith, many, most);
@@ -274,12 +274,12 @@ module _ (l : Limits) (kept : KeptData) (o : Open) where
 
 -- what the code found is the division of the open query
 value_by : (l : Limits) (logs : List (List Change)) (o : Open) → IsFront logs o → (s : Step)
-    → IsValue l.window (log_of logs o.tenant) (asker_of l.window o) o.asked.query.tree s → IsValueAt l o s
+    → IsValue (rules_of l) (log_of logs o.tenant) (asker_of (rules_of l) o) o.asked.query.tree s → IsValueAt l o s
 value_by l logs o front s h =
-    subst (λ (log : List Change). eval (store_of l.window log).samples o.asked.query.tree (pos s.time) ≡ Good s.elements) (front_taken logs o front) h
+    subst (λ (log : List Change). eval (store_of (rules_of l) log).samples o.asked.query.tree (pos s.time) ≡ Good s.elements) (front_taken logs o front) h
 
-pub division : (l : Limits) (kept : KeptData) (logs : List (List Change)) (q : Query) (o : Open) (d : Division) → IsQuery l.window q o → IsFront logs o
-    → AreTrue l.window l.interval (log_of logs) kept.entries → Divides kept l.interval q d → IsDivisionFor l kept o d.found (is_none d.key)
+pub division : (l : Limits) (kept : KeptData) (logs : List (List Change)) (q : Query) (o : Open) (d : Division) → IsQuery (rules_of l) q o → IsFront logs o
+    → AreTrue (rules_of l) l.interval (log_of logs) kept.entries → Divides kept l.interval q d → IsDivisionFor l kept o d.found (is_none d.key)
 division l kept logs q o d h front true_so v = by d.key v.parts where
   back : arc_value q.asked ≡ o.asked
   back = sym h.asked
@@ -287,9 +287,9 @@ division l kept logs q o d h front true_so v = by d.key v.parts where
   lawful : IsGrid o.asked.query.grid
   lawful = subst (λ (a : Asked). IsGrid a.query.grid) back (subst IsGrid v.grid v.lawful)
 
-  asks : IsAsker l.window (log_of logs q.tenant) (asker_by q.pin)
-  asks = subst (λ u. IsAsker l.window (log_of logs u) (asker_by q.pin)) h.tenant
-      (subst (IsAsker l.window (log_of logs o.tenant)) (sym (asker_same l.window q o h)) (asker_stands l.window logs o front))
+  asks : IsAsker (rules_of l) (log_of logs q.tenant) (asker_by q.pin)
+  asks = subst (λ u. IsAsker (rules_of l) (log_of logs u) (asker_by q.pin)) h.tenant
+      (subst (IsAsker (rules_of l) (log_of logs o.tenant)) (sym (asker_same (rules_of l) q o h)) (asker_stands (rules_of l) logs o front))
 
   by : (k : Option Key) → IsDividedBy kept l.interval q d.found k → IsDivisionFor l kept o d.found (is_none k)
   by None p =
@@ -300,18 +300,18 @@ division l kept logs q o d h front true_so v = by d.key v.parts where
       of_range l kept o d.found (ap (λ (a : Asked). a.instant) h.asked ∙ p.0) lawful
       (subst (λ (a : Asked). steps_by_piece (pieces_by l.interval a.query.grid) ≡ points a.query.grid) back v.steps)
       (subst (λ (a : Asked). AreWoven (pieces_by l.interval a.query.grid) d.found.cached.items d.found.runs.items) back p.1.woven) p.1.whole
-      (p.1.cached ∙ (λ i. served_over kept (key_is l.window q o h i) (back i).query.tree (asker_same l.window q o h i) (pieces_by l.interval (back i).query.grid)))
-      (p.1.runs ∙ (λ i. missing_over kept (key_is l.window q o h i) (back i).query.tree (asker_same l.window q o h i) (pieces_by l.interval (back i).query.grid)))
+      (p.1.cached ∙ (λ i. served_over kept (key_is (rules_of l) q o h i) (back i).query.tree (asker_same (rules_of l) q o h i) (pieces_by l.interval (back i).query.grid)))
+      (p.1.runs ∙ (λ i. missing_over kept (key_is (rules_of l) q o h i) (back i).query.tree (asker_same (rules_of l) q o h i) (pieces_by l.interval (back i).query.grid)))
       (subst (λ (a : Asked). steps_in d.found.cached.items + lengths d.found.runs.items ≡ a.query.grid.len) back p.1.all)
       (each_map _ _ (value_by l logs o front) (steps_of d.found.cached.items)
-      (subst (λ (a : Asker). Each (IsValue l.window (log_of logs o.tenant) a o.asked.query.tree) (steps_of d.found.cached.items)) (asker_same l.window q o h)
-      (subst (λ (a : Asked). Each (IsValue l.window (log_of logs o.tenant) (asker_by q.pin) a.query.tree) (steps_of d.found.cached.items)) back
-      (subst (λ u. Each (IsValue l.window (log_of logs u) (asker_by q.pin) (arc_value q.asked).query.tree) (steps_of d.found.cached.items)) (sym h.tenant)
-      (p.1.values l.window (log_of logs) true_so asks)))))
+      (subst (λ (a : Asker). Each (IsValue (rules_of l) (log_of logs o.tenant) a o.asked.query.tree) (steps_of d.found.cached.items)) (asker_same (rules_of l) q o h)
+      (subst (λ (a : Asked). Each (IsValue (rules_of l) (log_of logs o.tenant) (asker_by q.pin) a.query.tree) (steps_of d.found.cached.items)) back
+      (subst (λ u. Each (IsValue (rules_of l) (log_of logs u) (asker_by q.pin) (arc_value q.asked).query.tree) (steps_of d.found.cached.items)) (sym h.tenant)
+      (p.1.values (rules_of l) (log_of logs) true_so asks)))))
 
 -- ---- what is kept once the keys are used
 
-pub used_is : (l : Limits) (kept : KeptData) (q : Query) (o : Open) (d : Division) → IsQuery l.window q o → Divides kept l.interval q d
+pub used_is : (l : Limits) (kept : KeptData) (q : Query) (o : Open) (d : Division) → IsQuery (rules_of l) q o → Divides kept l.interval q d
     → used_with l.interval d.grid d.key kept ≡ used_by l kept o
 used_is l kept q o d h v = by d.key v.parts where
   back : arc_value q.asked ≡ o.asked
@@ -327,5 +327,5 @@ used_is l kept q o d h v = by d.key v.parts where
   by (Some k) p =
       let ranged : o.asked.instant ≡ false = ap (λ (a : Asked). a.instant) h.asked ∙ p.0 in
       touched_alike (key_by q) k (pieces_by l.interval d.grid) kept p.1.one
-      ∙ (λ i. touched_over (key_is l.window q o h i) (pieces_by l.interval (grid i)) kept)
+      ∙ (λ i. touched_over (key_is (rules_of l) q o h i) (pieces_by l.interval (grid i)) kept)
       ∙ sym (ap (λ (b : Bool). cond b kept (touched_over (key_in o 0) (pieces_in l o) kept)) ranged)

@@ -1,33 +1,35 @@
 -- Entries of tenants, and those that change nothing else.
-use Rattle.std.proofs.Common.{◌≡◌, ℕ, ◌+◌, ◌≤◌, nat_le, true, Option, Some, None, List, [], ◌++◌, length, refl, sym, ap, ◌∙◌, arith, slice_get, subst, append-nil}
+use Rattle.std.proofs.Common.{◌≡◌, ℕ, ◌+◌, ◌≤◌, nat_le, true, Option, Some, None, List, [], ◌++◌, length, refl, sym, ap, ◌∙◌, arith, map, slice_get, subst, append-nil}
 use Rattle.std.proofs.lemmas.Bool.Decides.{nat_tests}
 use Rattle.pf_base.specs.Batches.{BatchData}
 use Rattle.pf_base.specs.declared.plain.By.{By}
 use Rattle.pf_journal.specs.Machine.{Allowed, Machine, What, append, delete, full, next, no_tenant, log_of, with_log}
-use Rattle.pf_model.specs.Log.{Change, Verdict, log_with, log_without, verdicts_of}
+use Rattle.pf_model.specs.Log.{Change, Verdict, log_with, log_without, rules_of, verdicts_of}
 use Rattle.pf_model.specs.declared.expr.Matcher.{Matcher}
 use Rattle.pf_store.specs.Standing.{IsLog, deleted_after, verdicts_after}
 use Rattle.pf_store.specs.Verdicts.{VerdictsData}
 use Rattle.pf_store.specs.declared.tenant_log.Deleted.{Deleted}
 use Rattle.pf_core.specs.Cores.{Enters, EntersFor, IsAppended, IsDeleted}
+use Rattle.pf_core.specs.Entries.{entry_of}
 use Rattle.pf_core.specs.Seats.{IsFree, IsSeat, IsStranger, TenantsData, count_at, settled}
 use Rattle.pf_core.specs.States.{CutsOut, IsEntered, HasHistory, IsTold, Keeps, Steps, TakesIn, core_of, kept_in, machine_in}
 use Rattle.pf_core.specs.declared.state.State.{State}
 use Rattle.pf_core.specs.declared.tenants.Seat.{Seat}
 use Rattle.pf_core.proofs.Keeping.{are_open_log, are_open_same, machine_with}
+use Rattle.pf_core.proofs.Limited.{limited}
 use Rattle.pf_core.proofs.Seated.{count_past, count_there, names_of, placed, settled_counts, settled_logs, settled_many, settled_names, settled_tenants, stored, stranger}
 use Rattle.pf_core.proofs.Stepped.{room_for, stepped}
 
 -- an entry of a tenant whose log is changed
 pub changed : (old new : State) (by : By) (name : List ℕ) (seat after : Seat) (what : ℕ → What) (log : List Change)
-    → HasHistory old → IsSeat old.tenants old.limits.window name seat
-    → after.number ≡ seat.number → after.newcomer ≡ seat.newcomer → after.log.window ≡ seat.log.window → IsLog after.log log
+    → HasHistory old → IsSeat old.tenants (rules_of old.limits) name seat
+    → after.number ≡ seat.number → after.newcomer ≡ seat.newcomer → IsLog (rules_of old.limits) after.log log
     → next (machine_in old) (what seat.number) ≡ machine_with (with_log (machine_in old).logs seat.number log) (machine_in old).queries ((machine_in old).count + 1)
     → ((names : List (List ℕ)) → Allowed old.limits names (machine_in old) (what seat.number))
     → IsEntered old by after (what seat.number) new
     → nat_le (length old.journal.items + old.reserved + 1) old.limits.journal ≡ true
     → HasHistory new × EntersFor (core_of old) by name what (core_of new)
-changed old new by name seat after what log h p number newcomer window is stepping allowed e room =
+changed old new by name seat after what log h p number newcomer is stepping allowed e room =
     let m = machine_in old in
     let here = placed old name seat h p in
     let t = settled old.tenants seat.number after.log seat.newcomer in
@@ -35,11 +37,10 @@ changed old new by name seat after what log h p number newcomer window is steppi
     λ i. settled old.tenants (number i) after.log (newcomer i) in
     let many = h.stands.names.many in
     let near = here.number.next in
-    let counts = settled_counts old.tenants seat.number after.log seat.newcomer m old.limits.outstanding p.tenants many h.keeps.keeps_counts h.keeps.within h.keeps.are_open.known in
+    let counts = settled_counts old.tenants seat.number after.log seat.newcomer m old.limits.journal p.tenants many h.keeps.keeps_counts h.keeps.within h.keeps.are_open.known in
     let within : length old.journal.items + old.reserved + 1 ≤ old.limits.journal = grind (arith, nat_tests, room) in
     let keeps : Keeps old.limits t (kept_in old) old.reserved (machine_with (with_log m.logs seat.number log) m.queries (m.count + 1)) = record {
-      keeps_logs = settled_logs old.limits.window old.tenants seat.number after.log seat.newcomer m.logs log p.tenants p.free many h.keeps.keeps_logs
-          (window ∙ here.window) is;
+      keeps_logs = settled_logs (rules_of old.limits) old.tenants seat.number after.log seat.newcomer m.logs log p.tenants p.free many h.keeps.keeps_logs is;
       keeps_counts = counts.0;
       within = counts.1;
       keeps_queries = h.keeps.keeps_queries;
@@ -64,37 +65,36 @@ changed old new by name seat after what log h p number newcomer window is steppi
 
 -- a batch is taken in
 pub appended : (old new : State) (by : By) (name : List ℕ) (seat after : Seat) (batch : BatchData) (v : VerdictsData) (what : What)
-    → HasHistory old → IsSeat old.tenants old.limits.window name seat → TakesIn seat batch v what after → IsEntered old by after what new
+    → HasHistory old → IsSeat old.tenants (rules_of old.limits) name seat → TakesIn seat batch v what after → IsEntered old by after what new
     → nat_le (length old.journal.items + old.reserved + 1) old.limits.journal ≡ true
     → HasHistory new × IsAppended (core_of old) by name batch v (core_of new)
 appended old new by name seat after batch v what h p t e room =
     let here = placed old name seat h p in
     let before = log_of (machine_in old).logs seat.number in
-    let w = old.limits.window in
-    let verdicts : v ≡ verdicts_after w before batch.rows = t.judged before here.is ∙ ap (λ k. verdicts_after k before batch.rows) here.window in
-    let listed : v.list ≡ verdicts_of w before batch.rows = ap (λ (x : VerdictsData). x.list) verdicts in
+    let verdicts : v ≡ verdicts_after (rules_of old.limits) before batch.rows = t.judged (rules_of old.limits) before here.is in
+    let listed : v.list ≡ verdicts_of (rules_of old.limits) before batch.rows = ap (λ (x : VerdictsData). x.list) verdicts in
     let log = log_with before batch.rows v.list in
-    let is : IsLog after.log log =
-    subst (λ (vs : List Verdict). IsLog after.log (log_with before batch.rows vs)) (sym listed)
-    (subst (λ k. IsLog after.log (log_with before batch.rows (verdicts_of k before batch.rows))) here.window (t.stands before here.is)) in
+    let is : IsLog (rules_of old.limits) after.log log =
+    subst (λ (vs : List Verdict). IsLog (rules_of old.limits) after.log (log_with before batch.rows vs)) (sym listed)
+    (t.stands (rules_of old.limits) before here.is) in
     let entry : v.entry ≡ length log =
     ap (λ (x : VerdictsData). x.entry) verdicts ∙ ap (λ (vs : List Verdict). length (log_with before batch.rows vs)) (sym listed) in
-    let both = changed old new by name seat after (λ u. append u batch v.list v.entry) log h p t.number t.newcomer t.window is refl
+    let both = changed old new by name seat after (λ u. append u batch v.list v.entry) log h p t.number t.newcomer is refl
     (λ names. record { tenant = here.number; judged = listed; counted = entry })
     (subst (λ (x : What). IsEntered old by after x new) t.what e) room in
     (both.0, (room_for old 1 h room, both.1))
 
 -- samples are cut out
 pub deleted : (old new : State) (by : By) (name : List ℕ) (seat after : Seat) (ms : List Matcher) (from to : ℕ) (d : Deleted) (what : What)
-    → HasHistory old → IsSeat old.tenants old.limits.window name seat → CutsOut seat ms from to d what after → IsEntered old by after what new
+    → HasHistory old → IsSeat old.tenants (rules_of old.limits) name seat → CutsOut seat ms from to d what after → IsEntered old by after what new
     → nat_le (length old.journal.items + old.reserved + 1) old.limits.journal ≡ true
     → HasHistory new × IsDeleted (core_of old) by name ms from to d (core_of new)
 deleted old new by name seat after ms from to d what h p t e room =
     let here = placed old name seat h p in
     let before = log_of (machine_in old).logs seat.number in
     let log = log_without before ms from to in
-    let told : d ≡ deleted_after old.limits.window log = t.told before here.is ∙ ap (λ k. deleted_after k log) here.window in
-    let both = changed old new by name seat after (λ u. delete u ms from to d.generation d.entry) log h p t.number t.newcomer t.window (t.stands before here.is) refl
+    let told : d ≡ deleted_after (rules_of old.limits) log = t.told (rules_of old.limits) before here.is in
+    let both = changed old new by name seat after (λ u. delete u ms from to d.generation d.entry) log h p t.number t.newcomer (t.stands (rules_of old.limits) before here.is) refl
     (λ names. record { tenant = here.number; aged = ap (λ (x : Deleted). x.generation) told; counted = ap (λ (x : Deleted). x.entry) told })
     (subst (λ (x : What). IsEntered old by after x new) t.what e) room in
     (both.0, (room_for old 1 h room, both.1))
@@ -131,7 +131,7 @@ refused old new by name h s e room = told old new by (no_tenant name) h e refl (
 
 -- the entry of a tenant that has as many open queries as it may
 fills : (old new : State) (by : By) (name : List ℕ) (seat : Seat) (n : ℕ) (newcomer : Option (List ℕ))
-    → HasHistory old → IsSeat old.tenants old.limits.window name seat → seat.newcomer ≡ newcomer → IsFree old.tenants seat.number newcomer
+    → HasHistory old → IsSeat old.tenants (rules_of old.limits) name seat → seat.newcomer ≡ newcomer → IsFree old.tenants seat.number newcomer
     → n ≡ count_at old.tenants.counts seat.number → old.limits.outstanding ≤ n
     → IsTold old by (full seat.number n) new
     → length old.journal.items + old.reserved + 1 ≤ old.limits.journal
@@ -141,9 +141,9 @@ fills old new by name seat n None h p e free counted reached t room =
     let many_counts = p.tenants.many_counts in
     let s = stored old.tenants.counts seat.number (omega (arith, free, many_counts)) in
     let there = count_there old.tenants.counts seat.number s.element s.there in
-    let least = h.keeps.within seat.number s.element s.there in
-    let is : n ≡ old.limits.outstanding = omega (arith, counted, there, least, reached) in
     let so_many = h.keeps.keeps_counts seat.number s.element s.there in
+    let most = limited old.limits old.tenants.names (map entry_of old.journal.items) h.stands.legal seat.number in
+    let is : n ≡ old.limits.outstanding = omega (arith, counted, there, so_many, most, reached) in
     let both = told old new by (full seat.number n) h t refl
     (record { known = omega (arith, free, many); counted = omega (arith, counted, there, so_many); most = is }) room in (
       both.0,
@@ -166,7 +166,7 @@ fills old new by name seat n (Some new_name) h p e free counted reached t room =
     absurd (omega (arith, counted, none, reached, some))
 
 pub filled : (old new : State) (by : By) (name : List ℕ) (seat : Seat) (n : ℕ)
-    → HasHistory old → IsSeat old.tenants old.limits.window name seat
+    → HasHistory old → IsSeat old.tenants (rules_of old.limits) name seat
     → n ≡ count_at old.tenants.counts seat.number → old.limits.outstanding ≤ n
     → IsTold old by (full seat.number n) new
     → length old.journal.items + old.reserved + 1 ≤ old.limits.journal

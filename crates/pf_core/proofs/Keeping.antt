@@ -5,7 +5,7 @@ use Rattle.std.proofs.lemmas.Option.{slice_get_within}
 use Rattle.pf_base.specs.declared.plain.Limits.{Limits}
 use Rattle.pf_journal.specs.Legal.{Legal, IsLawful, Moment, moments, machine_after}
 use Rattle.pf_model.specs.Lists.{Each}
-use Rattle.pf_model.specs.Log.{Change}
+use Rattle.pf_model.specs.Log.{Change, Rules}
 use Rattle.pf_journal.specs.Machine.{Machine, Open, What, append, delete, ask, full, no_tenant, cancel, answer, Entry, Allowed, started, log_of, with_log, open_at, cancelled_at, closed, open_of}
 use Rattle.pf_store.specs.Standing.{IsLog, LogData}
 use Rattle.pf_core.specs.States.{KeepsLogs, KeepsCounts, AreOpen, Above}
@@ -15,39 +15,35 @@ use Rattle.pf_core.proofs.Machines.{bool_cases, moments_push, length_with_log, l
 
 -- ---- logs
 
-pub logs_set : (w : ℕ) (kept : List LogData) (logs : List (List Change)) (u : ℕ) (d : LogData) (log : List Change)
-    → KeepsLogs w kept logs → u < length kept → u ≤ length logs → d.window ≡ w → IsLog d log
-    → KeepsLogs w (slice_set kept u d) (with_log logs u log)
-logs_set w kept logs u d log h inside near window is v e g = elim (bool_cases (nat_eq v u)) [
+pub logs_set : (rules : Rules) (kept : List LogData) (logs : List (List Change)) (u : ℕ) (d : LogData) (log : List Change)
+    → KeepsLogs rules kept logs → u < length kept → u ≤ length logs → IsLog rules d log
+    → KeepsLogs rules (slice_set kept u d) (with_log logs u log)
+logs_set rules kept logs u d log h inside near is v e g = elim (bool_cases (nat_eq v u)) [
   | inl t ↦
       let same : v ≡ u = grind (arith, nat_tests, t) in
       let there : slice_get (slice_set kept u d) v ≡ Some d = subst (λ x. slice_get (slice_set kept u d) x ≡ Some d) (sym same) (get_set_same kept u d inside) in
       let found : d ≡ e = cc in
       let after : log_of (with_log logs u log) v ≡ log = subst (λ x. log_of (with_log logs u log) x ≡ log) (sym same) (log_of_same logs u log near) in
-      subst (λ (x : LogData). (x.window ≡ w) × IsLog x (log_of (with_log logs u log) v)) found
-      (window, subst (λ (l : List Change). IsLog d l) (sym after) is)
+      subst (λ (x : LogData). IsLog rules x (log_of (with_log logs u log) v)) found (subst (λ (l : List Change). IsLog rules d l) (sym after) is)
   | inr t ↦
       let other : v ≢ u = λ s. grind (arith, nat_tests, t, s) in
       let was : slice_get kept v ≡ Some e = sym (get_set_other kept u v d other) ∙ g in
-      let kept_so = h v e was in
-      (kept_so.0, subst (λ (l : List Change). IsLog e l) (sym (log_of_other logs u v log near other)) kept_so.1)
+      subst (λ (l : List Change). IsLog rules e l) (sym (log_of_other logs u v log near other)) (h v e was)
 ]
 
-pub logs_put : (w : ℕ) (kept : List LogData) (logs : List (List Change)) (u : ℕ) (d : LogData) (log : List Change)
-    → KeepsLogs w kept logs → u ≡ length kept → u ≡ length logs → d.window ≡ w → IsLog d log
-    → KeepsLogs w (kept ++ d ∷ []) (with_log logs u log)
-logs_put w kept logs u d log h at_end near window is v e g = elim (get_push kept d v e g) [
+pub logs_put : (rules : Rules) (kept : List LogData) (logs : List (List Change)) (u : ℕ) (d : LogData) (log : List Change)
+    → KeepsLogs rules kept logs → u ≡ length kept → u ≡ length logs → IsLog rules d log
+    → KeepsLogs rules (kept ++ d ∷ []) (with_log logs u log)
+logs_put rules kept logs u d log h at_end near is v e g = elim (get_push kept d v e g) [
   | inl was ↦
       let inside = slice_get_within kept v e was in
       let other : v ≢ u = λ s. omega (arith, s, inside, at_end) in
-      let kept_so = h v e was in
-      (kept_so.0, subst (λ (l : List Change). IsLog e l) (sym (log_of_other logs u v log (omega (arith, near)) other)) kept_so.1)
+      subst (λ (l : List Change). IsLog rules e l) (sym (log_of_other logs u v log (omega (arith, near)) other)) (h v e was)
   | inr new ↦
       let here : v ≡ u = new.0 ∙ sym at_end in
       let after : log_of (with_log logs u log) v ≡ log =
       subst (λ x. log_of (with_log logs u log) x ≡ log) (sym here) (log_of_same logs u log (omega (arith, near))) in
-      subst (λ (x : LogData). (x.window ≡ w) × IsLog x (log_of (with_log logs u log) v)) (sym new.1)
-      (window, subst (λ (l : List Change). IsLog d l) (sym after) is)
+      subst (λ (x : LogData). IsLog rules x (log_of (with_log logs u log) v)) (sym new.1) (subst (λ (l : List Change). IsLog rules d l) (sym after) is)
 ]
 
 -- ---- counts

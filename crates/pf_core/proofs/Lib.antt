@@ -11,6 +11,7 @@ mod Failures
 mod KeptQueries
 pub mod Divided
 mod Keeping
+mod Limited
 mod Lists
 mod Logs
 mod Looked

@@ -4,7 +4,7 @@ use Rattle.std.proofs.lemmas.List.{length-append}
 use Rattle.pf_journal.specs.Legal.{machine_after}
 use Rattle.pf_journal.specs.Machine.{Entry, Machine, Open, What, append, delete, ask, full, no_tenant, cancel, answer, log_of, logs_after, next, open_at, queries_after, started, with_log}
 use Rattle.pf_model.specs.Lists.{Each}
-use Rattle.pf_model.specs.Log.{Change, any_taken, floor_of, log_with, log_without, store_of}
+use Rattle.pf_model.specs.Log.{Change, Rules, any_taken, floor_of, log_with, log_without, store_of}
 use Rattle.pf_results.specs.Truth.{HaveGrown, IsAsker}
 use Rattle.pf_core.specs.Cached.{asker_of}
 use Rattle.pf_core.proofs.Lists.{each_map, each_push}
@@ -89,11 +89,11 @@ taken_front (x ∷ a) b = ap (λ (l : List Change). x ∷ l) (taken_front a b)
 pub front_taken : (logs : List (List Change)) (o : Open) → IsFront logs o → take (length o.log) (log_of logs o.tenant) ≡ o.log
 front_taken logs o h = ap (take (length o.log)) h.1 ∙ taken_front o.log h.0
 
-pub asker_stands : (window : ℕ) (logs : List (List Change)) (o : Open) → IsFront logs o → IsAsker window (log_of logs o.tenant) (asker_of window o)
-asker_stands window logs o h =
+pub asker_stands : (rules : Rules) (logs : List (List Change)) (o : Open) → IsFront logs o → IsAsker rules (log_of logs o.tenant) (asker_of rules o)
+asker_stands rules logs o h =
     let same = front_taken logs o h in
     record {
       pin = let long = ap (λ (l : List Change). length l) h.1 in let all = length-append o.log h.0 in omega (arith, long, all);
-      generation = ap (λ (l : List Change). (store_of window l).generation) (sym same);
-      floor = ap (floor_of window) (sym same);
+      generation = ap (λ (l : List Change). (store_of rules l).generation) (sym same);
+      floor = ap (floor_of rules) (sym same);
     }

@@ -6,6 +6,7 @@ use Rattle.std.specs.Prelude.{IsSome, OnErr, Result, Ok, Err}
 use Rattle.pf_block.specs.Snaps.{SnapData}
 use Rattle.pf_base.specs.declared.plain.Limits.{Limits}
 use Rattle.pf_journal.specs.Machine.{Open, most_tenants, open_at}
+use Rattle.pf_model.specs.Log.{rules_of}
 use Rattle.pf_query.specs.Tables as table
 use Rattle.pf_query.specs.Tables.{EntryData, IsClosed, IsTable, entry_in, progress_of, tried_of}
 use Rattle.pf_query.specs.declared.table.Table.{Table}
@@ -29,7 +30,7 @@ use Rattle.pf_core.proofs.Standing.{undone}
 -- ---- what is told
 
 pub unkept : (s : State) (query : ℕ) → IsState s → kept_in s query ≡ None → open_at query (machine_in s).queries ≡ None
-unkept s query h e = kept_none s.limits.window (kept_in s query) (open_at query (machine_in s).queries) (h.history.keeps.keeps_queries query) e
+unkept s query h e = kept_none (rules_of s.limits) (kept_in s query) (open_at query (machine_in s).queries) (h.history.keeps.keeps_queries query) e
 
 no_progress : (e : Option EntryData) → option_map progress_of e ≡ None → e ≡ None
 no_progress None p = refl
@@ -53,7 +54,7 @@ pub told : (s : State) (query : ℕ) (q : Query) (p : Progress) (o : Opened) →
     → o.tenant ≡ q.tenant → arc_value o.asked.now ≡ arc_value q.asked → o.pin.now ≡ q.pin → o.cancelled ≡ q.cancelled → o.planned ≡ p.planned → o.stop ≡ p.stop
     → o.cached ≡ p.cached → o.offered ≡ p.offered → IsOpened (core_of s) query o
 told s query q p o h kept progress tenant asked pin cancelled planned stop cached offered =
-    let found = kept_is s.limits.window (kept_in s query) (open_at query (machine_in s).queries) q (h.history.keeps.keeps_queries query) kept in
+    let found = kept_is (rules_of s.limits) (kept_in s query) (open_at query (machine_in s).queries) q (h.history.keeps.keeps_queries query) kept in
     let e = progressing (entry_in s.table query) p progress in
     let opened = open_there s.limits (open_at query (machine_in s).queries) (entry_in s.table query) e.entry (h.jobs.outstanding query) e.there in
     let both : Some opened.opened ≡ Some found.opened = sym opened.there ∙ found.there in
@@ -63,7 +64,7 @@ told s query q p o h kept progress tenant asked pin cancelled planned stop cache
       is_open = found.there;
       tenant = found.is.tenant ∙ sym tenant;
       asked = found.is.asked ∙ sym asked;
-      pinned = subst (λ (x : PinData). IsPin x s.limits.window found.opened.log) (sym pin) found.is.pinned;
+      pinned = subst (λ (x : PinData). IsPin x (rules_of s.limits) found.opened.log) (sym pin) found.is.pinned;
       cancelled = found.is.cancelled ∙ sym cancelled;
       far = far_of query (Some e.entry) (tried_of s.table query);
       is_far = far_at query (machine_in s).queries (entry_in s.table) (tried_of s.table) found.opened found.there

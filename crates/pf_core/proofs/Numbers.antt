@@ -6,6 +6,7 @@ use Rattle.std.proofs.lemmas.Slice.Eq.{bytes_eq-Decides}
 use Rattle.std.specs.HashMap.{HashMap, Updates, get_by_text}
 use Rattle.std.specs.Prelude.{String, string_bytes, string_eq}
 use Rattle.std.specs.Str.{bytes_eq}
+use Rattle.pf_model.specs.Log.{Rules}
 use Rattle.pf_store.specs.Standing.{LogData}
 use Rattle.pf_core.specs.Seats.{AreTenants, FindsNames, IsFree, IsSeat, IsSeated, IsUnknown, TenantsData}
 use Rattle.pf_core.specs.declared.tenants.Seat.{Seat}
@@ -80,10 +81,10 @@ known_log t name u h g =
     let many = h.many_logs in
     omega (arith, inside, many)
 
-pub known_seat : (t : TenantsData) (window : ℕ) (name : List ℕ) (s : Seat)
-    → AreTenants t → s.newcomer ≡ None → slice_get t.names s.number ≡ Some name → slice_get t.logs s.number ≡ Some s.log → IsSeat t window name s
-known_seat t window name s h none named there = record {
+pub known_seat : (t : TenantsData) (rules : Rules) (name : List ℕ) (s : Seat)
+    → AreTenants t → s.newcomer ≡ None → slice_get t.names s.number ≡ Some name → slice_get t.logs s.number ≡ Some s.log → IsSeat t rules name s
+known_seat t rules name s h none named there = record {
   tenants = h;
   free = subst (λ (o : Option (List ℕ)). IsFree t s.number o) (sym none) (slice_get_within t.names s.number name named);
-  seated = subst (λ (o : Option (List ℕ)). IsSeated t window name s.number s.log o) (sym none) (named, there);
+  seated = subst (λ (o : Option (List ℕ)). IsSeated t rules name s.number s.log o) (sym none) (named, there);
 }

@@ -12,7 +12,7 @@ use Rattle.pf_journal.specs.Machine.{Open, log_of, open_at}
 use Rattle.pf_model.specs.Canonical.{canonical}
 use Rattle.pf_model.specs.Evaluation.{eval}
 use Rattle.pf_model.specs.Lists.{Each}
-use Rattle.pf_model.specs.Log.{Change, store_of}
+use Rattle.pf_model.specs.Log.{Change, Rules, rules_of, store_of}
 use Rattle.pf_model.specs.Trees.{Tree}
 use Rattle.pf_model.specs.declared.cell.StepCell.TheVariants.{Good}
 use Rattle.pf_print.specs.OwnTexts.{HasText}
@@ -64,36 +64,35 @@ tenant_known s query o h there =
 
 pub owner_known : (s : State) (query : ℕ) (q : Query) → IsState s → kept_in s query ≡ Some q → q.tenant < length s.tenants.names
 owner_known s query q h kept =
-    let found = kept_is s.limits.window (kept_in s query) (open_at query (machine_in s).queries) q (h.history.keeps.keeps_queries query) kept in
+    let found = kept_is (rules_of s.limits) (kept_in s query) (open_at query (machine_in s).queries) q (h.history.keeps.keeps_queries query) kept in
     let known = tenant_known s query found.opened h found.there in
     let same = found.is.tenant in
     omega (arith, known, same)
 
 -- what every log that is kept tells is that of the tenant
 generation_at : (s : State) (u g : ℕ) → IsState s → AreTenants s.tenants → u < length s.tenants.names
-    → ((d : LogData) (log : List Change) → slice_get s.tenants.logs u ≡ Some d → IsLog d log → g ≡ (store_of d.window log).generation)
+    → ((rules : Rules) (d : LogData) (log : List Change) → slice_get s.tenants.logs u ≡ Some d → IsLog rules d log → g ≡ (store_of rules log).generation)
     → g ≡ generation_of (core_of s) u
 generation_at s u g h t inside told =
     let many = t.many_logs in
     let d = stored s.tenants.logs u (omega (arith, inside, many)) in
     let is = h.history.keeps.keeps_logs u d.element d.there in
-    told d.element (log_of (machine_in s).logs u) d.there is.1
-    ∙ ap (λ w. (store_of w (log_of (machine_in s).logs u)).generation) is.0
+    told (rules_of s.limits) d.element (log_of (machine_in s).logs u) d.there is
 
 pub generation_is : (s : State) (query g : ℕ) (q : Query) (o : Open) → IsState s → kept_in s query ≡ Some q → open_at query (machine_in s).queries ≡ Some o
     → AreTenants s.tenants
-    → ((d : LogData) (log : List Change) → slice_get s.tenants.logs q.tenant ≡ Some d → IsLog d log → g ≡ (store_of d.window log).generation)
-    → (g ≡ generation_of (core_of s) o.tenant) × (q.pin.generation ≡ (asker_of s.limits.window o).generation)
+    → ((rules : Rules) (d : LogData) (log : List Change) → slice_get s.tenants.logs q.tenant ≡ Some d → IsLog rules d log → g ≡ (store_of rules log).generation)
+    → (g ≡ generation_of (core_of s) o.tenant) × (q.pin.generation ≡ (asker_of (rules_of s.limits) o).generation)
 generation_is s query g q o h kept there t told =
     let is = query_of s query q o h kept there in (
       generation_at s o.tenant g h t (tenant_known s query o h there)
-          (subst (λ u. (d : LogData) (log : List Change) → slice_get s.tenants.logs u ≡ Some d → IsLog d log → g ≡ (store_of d.window log).generation) (sym is.tenant) told),
+          (subst (λ u. (rules : Rules) (d : LogData) (log : List Change) → slice_get s.tenants.logs u ≡ Some d → IsLog rules d log → g ≡ (store_of rules log).generation) (sym is.tenant) told),
       is.pinned.aged,
     )
 
 -- ---- what is kept
 
-done_at : (l : Limits) (o : Open) (q : Query) → IsQuery l.window q o → (cells : List DoneCells) → Each (AreCellsOf l o) cells
+done_at : (l : Limits) (o : Open) (q : Query) → IsQuery (rules_of l) q o → (cells : List DoneCells) → Each (AreCellsOf l o) cells
     → Each (IsDoneAt (arc_value q.asked).query.grid.step) cells
 done_at l o q is cells h =
     each_map (AreCellsOf l o) (IsDoneAt (arc_value q.asked).query.grid.step)
@@ -103,19 +102,19 @@ done_at l o q is cells h =
 pub record AsksOf (s : State) (q : Query) (cells : List DoneCells) : Type 0 where
   pub ranged : (arc_value q.asked).instant ≡ false
   pub each : Each (IsDoneAt (arc_value q.asked).query.grid.step) cells
-  pub evaluated : AreEvaluated s.limits.window s.limits.interval (log_of (machine_in s).logs) (key_by q) (asker_by q.pin) (arc_value q.asked).query.tree cells
+  pub evaluated : AreEvaluated (rules_of s.limits) s.limits.interval (log_of (machine_in s).logs) (key_by q) (asker_by q.pin) (arc_value q.asked).query.tree cells
 
-evaluated_one : (l : Limits) (logs : List (List Change)) (o : Open) (q : Query) → IsQuery l.window q o
-    → take (length o.log) (log_of logs o.tenant) ≡ o.log → IsAsker l.window (log_of logs o.tenant) (asker_of l.window o)
+evaluated_one : (l : Limits) (logs : List (List Change)) (o : Open) (q : Query) → IsQuery (rules_of l) q o
+    → take (length o.log) (log_of logs o.tenant) ≡ o.log → IsAsker (rules_of l) (log_of logs o.tenant) (asker_of (rules_of l) o)
     → (d : DoneCells) → AreCellsOf l o d
-    → IsEvaluated l.window l.interval (log_of logs q.tenant) (key_of (key_by q) l.interval d) (asker_by q.pin) (arc_value q.asked).query.tree d.run d.cells
+    → IsEvaluated (rules_of l) l.interval (log_of logs q.tenant) (key_of (key_by q) l.interval d) (asker_by q.pin) (arc_value q.asked).query.tree d.run d.cells
 evaluated_one l logs o q is front asks d c =
-    subst (λ u. IsEvaluated l.window l.interval (log_of logs u) (key_of (key_by q) l.interval d) (asker_by q.pin) (arc_value q.asked).query.tree d.run d.cells) is.tenant
-    (subst (λ (a : Asked). IsEvaluated l.window l.interval (log_of logs o.tenant) (key_of (key_by q) l.interval d) (asker_by q.pin) a.query.tree d.run d.cells) is.asked
-    (subst (λ (a : Asker). IsEvaluated l.window l.interval (log_of logs o.tenant) (key_of (key_by q) l.interval d) a o.asked.query.tree d.run d.cells)
-    (sym (asker_same l.window q o is)) (record {
+    subst (λ u. IsEvaluated (rules_of l) l.interval (log_of logs u) (key_of (key_by q) l.interval d) (asker_by q.pin) (arc_value q.asked).query.tree d.run d.cells) is.tenant
+    (subst (λ (a : Asked). IsEvaluated (rules_of l) l.interval (log_of logs o.tenant) (key_of (key_by q) l.interval d) (asker_by q.pin) a.query.tree d.run d.cells) is.asked
+    (subst (λ (a : Asker). IsEvaluated (rules_of l) l.interval (log_of logs o.tenant) (key_of (key_by q) l.interval d) a o.asked.query.tree d.run d.cells)
+    (sym (asker_same (rules_of l) q o is)) (record {
       asker_is = asks;
-      values = λ k inside. subst (λ (log : List Change). eval (store_of l.window log).samples o.asked.query.tree (pos (d.run.start + k * d.run.step)) ≡ Good (slice_index_or d.cells k []))
+      values = λ k inside. subst (λ (log : List Change). eval (store_of (rules_of l) log).samples o.asked.query.tree (pos (d.run.start + k * d.run.step)) ≡ Good (slice_index_or d.cells k []))
           (sym front) (c.values k inside);
       place = c.place;
     })))
@@ -129,7 +128,7 @@ asks_of s query q cells h kept k =
       ranged = ap (λ (a : Asked). a.instant) (sym is.asked) ∙ k.ranged;
       each = done_at s.limits o q is cells k.each;
       evaluated = each_map (AreCellsOf s.limits o) _
-          (evaluated_one s.limits (machine_in s).logs o q is (front_taken (machine_in s).logs o front) (asker_stands s.limits.window (machine_in s).logs o front)) cells k.each;
+          (evaluated_one s.limits (machine_in s).logs o q is (front_taken (machine_in s).logs o front) (asker_stands (rules_of s.limits) (machine_in s).logs o front)) cells k.each;
     }
 
 -- what is kept by the code is what is kept of the open query
@@ -138,37 +137,37 @@ pub kept_same : (s : State) (query : ℕ) (q : Query) (o : Open) (cells : List D
     → kept_over (key_by q) (arc_value q.asked).query.tree (asker_by q.pin) s.limits.interval cells s.results ≡ kept_by s.limits o cells s.results
 kept_same s query q o cells h kept there =
     let is = query_of s query q o h kept there in
-    λ i. kept_over (key_is s.limits.window q o is i) (sym is.asked i).query.tree (asker_same s.limits.window q o is i) s.limits.interval cells s.results
+    λ i. kept_over (key_is (rules_of s.limits) q o is i) (sym is.asked i).query.tree (asker_same (rules_of s.limits) q o is i) s.limits.interval cells s.results
 
 pub fixed_same : (s : State) (query : ℕ) (q : Query) (o : Open) (cells : List DoneCells) → IsState s → kept_in s query ≡ Some q
     → open_at query (machine_in s).queries ≡ Some o
     → fixed_over (arc_value q.asked).query.tree (asker_by q.pin) cells ≡ fixed_by s.limits o cells
 fixed_same s query q o cells h kept there =
     let is = query_of s query q o h kept there in
-    λ i. fixed_over (sym is.asked i).query.tree (asker_same s.limits.window q o is i) cells
+    λ i. fixed_over (sym is.asked i).query.tree (asker_same (rules_of s.limits) q o is i) cells
 
 -- what the code keeps stays true, by the query that is kept
 pub stays_by : (interval : ℕ) (q : Query) (a : Asked) (first : Key) (asker : Asker) (tree : Tree) (cells : List DoneCells) (old new : KeptData)
     → a ≡ arc_value q.asked → tree ≡ a.query.tree → first ≡ key_by q → asker ≡ asker_by q.pin → HasText a.query.tree → canonical a.query.tree ≡ a.text
-    → ((window : ℕ) (logs : Logs) → AreTrue window interval logs old.entries → HasText tree → canonical tree ≡ first.text
-    → AreEvaluated window interval logs first asker tree cells → AreTrue window interval logs new.entries)
-    → (window : ℕ) (logs : Logs) → AreTrue window interval logs old.entries
-    → AreEvaluated window interval logs (key_by q) (asker_by q.pin) (arc_value q.asked).query.tree cells → AreTrue window interval logs new.entries
-stays_by interval q a first asker tree cells old new ea et ef ek written text stays window logs h e =
+    → ((rules : Rules) (logs : Logs) → AreTrue rules interval logs old.entries → HasText tree → canonical tree ≡ first.text
+    → AreEvaluated rules interval logs first asker tree cells → AreTrue rules interval logs new.entries)
+    → (rules : Rules) (logs : Logs) → AreTrue rules interval logs old.entries
+    → AreEvaluated rules interval logs (key_by q) (asker_by q.pin) (arc_value q.asked).query.tree cells → AreTrue rules interval logs new.entries
+stays_by interval q a first asker tree cells old new ea et ef ek written text stays rules logs h e =
     let tree_is : tree ≡ (arc_value q.asked).query.tree = et ∙ ap (λ (x : Asked). x.query.tree) ea in
-    stays window logs h (subst HasText (sym et) written) (ap canonical et ∙ text ∙ ap (λ (x : Asked). x.text) ea ∙ sym (ap (λ (k : Key). k.text) ef))
-    (subst (λ (t : Tree). AreEvaluated window interval logs first asker t cells) (sym tree_is)
-    (subst (λ (x : Asker). AreEvaluated window interval logs first x (arc_value q.asked).query.tree cells) (sym ek)
-    (subst (λ (k : Key). AreEvaluated window interval logs k (asker_by q.pin) (arc_value q.asked).query.tree cells) (sym ef) e)))
+    stays rules logs h (subst HasText (sym et) written) (ap canonical et ∙ text ∙ ap (λ (x : Asked). x.text) ea ∙ sym (ap (λ (k : Key). k.text) ef))
+    (subst (λ (t : Tree). AreEvaluated rules interval logs first asker t cells) (sym tree_is)
+    (subst (λ (x : Asker). AreEvaluated rules interval logs first x (arc_value q.asked).query.tree cells) (sym ek)
+    (subst (λ (k : Key). AreEvaluated rules interval logs k (asker_by q.pin) (arc_value q.asked).query.tree cells) (sym ef) e)))
 
 pub fixed_state : (old new : State) (query : ℕ) (q : Query) (cells : List DoneCells) → IsState old → kept_in old query ≡ Some q → IsKeepable (core_of old) query cells
     → IsSameButCache old new
-    → ((window : ℕ) (logs : Logs) → AreTrue window old.limits.interval logs old.results.entries
-    → AreEvaluated window old.limits.interval logs (key_by q) (asker_by q.pin) (arc_value q.asked).query.tree cells
-    → AreTrue window old.limits.interval logs new.results.entries)
+    → ((rules : Rules) (logs : Logs) → AreTrue rules old.limits.interval logs old.results.entries
+    → AreEvaluated rules old.limits.interval logs (key_by q) (asker_by q.pin) (arc_value q.asked).query.tree cells
+    → AreTrue rules old.limits.interval logs new.results.entries)
     → IsState new
 fixed_state old new query q cells h kept k same stays =
-    state_cached old new h same (stays old.limits.window (log_of (machine_in old).logs) h.stands.kept (asks_of old query q cells h kept k).evaluated)
+    state_cached old new h same (stays (rules_of old.limits) (log_of (machine_in old).logs) h.stands.kept (asks_of old query q cells h kept k).evaluated)
 
 -- ---- the query is offered
 

@@ -8,6 +8,7 @@ use Rattle.pf_base.specs.declared.plain.Limits.{Limits}
 use Rattle.pf_journal.specs.Asking.{Asked}
 use Rattle.pf_journal.specs.Machine.{AnswersOpen, CancelsOpen, Machine, Open, What, answer, ask, cancel, cancelled_at, closed, log_of, next, open_at, open_of, room_kept}
 use Rattle.pf_model.specs.Lists.{Each}
+use Rattle.pf_model.specs.Log.{rules_of}
 use Rattle.pf_store.specs.Standing.{IsPin, LogData, PinData}
 use Rattle.pf_core.specs.Cores.{AsksAt, Enters, IsOpened, IsOthers, IsOwned}
 use Rattle.pf_core.specs.Entries.{what_of}
@@ -19,6 +20,7 @@ use Rattle.pf_core.specs.declared.state.State.{State}
 use Rattle.pf_core.specs.declared.tenants.Seat.{Seat}
 use Rattle.pf_core.proofs.Keeping.{are_open_answered, are_open_asked, are_open_cancelled, counts_answered, counts_asked}
 use Rattle.pf_core.proofs.KeptQueries.{keeps_answered, keeps_cancelled, keeps_opened}
+use Rattle.pf_core.proofs.Limited.{open_room, some_room}
 use Rattle.pf_core.proofs.Lists.{get_set_other, get_set_same}
 use Rattle.pf_core.proofs.Machines.{bool_cases, open_at_pushed, open_cancelled, open_closed, open_each, reserved_cancelled, reserved_closed, reserved_pushed, reserved_some}
 use Rattle.pf_core.proofs.Seated.{count_there, names_of, placed, settled_count, settled_counts, settled_logs, settled_many, settled_names, settled_tenants, stored}
@@ -60,13 +62,9 @@ some_open s query n o h t found e =
     let more : open_of o.tenant (machine_in s).queries ≡ open_of o.tenant (closed query (machine_in s).queries) + cond true 1 0 = rw same at one in
     omega (arith, count, more)
 
-some_room : (place : Option ℕ) → 1 ≤ room_kept place
-some_room None = omega arith
-some_room (Some p) = omega arith
-
 -- an ask of a tenant that may have one query more
 pub asked : (old new : State) (by : By) (name : List ℕ) (seat : Seat) (n place : ℕ) (wanted : Asked) (o : Opening) (pin : PinData)
-    → HasHistory old → IsSeat old.tenants old.limits.window name seat
+    → HasHistory old → IsSeat old.tenants (rules_of old.limits) name seat
     → n ≡ count_at old.tenants.counts seat.number → n < old.limits.outstanding
     → IsOpening seat wanted o → IsOpenedFor old by seat n o.query (what_of o.what) new
     → place ≡ length old.journal.items → pin ≡ o.pin
@@ -76,7 +74,7 @@ pub asked : (old new : State) (by : By) (name : List ℕ) (seat : Seat) (n place
 asked old new by name seat n place wanted o pin h p counted_so below opening e at_end same_pin room =
     let m = machine_in old in
     let u = seat.number in
-    let w = old.limits.window in
+    let w = rules_of old.limits in
     let here = placed old name seat h p in
     let log = log_of m.logs u in
     let what = ask u wanted o.pin.number o.pin.generation o.pin.floor in
@@ -86,14 +84,15 @@ asked old new by name seat n place wanted o pin h p counted_so below opening e a
     let c = counted old in
     let many = h.stands.names.many in
     let near = here.number.next in
-    let kept_pin = subst (λ k. IsPin o.query.pin k log) here.window (opening.kept log here.is) in
-    let told_pin = subst (λ k. IsPin o.pin k log) here.window (opening.pinned log here.is) in
-    let counts = settled_counts old.tenants u seat.log seat.newcomer m old.limits.outstanding p.tenants many h.keeps.keeps_counts h.keeps.within h.keeps.are_open.known in
+    let kept_pin = opening.kept w log here.is in
+    let told_pin = opening.pinned w log here.is in
+    let counts = settled_counts old.tenants u seat.log seat.newcomer m old.limits.journal p.tenants many h.keeps.keeps_counts h.keeps.within h.keeps.are_open.known in
     let there : slice_get front.counts u ≡ Some n =
     settled_count old.tenants u seat.log seat.newcomer p.tenants p.free ∙ ap (λ (k : ℕ). Some k) (sym counted_so) in
     let inside : u < length front.counts = slice_get_within front.counts u n there in
     let so_many = counts.0 u n there in
     let kept_room = h.keeps.keeps_room in
+    let open_fits = open_room u m.queries in
     let more_room = reserved_pushed m.queries opened in
     let fits : length old.journal.items + old.reserved + 3 ≤ old.limits.journal = grind (arith, nat_tests, room) in
     let queries : KeepsQueries w (with_query (kept_in old) (length old.journal.items) o.query) (m.queries ++ opened ∷ []) =
@@ -102,9 +101,9 @@ asked old new by name seat n place wanted o pin h p counted_so below opening e a
     (record { tenant = sym opening.tenant; asked = sym opening.asked; pinned = kept_pin; cancelled = sym opening.uncancelled })
     c in
     let keeps : Keeps old.limits t (with_query (kept_in old) (length old.journal.items) o.query) (old.reserved + 2) (next m what) = record {
-      keeps_logs = settled_logs w old.tenants u seat.log seat.newcomer m.logs log p.tenants p.free many h.keeps.keeps_logs here.window here.is;
+      keeps_logs = settled_logs w old.tenants u seat.log seat.newcomer m.logs log p.tenants p.free many h.keeps.keeps_logs here.is;
       keeps_counts = counts_asked front.counts m.queries opened n counts.0 there inside;
-      within = within_set old.limits.outstanding u (n + 1) front.counts counts.1 inside (omega (arith, below));
+      within = within_set old.limits.journal u (n + 1) front.counts counts.1 inside (omega (arith, so_many, open_fits, kept_room, fits));
       keeps_queries = queries;
       keeps_room = omega (arith, kept_room, more_room);
       are_open = are_open_asked m opened log near refl h.keeps.are_open;
@@ -135,7 +134,7 @@ asked old new by name seat n place wanted o pin h p counted_so below opening e a
               (open_at_pushed m.queries m.count opened h.keeps.are_open.below refl));
           owner = refl;
           asked = refl;
-          pinned = subst (λ (l : Limits). IsPin o.pin l.window log) (sym s.limits) told_pin;
+          pinned = subst (λ (l : Limits). IsPin o.pin (rules_of l) log) (sym s.limits) told_pin;
           uncancelled = refl;
         }),
       ),
@@ -151,9 +150,9 @@ cancelled old new by query o h found whole s =
     let kept_room = h.keeps.keeps_room in
     let fits = h.fits in
     let less = reserved_cancelled m.count query m.queries o found whole in
-    let queries : KeepsQueries old.limits.window (with_cancel (kept_in old) query (length old.journal.items)) (cancelled_at m.count query m.queries) =
-    subst (λ k. KeepsQueries old.limits.window (with_cancel (kept_in old) query k) (cancelled_at m.count query m.queries)) c
-    (keeps_cancelled old.limits.window query m.count (kept_in old) m.queries o h.keeps.keeps_queries found) in
+    let queries : KeepsQueries (rules_of old.limits) (with_cancel (kept_in old) query (length old.journal.items)) (cancelled_at m.count query m.queries) =
+    subst (λ k. KeepsQueries (rules_of old.limits) (with_cancel (kept_in old) query k) (cancelled_at m.count query m.queries)) c
+    (keeps_cancelled (rules_of old.limits) query m.count (kept_in old) m.queries o h.keeps.keeps_queries found) in
     stepped old new by (cancel query) old.tenants _ _ [] h s (sym (append-nil old.tenants.names)) h.stands.names.many h.stands.names.different
     (subst CancelsOpen (sym found) whole)
     (record {
@@ -188,8 +187,8 @@ answered old new by query code cached evaluated n o h t found counted_so right s
     (record {
       keeps_logs = h.keeps.keeps_logs;
       keeps_counts = counts_answered old.tenants.counts m.queries query n o h.keeps.keeps_counts h.keeps.are_open.apart found there inside;
-      within = within_set old.limits.outstanding o.tenant (n - 1) old.tenants.counts h.keeps.within inside (omega (arith, few));
-      keeps_queries = keeps_answered old.limits.window query (kept_in old) m.queries h.keeps.keeps_queries;
+      within = within_set old.limits.journal o.tenant (n - 1) old.tenants.counts h.keeps.within inside (omega (arith, few));
+      keeps_queries = keeps_answered (rules_of old.limits) query (kept_in old) m.queries h.keeps.keeps_queries;
       keeps_room = omega (arith, kept_room, less);
       are_open = are_open_answered m query h.keeps.are_open;
     })

@@ -4,6 +4,7 @@ use Rattle.std.specs.Prelude.{IfErr, IfOk, IsSome, ◌||◌}
 use Rattle.pf_block.specs.Snaps.{SnapData}
 use Rattle.pf_extent.specs.Done.{steps_in}
 use Rattle.pf_journal.specs.Machine.{Open, log_of, open_at}
+use Rattle.pf_model.specs.Log.{Rules, rules_of}
 use Rattle.pf_query.specs.Jobs.{is_empty}
 use Rattle.pf_query.specs.Tables as table
 use Rattle.pf_query.specs.Tables.{IsSameTable, IsTable, entry_in}
@@ -33,12 +34,12 @@ use Rattle.pf_core.proofs.Standing.{core_cached, state_cached}
 
 -- the query that is kept is the open one
 pub query_of : (s : State) (query : ℕ) (q : Query) (o : Open) → IsState s → kept_in s query ≡ Some q → open_at query (machine_in s).queries ≡ Some o
-    → IsQuery s.limits.window q o
+    → IsQuery (rules_of s.limits) q o
 query_of s query q o h kept there =
-    let found = kept_is s.limits.window (kept_in s query) (open_at query (machine_in s).queries) q (h.history.keeps.keeps_queries query) kept in
+    let found = kept_is (rules_of s.limits) (kept_in s query) (open_at query (machine_in s).queries) q (h.history.keeps.keeps_queries query) kept in
     let both : Some found.opened ≡ Some o = sym found.there ∙ there in
     let same : found.opened ≡ o = cc in
-    subst (IsQuery s.limits.window q) same found.is
+    subst (IsQuery (rules_of s.limits) q) same found.is
 
 pub divided_for : (s : State) (query : ℕ) (q : Query) (d : Division) (instant : Bool) → IsState s → kept_in s query ≡ Some q
     → Divides s.results s.limits.interval q d → instant ≡ is_none d.key
@@ -120,9 +121,9 @@ unplans old new query (Err e) h k f err = unplanned old new query e h k f err.0 
 -- ---- its keys are used
 
 pub uses_state : (old new : State) → IsState old → IsSameButCache old new
-    → ((window : ℕ) (logs : Logs) → AreTrue window old.limits.interval logs old.results.entries → AreTrue window old.limits.interval logs new.results.entries)
+    → ((rules : Rules) (logs : Logs) → AreTrue rules old.limits.interval logs old.results.entries → AreTrue rules old.limits.interval logs new.results.entries)
     → IsState new
-uses_state old new h same kept = state_cached old new h same (kept old.limits.window (log_of (machine_in old).logs) h.stands.kept)
+uses_state old new h same kept = state_cached old new h same (kept (rules_of old.limits) (log_of (machine_in old).logs) h.stands.kept)
 
 -- the whole plan
 pub planned_whole : (old mid new : State) (query : ℕ) (told : Planned) (q : Query) (d : Division) → IsState old → kept_in old query ≡ Some q

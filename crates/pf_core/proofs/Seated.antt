@@ -4,7 +4,7 @@ use Rattle.std.specs.Prelude.{unwrap_or}
 use Rattle.std.proofs.lemmas.List.{length_push}
 use Rattle.pf_journal.specs.Machine.{IsNoTenant, IsTenant, Machine, log_of, with_log}
 use Rattle.pf_model.specs.Lists.{Each}
-use Rattle.pf_model.specs.Log.{Change}
+use Rattle.pf_model.specs.Log.{Change, Rules, rules_of}
 use Rattle.pf_store.specs.Standing.{IsLog, LogData}
 use Rattle.pf_core.specs.Seats.{AreTenants, IsFree, IsSeat, IsSeated, IsStranger, TenantsData, count_at, settled}
 use Rattle.pf_core.specs.States.{AreWithin, HasHistory, KeepsCounts, KeepsLogs, machine_in}
@@ -96,16 +96,16 @@ settled_many t u log (Some name) logs after f many =
     let long_names = length_push t.names name in
     omega (arith, is, many, long, long_names)
 
-pub settled_logs : (w : ℕ) (t : TenantsData) (u : ℕ) (log : LogData) (newcomer : Option (List ℕ)) (logs : List (List Change)) (after : List Change)
+pub settled_logs : (rules : Rules) (t : TenantsData) (u : ℕ) (log : LogData) (newcomer : Option (List ℕ)) (logs : List (List Change)) (after : List Change)
     → AreTenants t → IsFree t u newcomer → length t.names ≡ length logs
-    → KeepsLogs w t.logs logs → log.window ≡ w → IsLog log after → KeepsLogs w (settled t u log newcomer).logs (with_log logs u after)
-settled_logs w t u log None logs after h f many keeps window is =
+    → KeepsLogs rules t.logs logs → IsLog rules log after → KeepsLogs rules (settled t u log newcomer).logs (with_log logs u after)
+settled_logs rules t u log None logs after h f many keeps is =
     let logs_many = h.many_logs in
-    logs_set w t.logs logs u log after keeps (omega (arith, f, logs_many)) (omega (arith, f, many)) window is
-settled_logs w t u log (Some name) logs after h f many keeps window is =
+    logs_set rules t.logs logs u log after keeps (omega (arith, f, logs_many)) (omega (arith, f, many)) is
+settled_logs rules t u log (Some name) logs after h f many keeps is =
     let logs_many = h.many_logs in
     let at_end = f.0 in
-    logs_put w t.logs logs u log after keeps (omega (arith, at_end, logs_many)) (omega (arith, at_end, many)) window is
+    logs_put rules t.logs logs u log after keeps (omega (arith, at_end, logs_many)) (omega (arith, at_end, many)) is
 
 pub settled_counts : (t : TenantsData) (u : ℕ) (log : LogData) (newcomer : Option (List ℕ)) (m : Machine) (limit : ℕ)
     → AreTenants t → length t.names ≡ length m.logs → KeepsCounts t.counts m.queries → AreWithin limit t.counts
@@ -135,21 +135,18 @@ settled_count t u log (Some name) h f =
 -- the tenant that an entry is to name, as the machine has it
 pub record IsPlaced (s : State) (name : List ℕ) (seat : Seat) : Type 0 where
   pub number : IsTenant (machine_in s) seat.number
-  pub window : seat.log.window ≡ s.limits.window
-  pub is : IsLog seat.log (log_of (machine_in s).logs seat.number)
+  pub is : IsLog (rules_of s.limits) seat.log (log_of (machine_in s).logs seat.number)
   pub named : (log : LogData) → slice_get (settled s.tenants seat.number log seat.newcomer).names seat.number ≡ Some name
 
 placed_by : (s : State) (name : List ℕ) (seat : Seat) (newcomer : Option (List ℕ)) → seat.newcomer ≡ newcomer
     → HasHistory s → AreTenants s.tenants → IsFree s.tenants seat.number newcomer
-    → IsSeated s.tenants s.limits.window name seat.number seat.log newcomer → IsPlaced s name seat
+    → IsSeated s.tenants (rules_of s.limits) name seat.number seat.log newcomer → IsPlaced s name seat
 placed_by s name seat None e h t free seated =
     let many = h.stands.names.many in
     let few = t.few in
-    let kept = h.keeps.keeps_logs seat.number seat.log seated.1 in
     record {
       number = record { next = omega (arith, free, many); most = omega (arith, free, few) };
-      window = kept.0;
-      is = kept.1;
+      is = h.keeps.keeps_logs seat.number seat.log seated.1;
       named = λ log. subst (λ (o : Option (List ℕ)). slice_get (settled s.tenants seat.number log o).names seat.number ≡ Some name) (sym e) seated.0;
     }
 placed_by s name seat (Some new) e h t free seated =
@@ -159,14 +156,13 @@ placed_by s name seat (Some new) e h t free seated =
     let none : log_of (machine_in s).logs seat.number ≡ [] = log_of_past (machine_in s).logs seat.number (omega (arith, here, many)) in
     record {
       number = record { next = omega (arith, here, many); most = few };
-      window = seated.1.0;
-      is = subst (IsLog seat.log) (sym none) seated.1.1;
+      is = subst (IsLog (rules_of s.limits) seat.log) (sym none) seated.1;
       named = λ log. subst (λ (o : Option (List ℕ)). slice_get (settled s.tenants seat.number log o).names seat.number ≡ Some name) (sym e)
           (subst (λ k. slice_get (s.tenants.names ++ new ∷ []) k ≡ Some name) (sym here)
           (get_pushed s.tenants.names new ∙ ap (λ (n : List ℕ). Some n) seated.0));
     }
 
-pub placed : (s : State) (name : List ℕ) (seat : Seat) → HasHistory s → IsSeat s.tenants s.limits.window name seat → IsPlaced s name seat
+pub placed : (s : State) (name : List ℕ) (seat : Seat) → HasHistory s → IsSeat s.tenants (rules_of s.limits) name seat → IsPlaced s name seat
 placed s name seat h p = placed_by s name seat seat.newcomer refl h p.tenants p.free p.seated
 
 -- a stranger is one for the machine

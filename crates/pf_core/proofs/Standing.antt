@@ -12,7 +12,7 @@ use Rattle.pf_journal.specs.Machine.{Entry, Machine, Open, What, answer, answer_
 use Rattle.pf_journal.specs.Weave.{is_500}
 use Rattle.pf_model.specs.Direct.{Answer, gathered, failed}
 use Rattle.pf_model.specs.Lists.{Each}
-use Rattle.pf_model.specs.Log.{Change}
+use Rattle.pf_model.specs.Log.{Change, rules_of}
 use Rattle.pf_queue.specs.Rings.{waits, without}
 use Rattle.pf_query.specs.Jobs.{is_empty, is_other_hand, is_other_job}
 use Rattle.pf_query.specs.Tables as table
@@ -46,11 +46,11 @@ use Rattle.pf_query.proofs.Naming.{eq_apart as apart}
 
 -- it stays true after an entry
 truth_by : (l l' : Limits) (logs logs' : List (List Change)) (kept kept' : KeptData) → l' ≡ l → kept' ≡ kept
-    → (AreTrue l.window l.interval (log_of logs) kept.entries → AreTrue l.window l.interval (log_of logs') kept.entries)
-    → AreTrue l.window l.interval (log_of logs) kept.entries → AreTrue l'.window l'.interval (log_of logs') kept'.entries
+    → (AreTrue (rules_of l) l.interval (log_of logs) kept.entries → AreTrue (rules_of l) l.interval (log_of logs') kept.entries)
+    → AreTrue (rules_of l) l.interval (log_of logs) kept.entries → AreTrue (rules_of l') l'.interval (log_of logs') kept'.entries
 truth_by l l' logs logs' kept kept' el ek f h =
-    subst (λ (x : Limits). AreTrue x.window x.interval (log_of logs') kept'.entries) (sym el)
-    (subst (λ (x : KeptData). AreTrue l.window l.interval (log_of logs') x.entries) (sym ek) (f h))
+    subst (λ (x : Limits). AreTrue (rules_of x) x.interval (log_of logs') kept'.entries) (sym el)
+    (subst (λ (x : KeptData). AreTrue (rules_of l) l.interval (log_of logs') x.entries) (sym ek) (f h))
 
 logs_entered : (old new : CoreData) (by : By) (what : What) → Enters old by what new → (machine_of new).logs ≡ logs_after (machine_of old).logs what
 logs_entered old new by what e =
@@ -61,7 +61,7 @@ pub truth_grown : (old new : State) (by : By) (what : What) → StayTrue → Ent
     → KeepsTruth (core_of old) → KeepsTruth (core_of new)
 truth_grown old new by what law e same h =
     truth_by old.limits new.limits (machine_in old).logs (machine_in new).logs old.results new.results e.limits same
-    (λ h. law old.limits.window old.limits.interval (log_of (machine_in old).logs) (log_of (machine_in new).logs) old.results.entries
+    (λ h. law (rules_of old.limits) old.limits.interval (log_of (machine_in old).logs) (log_of (machine_in new).logs) old.results.entries
     (subst (λ (ls : List (List Change)). HaveGrown (log_of (machine_in old).logs) (log_of ls)) (sym (logs_entered (core_of old) (core_of new) by what e))
     (logs_grown (machine_in old).logs what)) h) h
 
@@ -70,20 +70,20 @@ pub truth_kept : (old new : State) (by : By) (what : What) → Enters (core_of o
     → new.results ≡ old.results → KeepsTruth (core_of old) → KeepsTruth (core_of new)
 truth_kept old new by what e alike same h =
     truth_by old.limits new.limits (machine_in old).logs (machine_in new).logs old.results new.results e.limits same
-    (λ h. subst (λ (ls : List (List Change)). AreTrue old.limits.window old.limits.interval (log_of ls) old.results.entries)
+    (λ h. subst (λ (ls : List (List Change)). AreTrue (rules_of old.limits) old.limits.interval (log_of ls) old.results.entries)
     (sym (logs_entered (core_of old) (core_of new) by what e ∙ alike)) h) h
 
 -- after a call that leaves the journal
 pub truth_beside : (old new : State) → KeepsHistory old new
-    → AreTrue old.limits.window old.limits.interval (log_of (machine_in old).logs) new.results.entries → KeepsTruth (core_of new)
+    → AreTrue (rules_of old.limits) old.limits.interval (log_of (machine_in old).logs) new.results.entries → KeepsTruth (core_of new)
 truth_beside old new k h =
-    subst (λ (l : Limits). AreTrue l.window l.interval (log_of (machine_in new).logs) new.results.entries) (sym k.limits)
-    (subst (λ (ls : List (List Change)). AreTrue old.limits.window old.limits.interval (log_of ls) new.results.entries)
+    subst (λ (l : Limits). AreTrue (rules_of l) l.interval (log_of (machine_in new).logs) new.results.entries) (sym k.limits)
+    (subst (λ (ls : List (List Change)). AreTrue (rules_of old.limits) old.limits.interval (log_of ls) new.results.entries)
     (sym (ap (λ (v : _). (machine_after started (map entry_of v.items)).logs) k.journal)) h)
 
 truth_same : (old new : State) → KeepsHistory old new → new.results ≡ old.results → KeepsTruth (core_of old) → KeepsTruth (core_of new)
 truth_same old new k same h =
-    truth_beside old new k (subst (λ (x : KeptData). AreTrue old.limits.window old.limits.interval (log_of (machine_in old).logs) x.entries) (sym same) h)
+    truth_beside old new k (subst (λ (x : KeptData). AreTrue (rules_of old.limits) old.limits.interval (log_of (machine_in old).logs) x.entries) (sym same) h)
 
 -- what is counted of an open query's failed tries covers its jobs
 
@@ -277,7 +277,7 @@ core_cached old new e = λ i. record {
 }
 
 pub state_cached : (old new : State) → IsState old → IsSameButCache old new
-    → AreTrue old.limits.window old.limits.interval (log_of (machine_in old).logs) new.results.entries → IsState new
+    → AreTrue (rules_of old.limits) old.limits.interval (log_of (machine_in old).logs) new.results.entries → IsState new
 state_cached old new h e truth =
     state_with old new h e.history (truth_beside old new e.history truth) (subst IsTable (sym e.table) h.table)
     (record { actors = ap (λ (v : _). length v.items) e.failed ∙ h.counts.actors; summed = ap (λ (v : _). sum v.items) e.failed ∙ h.counts.summed ∙ sym e.total })

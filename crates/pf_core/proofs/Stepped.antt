@@ -6,6 +6,7 @@ use Rattle.pf_base.specs.declared.plain.By.{By}
 use Rattle.pf_base.specs.declared.plain.Limits.{Limits}
 use Rattle.pf_journal.specs.Legal.{AreNames, Legal, machine_after}
 use Rattle.pf_journal.specs.Machine.{Allowed, Entry, Machine, What, next, open_at, started}
+use Rattle.pf_model.specs.Log.{rules_of}
 use Rattle.pf_query.specs.declared.job.Job.{Job}
 use Rattle.pf_core.specs.Cores.{AreLimits, Enters, HasRoomFor, IsFull}
 use Rattle.pf_core.specs.Entries.{entry_of}
@@ -66,7 +67,7 @@ keeps_alike l t kept other room m e h = record {
   keeps_logs = h.keeps_logs;
   keeps_counts = h.keeps_counts;
   within = h.within;
-  keeps_queries = λ place. subst (λ (k : Option Query). IsKept l.window k (open_at place m.queries)) (sym (e place)) (h.keeps_queries place);
+  keeps_queries = λ place. subst (λ (k : Option Query). IsKept (rules_of l) k (open_at place m.queries)) (sym (e place)) (h.keeps_queries place);
   keeps_room = h.keeps_room;
   are_open = h.are_open;
 }

@@ -10,7 +10,7 @@ use Rattle.pf_extent.specs.declared.extent.Asker.{Asker}
 use Rattle.pf_extent.specs.declared.key.Key.{Key}
 use Rattle.pf_journal.specs.Machine.{Open}
 use Rattle.pf_model.specs.Direct.{Step}
-use Rattle.pf_model.specs.Log.{floor_of, store_of}
+use Rattle.pf_model.specs.Log.{Rules, floor_of, rules_of, store_of}
 use Rattle.pf_query.specs.Jobs.{is_empty}
 use Rattle.pf_results.specs.Pieces.{fixed_over, kept_over, missing_over, served_over, touched_over}
 use Rattle.pf_core.specs.Jobs.{pieces_in}
@@ -20,8 +20,8 @@ abbrev pub KeptData : Type 0
 KeptData = LruCache Key Extents
 
 -- an open query, over its tenant's log at the ask
-abbrev pub asker_of : (window : ℕ) → Open → Asker
-asker_of window o = record { pin = length o.log; floor = floor_of window o.log; generation = (store_of window o.log).generation }
+abbrev pub asker_of : (rules : Rules) → Open → Asker
+asker_of rules o = record { pin = length o.log; floor = floor_of rules o.log; generation = (store_of rules o.log).generation }
 
 -- the key of its steps in an interval
 abbrev pub key_in : Open → (interval : ℕ) → Key
@@ -30,12 +30,12 @@ key_in o interval = record { tenant = o.tenant; text = o.asked.text; step = o.as
 -- its steps that are cached, with their cells; an instant query has none
 abbrev pub cached_steps : Limits → KeptData → Open → List Step
 cached_steps l kept o =
-    cond o.asked.instant [] (served_over kept (key_in o 0) o.asked.query.tree (asker_of l.window o) (pieces_in l o))
+    cond o.asked.instant [] (served_over kept (key_in o 0) o.asked.query.tree (asker_of (rules_of l) o) (pieces_in l o))
 
 -- the longest runs of the others in each interval
 abbrev pub wanted_runs : Limits → KeptData → Open → List GridData
 wanted_runs l kept o =
-    cond o.asked.instant (o.asked.query.grid ∷ []) (missing_over kept (key_in o 0) o.asked.query.tree (asker_of l.window o) (pieces_in l o))
+    cond o.asked.instant (o.asked.query.grid ∷ []) (missing_over kept (key_in o 0) o.asked.query.tree (asker_of (rules_of l) o) (pieces_in l o))
 
 -- whether it is offered by its plan: there is nothing to keep
 abbrev pub is_offered_at_once : Limits → KeptData → Open → Bool
@@ -47,7 +47,7 @@ used_by l kept o = cond o.asked.instant kept (touched_over (key_in o 0) (pieces_
 
 -- what is kept once its fixed steps of evaluated cells are, and how many these are
 abbrev pub kept_by : Limits → Open → List DoneCells → KeptData → KeptData
-kept_by l o cells kept = kept_over (key_in o 0) o.asked.query.tree (asker_of l.window o) l.interval cells kept
+kept_by l o cells kept = kept_over (key_in o 0) o.asked.query.tree (asker_of (rules_of l) o) l.interval cells kept
 
 abbrev pub fixed_by : Limits → Open → List DoneCells → ℕ
-fixed_by l o cells = fixed_over o.asked.query.tree (asker_of l.window o) cells
+fixed_by l o cells = fixed_over o.asked.query.tree (asker_of (rules_of l) o) cells

@@ -12,7 +12,7 @@ use Rattle.pf_extent.specs.declared.done.DoneCells.{DoneCells}
 use Rattle.pf_journal.specs.Machine.{Open, answer_of, code_of, log_of, open_at}
 use Rattle.pf_model.specs.Evaluation.{eval}
 use Rattle.pf_model.specs.Lists.{Each}
-use Rattle.pf_model.specs.Log.{store_of}
+use Rattle.pf_model.specs.Log.{rules_of, store_of}
 use Rattle.pf_model.specs.declared.cell.StepCell.TheVariants.{Good}
 use Rattle.pf_query.specs.Covers.{covers}
 use Rattle.pf_query.specs.Jobs.{has_hand, hand_of, is_empty, tried, without_hand}
@@ -57,7 +57,7 @@ StandsForAsk c h = IsForAsk c.journal c.limits h.head (arc_value h.legs) h.run (
 pub record IsPartOf (c : CoreData) (h : Held) (part : Part) : Type 0 where
   pub fits : FitsNodes (arc_value h.legs).nodes part
   pub value : (at : Open) → opened_at c.journal h.head.query ≡ Some at
-      → IsValueOver (store_of c.limits.window at.log).samples (legs_data (arc_value h.legs)) h.head.leg h.run part
+      → IsValueOver (store_of (rules_of c.limits) at.log).samples (legs_data (arc_value h.legs)) h.head.leg h.run part
 
 -- ---- what calls leave
 
@@ -288,7 +288,7 @@ pub record AreCellsOf (l : Limits) (o : Open) (d : DoneCells) : Type 0 where
   pub whole : length d.cells ≡ d.run.len
   pub place : (k : ℕ) → k < d.run.len → (d.run.start + k * d.run.step) / l.interval ≡ d.run.start / l.interval
   pub values : (k : ℕ) → k < d.run.len
-      → eval (store_of l.window o.log).samples o.asked.query.tree (pos (d.run.start + k * d.run.step)) ≡ Good (slice_index_or d.cells k [])
+      → eval (store_of (rules_of l) o.log).samples o.asked.query.tree (pos (d.run.start + k * d.run.step)) ≡ Good (slice_index_or d.cells k [])
 
 -- cells that may be kept of an open range query
 pub record IsKeepable (c : CoreData) (query : ℕ) (cells : List DoneCells) : Type 0 where
@@ -300,15 +300,15 @@ pub record IsKeepable (c : CoreData) (query : ℕ) (cells : List DoneCells) : Ty
 
 -- how often a tenant's samples were deleted
 abbrev pub generation_of : CoreData → (tenant : ℕ) → ℕ
-generation_of c u = (store_of c.limits.window (log_of (machine_of c).logs u)).generation
+generation_of c u = (store_of (rules_of c.limits) (log_of (machine_of c).logs u)).generation
 
 -- what is kept then: nothing more where samples were deleted since the ask; the fixed steps of the cells; or those of the first
 -- cells, where memory ran out
 abbrev pub KeepsCells : CoreData → Open → List DoneCells → Kept → KeptData → Type 0
 KeepsCells c o cells (Outdated generation) kept =
-    (generation ≡ generation_of c o.tenant) × ((generation ≡ (asker_of c.limits.window o).generation → ⊥) × (kept ≡ c.kept))
+    (generation ≡ generation_of c o.tenant) × ((generation ≡ (asker_of (rules_of c.limits) o).generation → ⊥) × (kept ≡ c.kept))
 KeepsCells c o cells (Steps count) kept =
-    (generation_of c o.tenant ≡ (asker_of c.limits.window o).generation)
+    (generation_of c o.tenant ≡ (asker_of (rules_of c.limits) o).generation)
     × ((count ≡ fixed_by c.limits o cells) × (kept ≡ kept_by c.limits o cells c.kept))
 KeepsCells c o cells NoMemory kept = (count : ℕ) × (kept ≡ kept_by c.limits o (take count cells) c.kept)
 

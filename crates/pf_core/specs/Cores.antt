@@ -12,6 +12,7 @@ use Rattle.pf_journal.specs.Legal.{AreNames, Legal, machine_after}
 use Rattle.lru.specs.LruCache.{LruCache, lru_cache}
 use Rattle.pf_extent.specs.Steps.{Extents}
 use Rattle.pf_extent.specs.declared.key.Key.{Key}
+use Rattle.pf_model.specs.Log.{rules_of}
 use Rattle.pf_results.specs.Truth.{AreTrue}
 use Rattle.pf_journal.specs.Machine.{Entry, Machine, Open, What, append, ask, cancel, delete, full, no_tenant, log_of, most_tenants, open_at, reserved, started}
 use Rattle.pf_model.specs.declared.expr.Matcher.{Matcher}
@@ -116,7 +117,7 @@ AreCovered c = (sum c.failed ≡ 18446744073709551615) ⊎ (5 * failed_answers c
 -- each extent that is kept is what its query is over the samples after the first changes of its tenant's log, and frozen there
 -- (pf_results: Truth), in the interval of its key
 abbrev pub KeepsTruth : CoreData → Type 0
-KeepsTruth c = AreTrue c.limits.window c.limits.interval (log_of (machine_of c).logs) c.kept.entries
+KeepsTruth c = AreTrue (rules_of c.limits) c.limits.interval (log_of (machine_of c).logs) c.kept.entries
 
 -- what every core keeps: its journal is legal, its names are those of the known tenants, all different, the tenants are served in
 -- turn, there are 32 actors, their failed tries cover what is told of them, and what is kept of evaluated steps is true
@@ -177,7 +178,7 @@ pub record AsksAt (old : CoreData) (by : By) (tenant : List ℕ) (wanted : Asked
   pub is_open : open_at place (machine_of new).queries ≡ Some opened
   pub owner : opened.tenant ≡ entered.number
   pub asked : opened.asked ≡ wanted
-  pub pinned : IsPin pin new.limits.window opened.log
+  pub pinned : IsPin pin (rules_of new.limits) opened.log
   pub uncancelled : opened.cancelled ≡ None
 
 abbrev pub IsAsked : CoreData → By → List ℕ → Asked → Admitted → CoreData → Type 0
@@ -197,7 +198,7 @@ pub record IsOpened (c : CoreData) (query : ℕ) (o : Opened) : Type 0 where
   pub is_open : open_at query (machine_of c).queries ≡ Some opened
   pub tenant : opened.tenant ≡ o.tenant
   pub asked : opened.asked ≡ arc_value o.asked.now
-  pub pinned : IsPin o.pin.now c.limits.window opened.log
+  pub pinned : IsPin o.pin.now (rules_of c.limits) opened.log
   pub cancelled : opened.cancelled ≡ o.cancelled
   pub far : QueryProgress
   pub is_far : progress_at query c.progress ≡ Some far

@@ -11,6 +11,7 @@ use Rattle.pf_extent.specs.declared.key.Key.{Key}
 use Rattle.pf_extent.specs.declared.done.DoneCells.{DoneCells}
 use Rattle.pf_journal.specs.Machine.{Open, open_at}
 use Rattle.pf_model.specs.Lists.{Each}
+use Rattle.pf_model.specs.Log.{Rules, rules_of}
 use Rattle.pf_query.specs.declared.answers.Planned.{Planned}
 use Rattle.pf_results.specs.Pieces.{AreOfOneQuery, missing_over, served_over, touched_over}
 use Rattle.pf_results.specs.Runs.{lengths}
@@ -55,8 +56,8 @@ pub record IsFoundBy (kept : KeptData) (interval : ℕ) (q : Query) (found : Fou
   pub cached : steps_of found.cached.items ≡ served_over kept (key_by q) (arc_value q.asked).query.tree (asker_by q.pin) (pieces_by interval (arc_value q.asked).query.grid)
   pub runs : found.runs.items ≡ missing_over kept (key_by q) (arc_value q.asked).query.tree (asker_by q.pin) (pieces_by interval (arc_value q.asked).query.grid)
   pub all : steps_in found.cached.items + lengths found.runs.items ≡ (arc_value q.asked).query.grid.len
-  pub values : (window : ℕ) (logs : Logs) → AreTrue window interval logs kept.entries → IsAsker window (logs q.tenant) (asker_by q.pin)
-      → Each (IsValue window (logs q.tenant) (asker_by q.pin) (arc_value q.asked).query.tree) (steps_of found.cached.items)
+  pub values : (rules : Rules) (logs : Logs) → AreTrue rules interval logs kept.entries → IsAsker rules (logs q.tenant) (asker_by q.pin)
+      → Each (IsValue rules (logs q.tenant) (asker_by q.pin) (arc_value q.asked).query.tree) (steps_of found.cached.items)
 
 abbrev pub IsDividedBy : KeptData → (interval : ℕ) → Query → Found → Option Key → Type 0
 IsDividedBy kept interval q found None = ((arc_value q.asked).instant ≡ true) × (found.cached.items ≡ []) × (found.runs.items ≡ (arc_value q.asked).query.grid ∷ [])
@@ -102,9 +103,9 @@ pub record IsPlannedFirst (old : CoreData) (query : ℕ) (told : Planned) (new :
 
 -- the generation of an open query's tenant, where that is another one than at the ask
 abbrev pub IsNewer : CoreData → Open → Option ℕ → Type 0
-IsNewer c o None = generation_of c o.tenant ≡ (asker_of c.limits.window o).generation
+IsNewer c o None = generation_of c o.tenant ≡ (asker_of (rules_of c.limits) o).generation
 IsNewer c o (Some generation) =
-    (generation ≡ generation_of c o.tenant) × (generation ≡ (asker_of c.limits.window o).generation → ⊥)
+    (generation ≡ generation_of c o.tenant) × (generation ≡ (asker_of (rules_of c.limits) o).generation → ⊥)
 
 -- an open query is offered where cells have the steps of its jobs' runs, and nothing else is changed
 pub record IsOfferedIf (old : CoreData) (query : ℕ) (cells : List DoneCells) (new : CoreData) : Type 0 where

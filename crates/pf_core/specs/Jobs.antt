@@ -11,7 +11,7 @@ use Rattle.pf_core.specs.Asks.{opened_at}
 use Rattle.pf_journal.specs.Machine.{Entry, Open, most_tenants}
 use Rattle.pf_model.specs.Legs.{LegsData, leg_part}
 use Rattle.pf_model.specs.Lists.{Each}
-use Rattle.pf_model.specs.Log.{AreApart, store_of}
+use Rattle.pf_model.specs.Log.{AreApart, rules_of, store_of}
 use Rattle.pf_model.specs.Sharding.{legs_over}
 use Rattle.pf_query.specs.Tables.{is_of, tries_with}
 use Rattle.pf_query.specs.Works.{last_of}
@@ -108,8 +108,8 @@ pub record IsLegsOf (l : Limits) (at : Open) (legs : ResolvedLegs) (snap : SnapD
   pub legs_are : legs_data legs ≡ legs_asked l.shards at
   pub lawful : IsLawful (legs_data legs)
   pub bound : AreBoundOver legs snap.labels
-  pub stands : StandsFor snap (store_of l.window at.log).samples
-  pub apart : AreApart (store_of l.window at.log).samples
+  pub stands : StandsFor snap (store_of (rules_of l) at.log).samples
+  pub apart : AreApart (store_of (rules_of l) at.log).samples
 
 -- a run of a grid's steps
 pub record IsRunOf (grid run : GridData) : Type 0 where
@@ -119,7 +119,7 @@ pub record IsRunOf (grid run : GridData) : Type 0 where
 
 -- a step's cell is what a query is there, without error, over the samples that its tenant had at the ask
 abbrev pub IsValueAt : Limits → Open → Step → Type 0
-IsValueAt l o s = eval (store_of l.window o.log).samples o.asked.query.tree (pos s.time) ≡ Good s.elements
+IsValueAt l o s = eval (store_of (rules_of l) o.log).samples o.asked.query.tree (pos s.time) ≡ Good s.elements
 
 -- cached cells and these runs have each step of a query once, piece by piece; the cells are the query's. An instant query has no
 -- cells, and its grid is its one run.
@@ -165,4 +165,4 @@ pub record AreParts (l : Limits) (at : Open) (legs : ResolvedLegs) (cached : Lis
   pub many : length parts ≡ length runs * leg_count (legs_data legs)
   pub fits : Each (FitsNodes legs.nodes) parts
   pub values : (i : ℕ) (run : GridData) (part : Part) → slice_get runs (i / leg_count (legs_data legs)) ≡ Some run → slice_get parts i ≡ Some part
-      → IsValueOver (store_of l.window at.log).samples (legs_data legs) (i % leg_count (legs_data legs)) run part
+      → IsValueOver (store_of (rules_of l) at.log).samples (legs_data legs) (i % leg_count (legs_data legs)) run part

@@ -2,6 +2,7 @@
 use Rattle.std.specs.HashMap.{HashMap, get_by_text}
 use Rattle.std.specs.Prelude.{◌≡◌, ℕ, ◌<◌, ◌≤◌, Bool, false, bytes_eq, MatchOption, Option, Some, None, List, [], ◌∷◌, ◌++◌, length, slice_get, slice_set, unwrap_or, String}
 use Rattle.pf_journal.specs.Machine.{most_tenants}
+use Rattle.pf_model.specs.Log.{Rules}
 use Rattle.pf_store.specs.Standing.{IsLog, LogData}
 use Rattle.pf_core.specs.declared.tenants.Seat.{Seat}
 
@@ -45,23 +46,23 @@ IsFree t number None = number < length t.names
 IsFree t number (Some name) = (number ≡ length t.names) × ((number < most_tenants) × IsUnknown t.names name)
 
 -- a known tenant with its log, or a new one with an empty log
-abbrev pub IsSeated : TenantsData → (window : ℕ) → (name : List ℕ) → (number : ℕ) → LogData → (newcomer : Option (List ℕ)) → Type 0
-IsSeated t window name number log None = (slice_get t.names number ≡ Some name) × (slice_get t.logs number ≡ Some log)
-IsSeated t window name number log (Some new) = (new ≡ name) × ((log.window ≡ window) × IsLog log [])
+abbrev pub IsSeated : TenantsData → (rules : Rules) → (name : List ℕ) → (number : ℕ) → LogData → (newcomer : Option (List ℕ)) → Type 0
+IsSeated t rules name number log None = (slice_get t.names number ≡ Some name) × (slice_get t.logs number ≡ Some log)
+IsSeated t rules name number log (Some new) = (new ≡ name) × IsLog rules log []
 
-pub record IsSeat (t : TenantsData) (window : ℕ) (name : List ℕ) (s : Seat) : Type 0 where
+pub record IsSeat (t : TenantsData) (rules : Rules) (name : List ℕ) (s : Seat) : Type 0 where
   pub tenants : AreTenants t
   pub free : IsFree t s.number s.newcomer
-  pub seated : IsSeated t window name s.number s.log s.newcomer
+  pub seated : IsSeated t rules name s.number s.log s.newcomer
 
 -- as many tenants are known as may be, and none has this name
 pub record IsStranger (t : TenantsData) (name : List ℕ) : Type 0 where
   pub many : length t.names ≡ most_tenants
   pub unknown : IsUnknown t.names name
 
-abbrev pub Seats : TenantsData → ℕ → List ℕ → Option Seat → Type 0
-Seats t window name None = IsStranger t name
-Seats t window name (Some s) = IsSeat t window name s
+abbrev pub Seats : TenantsData → Rules → List ℕ → Option Seat → Type 0
+Seats t rules name None = IsStranger t name
+Seats t rules name (Some s) = IsSeat t rules name s
 
 -- the tenants with a seat's log put in, and its name, where it is new
 abbrev pub settled : TenantsData → (number : ℕ) → LogData → Option (List ℕ) → TenantsData

@@ -13,7 +13,7 @@ use Rattle.pf_journal.specs.Machine as machine
 use Rattle.pf_journal.specs.Weave.{failed_answers}
 use Rattle.pf_journal.specs.Machine.{Machine, Open, What, append, ask, cancel, delete, log_of, open_at, open_of, reserved, started}
 use Rattle.pf_model.specs.Lists.{Each}
-use Rattle.pf_model.specs.Log.{Change, log_with, log_without, store_of, verdicts_of}
+use Rattle.pf_model.specs.Log.{Change, Rules, log_with, log_without, rules_of, store_of, verdicts_of}
 use Rattle.pf_model.specs.declared.expr.Matcher.{Matcher}
 use Rattle.pf_shard.specs.declared.parts.Part.{Part}
 use Rattle.pf_query.specs.Entries.{cached_steps_of, is_given_out, is_offered, is_planned}
@@ -39,15 +39,15 @@ use Rattle.pf_core.specs.declared.state.State.{State}
 use Rattle.pf_core.specs.declared.tenants.Seat.{Seat}
 
 -- each log that is kept is that of its tenant
-abbrev pub KeepsLogs : ℕ → List LogData → List (List Change) → Type 0
-KeepsLogs window kept logs =
-    (u : ℕ) (d : LogData) → slice_get kept u ≡ Some d → (d.window ≡ window) × IsLog d (log_of logs u)
+abbrev pub KeepsLogs : Rules → List LogData → List (List Change) → Type 0
+KeepsLogs rules kept logs =
+    (u : ℕ) (d : LogData) → slice_get kept u ≡ Some d → IsLog rules d (log_of logs u)
 
 -- each count that is kept is that of its tenant's open queries
 abbrev pub KeepsCounts : List ℕ → List Open → Type 0
 KeepsCounts kept qs = (u n : ℕ) → slice_get kept u ≡ Some n → n ≡ open_of u qs
 
--- no count that is kept is over the limit
+-- no count that is kept is over a number
 abbrev pub AreWithin : ℕ → List ℕ → Type 0
 AreWithin limit kept = (u n : ℕ) → slice_get kept u ≡ Some n → n ≤ limit
 
@@ -62,33 +62,33 @@ pub record AreOpen (m : Machine) : Type 0 where
   pub known : Each (λ o. o.tenant < length m.logs) m.queries
 
 -- a query that is kept is that of the machine, and its pin is that of its tenant's log at the ask
-pub record IsQuery (window : ℕ) (q : Query) (o : Open) : Type 0 where
+pub record IsQuery (rules : Rules) (q : Query) (o : Open) : Type 0 where
   pub tenant : o.tenant ≡ q.tenant
   pub asked : o.asked ≡ arc_value q.asked
-  pub pinned : IsPin q.pin window o.log
+  pub pinned : IsPin q.pin rules o.log
   pub cancelled : o.cancelled ≡ q.cancelled
 
 -- what is kept at a place is what the machine has there
-abbrev pub IsKept : ℕ → Option Query → Option Open → Type 0
-IsKept window None None = Unit {0}
-IsKept window None (Some o) = ⊥
-IsKept window (Some q) None = ⊥
-IsKept window (Some q) (Some o) = IsQuery window q o
+abbrev pub IsKept : Rules → Option Query → Option Open → Type 0
+IsKept rules None None = Unit {0}
+IsKept rules None (Some o) = ⊥
+IsKept rules (Some q) None = ⊥
+IsKept rules (Some q) (Some o) = IsQuery rules q o
 
 -- a query that is kept, cancelled at a place
 abbrev pub cancelled_query : (place : ℕ) → Option Query → Option Query
 cancelled_query place None = None
 cancelled_query place (Some q) = Some (record { tenant = q.tenant; asked = q.asked; pin = q.pin; cancelled = Some place })
 
-abbrev pub KeepsQueries : ℕ → (ℕ → Option Query) → List Open → Type 0
-KeepsQueries window kept qs = (place : ℕ) → IsKept window (kept place) (open_at place qs)
+abbrev pub KeepsQueries : Rules → (ℕ → Option Query) → List Open → Type 0
+KeepsQueries rules kept qs = (place : ℕ) → IsKept rules (kept place) (open_at place qs)
 
 -- what is kept beside the journal is what the machine has
 pub record Keeps (l : Limits) (t : TenantsData) (kept : ℕ → Option Query) (room : ℕ) (m : Machine) : Type 0 where
-  pub keeps_logs : KeepsLogs l.window t.logs m.logs
+  pub keeps_logs : KeepsLogs (rules_of l) t.logs m.logs
   pub keeps_counts : KeepsCounts t.counts m.queries
-  pub within : AreWithin l.outstanding t.counts
-  pub keeps_queries : KeepsQueries l.window kept m.queries
+  pub within : AreWithin l.journal t.counts
+  pub keeps_queries : KeepsQueries (rules_of l) kept m.queries
   pub keeps_room : room ≡ reserved m.queries
   pub are_open : AreOpen m
 
@@ -168,7 +168,7 @@ pub record IsWorkOf (l : Limits) (o : Open) (w : WorkData) : Type 0 where
   pub once : o.asked.instant ≡ true → w.offered ≡ true
   pub fits : (i : ℕ) (part : Part) → slice_get w.slots i ≡ Some (Filled part) → FitsNodes w.legs.nodes part
   pub values : (i : ℕ) (run : GridData) (part : Part) → slice_get w.runs (i / legs_in w.legs) ≡ Some run → slice_get w.slots i ≡ Some (Filled part)
-      → IsValueOver (store_of l.window o.log).samples (legs_data w.legs) (i % legs_in w.legs) run part
+      → IsValueOver (store_of (rules_of l) o.log).samples (legs_data w.legs) (i % legs_in w.legs) run part
 
 -- what the table keeps of an open query
 pub record IsEntryOf (l : Limits) (o : Open) (e : EntryData) : Type 0 where
@@ -314,28 +314,26 @@ IsCancelledAt old by query new =
 pub record TakesIn (old : Seat) (batch : BatchData) (verdicts : VerdictsData) (said : What) (new : Seat) : Type 0 where
   pub number : new.number ≡ old.number
   pub newcomer : new.newcomer ≡ old.newcomer
-  pub window : new.log.window ≡ old.log.window
-  pub judged : (log : List Change) → IsLog old.log log → verdicts ≡ verdicts_after old.log.window log batch.rows
-  pub stands : (log : List Change) → IsLog old.log log
-      → IsLog new.log (log_with log batch.rows (verdicts_of old.log.window log batch.rows))
+  pub judged : (rules : Rules) (log : List Change) → IsLog rules old.log log → verdicts ≡ verdicts_after rules log batch.rows
+  pub stands : (rules : Rules) (log : List Change) → IsLog rules old.log log
+      → IsLog rules new.log (log_with log batch.rows (verdicts_of rules log batch.rows))
   pub what : said ≡ append old.number batch verdicts.list verdicts.entry
 
 -- samples of a seat's log were deleted
 pub record CutsOut (old : Seat) (matchers : List Matcher) (from to : ℕ) (deleted : Deleted) (said : What) (new : Seat) : Type 0 where
   pub number : new.number ≡ old.number
   pub newcomer : new.newcomer ≡ old.newcomer
-  pub window : new.log.window ≡ old.log.window
-  pub told : (log : List Change) → IsLog old.log log → deleted ≡ deleted_after old.log.window (log_without log matchers from to)
-  pub stands : (log : List Change) → IsLog old.log log → IsLog new.log (log_without log matchers from to)
+  pub told : (rules : Rules) (log : List Change) → IsLog rules old.log log → deleted ≡ deleted_after rules (log_without log matchers from to)
+  pub stands : (rules : Rules) (log : List Change) → IsLog rules old.log log → IsLog rules new.log (log_without log matchers from to)
   pub what : said ≡ delete old.number matchers from to deleted.generation deleted.entry
 
 -- what an ask of a seat opens
 pub record IsOpening (seat : Seat) (wanted : Asked) (o : Opening) : Type 0 where
   pub tenant : o.query.tenant ≡ seat.number
   pub asked : arc_value o.query.asked ≡ wanted
-  pub kept : (log : List Change) → IsLog seat.log log → IsPin o.query.pin seat.log.window log
+  pub kept : (rules : Rules) (log : List Change) → IsLog rules seat.log log → IsPin o.query.pin rules log
   pub uncancelled : o.query.cancelled ≡ None
-  pub pinned : (log : List Change) → IsLog seat.log log → IsPin o.pin seat.log.window log
+  pub pinned : (rules : Rules) (log : List Change) → IsLog rules seat.log log → IsPin o.pin rules log
   pub what : what_of o.what ≡ ask seat.number wanted o.pin.number o.pin.generation o.pin.floor
 
 -- a seat was put in, and nothing else changed

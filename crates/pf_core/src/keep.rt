@@ -6,6 +6,7 @@ ghost use Rattle.pf_base.specs.Limits.{most_steps};
 ghost use Rattle.pf_extent.specs.Done.{steps_in};
 ghost use Rattle.pf_journal.specs.Machine.{Open, open_at};
 ghost use Rattle.pf_model.specs.Lists.{Each};
+ghost use Rattle.pf_model.specs.Log.{Rules};
 ghost use Rattle.pf_results.specs.Pieces.{AreEvaluated, IsDoneAt, fixed_over, kept_over};
 ghost use Rattle.pf_results.specs.Truth.{AreTrue, Logs};
 ghost use Rattle.pf_core.specs.Cached.{asker_of, fixed_by, kept_by};
@@ -38,7 +39,7 @@ fn keep_of(
     ensures ok { OnOk result (results.new ≡ kept_over (key_by query.now) (arc_value query.now.asked).query.tree (asker_by query.now.pin) interval cells.now results.old) }
     ensures count { IfOk result (λ n. n ≡ fixed_over (arc_value query.now.asked).query.tree (asker_by query.now.pin) cells.now) }
     ensures err { OnErr result ((count : ℕ) × (results.new ≡ kept_over (key_by query.now) (arc_value query.now.asked).query.tree (asker_by query.now.pin) interval (take count cells.now) results.old)) }
-    ensures kept { (window : ℕ) (logs : Logs) → AreTrue window interval logs results.old.entries → AreEvaluated window interval logs (key_by query.now) (asker_by query.now.pin) (arc_value query.now.asked).query.tree cells.now → AreTrue window interval logs results.new.entries }
+    ensures kept { (rules : Rules) (logs : Logs) → AreTrue rules interval logs results.old.entries → AreEvaluated rules interval logs (key_by query.now) (asker_by query.now.pin) (arc_value query.now.asked).query.tree cells.now → AreTrue rules interval logs results.new.entries }
 {
     let asked: &Asked = &query.asked;
     let expr = tree_in(asked);

@@ -1,7 +1,7 @@
 //! The tenants by number: their names, their logs, and how many queries of each are open.
 
 ghost use Rattle.std.specs.Prelude.{◌≡◌, ◌<◌, [], IfOk, List, MatchOption, OnErr, OnOk, Some, length, slice_get};
-ghost use Rattle.pf_model.specs.Log.{Change, store_of};
+ghost use Rattle.pf_model.specs.Log.{Change, Rules, store_of};
 ghost use Rattle.pf_store.specs.Standing.{IsLog, LogData};
 ghost use Rattle.pf_core.specs.Seats.{AreTenants, IsFree, IsUnknown, Seats, TenantsData, count_at, counted_as, is_named, settled};
 
@@ -132,7 +132,7 @@ impl Tenants {
     pub fn generation(&self, number: u32) -> Result<u64, OutOfMemory>
         requires { number < length self.now.names }
         ensures tenants { AreTenants self.now }
-        ensures generation { IfOk result (λ g. (d : LogData) (log : List Change) → slice_get self.now.logs number ≡ Some d → IsLog d log → g ≡ (store_of d.window log).generation) }
+        ensures generation { IfOk result (λ g. (rules : Rules) (d : LogData) (log : List Change) → slice_get self.now.logs number ≡ Some d → IsLog rules d log → g ≡ (store_of rules log).generation) }
     {
         let pin = self.logs[number as usize].pin()?;
         Ok(pin.generation)
@@ -146,7 +146,7 @@ impl Tenants {
         window: u64,
         name: &Tenant,
     ) -> Result<Option<Seat>, OutOfMemory>
-        ensures { IfOk result (λ s. Seats self.now window name.now s) }
+        ensures { IfOk result (λ s. Seats self.now (record { window = window }) name.now s) }
     {
         if let Some(number) = self.number_of(name) {
             return Ok(Some(Seat {

@@ -6,4 +6,4 @@ pub returns-in-Some-clause-state : goal.returns-in-Some-clause-state
 returns-in-Some-clause-state c =
     uses_state c.args.self.now _ c.requires
     (record { history = record { limits = refl; tenants = refl; queries = refl; reserved = refl; journal = refl }; table = refl; failed = refl; total = refl })
-    (λ window logs. c.touch_all.ensures.kept window logs)
+    (λ rules logs. c.touch_all.ensures.kept rules logs)
