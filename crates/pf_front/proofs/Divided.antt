@@ -26,7 +26,7 @@ use Rattle.pf_model.specs.Direct.{Failure, failed}
 use Rattle.pf_model.specs.Evaluation.{eval}
 use Rattle.pf_model.specs.Legs.{LegsData}
 use Rattle.pf_model.specs.Lists.{Each}
-use Rattle.pf_model.specs.Log.{store_of}
+use Rattle.pf_model.specs.Log.{rules_of, store_of}
 use Rattle.pf_model.specs.Trees.{Tree}
 use Rattle.pf_model.specs.declared.cell.StepCell.TheVariants.{Good}
 use Rattle.pf_query.specs.declared.gathered.Gathered.{Gathered}
@@ -60,7 +60,7 @@ woven_whole (p ∷ ps) ds rs w =
 
 module _ (l : Limits) (o : Open) where
   abbrev samples : List Row
-  samples = (store_of l.window o.log).samples
+  samples = (store_of (rules_of l) o.log).samples
 
   abbrev query : Tree
   query = o.asked.query.tree

@@ -20,7 +20,7 @@ use Rattle.pf_front.proofs.Progress.{some_is}
 use Rattle.pf_front.specs.Settling.{AreFirstParts, AreLegValues, AreMergeable, HasParts}
 use Rattle.pf_journal.specs.Machine.{Open, open_at}
 use Rattle.pf_model.specs.Lists.{Each}
-use Rattle.pf_model.specs.Log.{AreApart, store_of}
+use Rattle.pf_model.specs.Log.{AreApart, rules_of, store_of}
 use Rattle.pf_query.specs.declared.gathered.Gathered.{Gathered}
 use Rattle.pf_query.specs.declared.job.Held.{Held}
 use Rattle.pf_shard.specs.Bound.{AreEvaluable, IsBoundOver}
@@ -182,6 +182,6 @@ pub part_is : (held : Held) (part : Part) → FitsNodes (arc_value held.legs).no
 part_is held part fits value c s = record {
   fits = fits;
   value = λ at asked.
-      subst (λ (o : Open). IsValueOver (store_of c.limits.window o.log).samples (legs_data (arc_value held.legs)) held.head.leg held.run part)
-      (some_is s.at at (sym s.asked ∙ asked)) (value (store_of c.limits.window s.at.log).samples s.legs_of.stands s.legs_of.apart);
+      subst (λ (o : Open). IsValueOver (store_of (rules_of c.limits) o.log).samples (legs_data (arc_value held.legs)) held.head.leg held.run part)
+      (some_is s.at at (sym s.asked ∙ asked)) (value (store_of (rules_of c.limits) s.at.log).samples s.legs_of.stands s.legs_of.apart);
 }

@@ -32,7 +32,7 @@ use Rattle.pf_front.specs.declared.outcome.Found.TheVariants as found
 use Rattle.pf_journal.specs.Machine.{Open, answer_of, open_at}
 use Rattle.pf_model.specs.Direct.{MatrixRow, gather, gathered}
 use Rattle.pf_model.specs.Lists.{Each}
-use Rattle.pf_model.specs.Log.{store_of}
+use Rattle.pf_model.specs.Log.{rules_of, store_of}
 use Rattle.pf_model.specs.Trees.{Tree}
 use Rattle.pf_query.specs.Covers.{CoverMore, covers, lies_in}
 use Rattle.pf_query.specs.declared.gathered.Gathered.{Gathered}
@@ -53,13 +53,13 @@ pub many_cells : (l : Limits) (found : Option Open) (grid : GridData) (cells : A
 many_cells l found grid cells opens is over =
     let o = some_open found opens in
     let g = o.0.asked.query.grid in
-    many_at (store_of l.window o.0.log).samples o.0.asked.query.tree (points g) cells (over o.0 o.1)
+    many_at (store_of (rules_of l) o.0.log).samples o.0.asked.query.tree (points g) cells (over o.0 o.1)
     ∙ length-times_from g.start g.step g.len ∙ ap (λ (x : GridData). x.len) (sym (is o.0 o.1))
 
 pub matrix_is : (l : Limits) (o : Open) (grid : GridData) (pieces cells : AllCells) (rows : List MatrixRow) → grid ≡ o.asked.query.grid → AreCellsOver l o pieces
     → cells ≡ pieces → rows ≡ gather (timed (points grid) cells) → answer_of l o ≡ gathered rows
 matrix_is l o grid pieces cells rows g over same is =
-    answer_gathered (store_of l.window o.log).samples o.asked.query.tree (points o.asked.query.grid) pieces over
+    answer_gathered (store_of (rules_of l) o.log).samples o.asked.query.tree (points o.asked.query.grid) pieces over
     ∙ ap gathered ((λ i. gather (timed (points (sym g i)) (sym same i))) ∙ sym is)
 
 -- ---- cells cover the runs of jobs

@@ -15,7 +15,7 @@ use Rattle.pf_front.specs.Settling.{IsBegun}
 use Rattle.pf_front.specs.Works.{IsNotPlanned, WorksOn}
 use Rattle.pf_journal.specs.Legal.{machine_after}
 use Rattle.pf_journal.specs.Machine.{Entry, Open, open_at, started}
-use Rattle.pf_model.specs.Log.{store_of}
+use Rattle.pf_model.specs.Log.{rules_of, store_of}
 use Rattle.pf_query.specs.declared.answers.PlanError.{PlanError}
 use Rattle.pf_query.specs.declared.answers.PlanError.TheVariants as plan_error
 use Rattle.pf_query.specs.declared.answers.Planned.{Planned}
@@ -38,7 +38,7 @@ none_shut (Some x) h e = cc
 
 -- the legs of an open query over its pin
 pub binds_open : (l : Limits) (o : Open) (found : Option Open) (pin : PinData) (legs : ResolvedLegs) (snap : SnapData) → found ≡ Some o
-    → IsPin pin l.window o.log → snap ≡ pin.snap → legs_data legs ≡ legs_asked l.shards o → IsLawful (legs_data legs)
+    → IsPin pin (rules_of l) o.log → snap ≡ pin.snap → legs_data legs ≡ legs_asked l.shards o → IsLawful (legs_data legs)
     → AreBoundOver legs snap.labels → BindsOpen l found legs snap
 binds_open l o found pin legs snap there p is legs_are lawful bound =
     subst (λ (f : Option Open). BindsOpen l f legs snap) (sym there)
@@ -46,7 +46,7 @@ binds_open l o found pin legs snap there p is legs_are lawful bound =
       legs_are = legs_are;
       lawful = lawful;
       bound = bound;
-      stands = subst (λ (s : SnapData). StandsFor s (store_of l.window o.log).samples) (sym is) p.samples;
+      stands = subst (λ (s : SnapData). StandsFor s (store_of (rules_of l) o.log).samples) (sym is) p.samples;
       apart = p.apart;
     })
 

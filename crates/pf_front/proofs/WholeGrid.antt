@@ -25,7 +25,7 @@ use Rattle.pf_front.specs.Settling.{AreAllParts, AreFirstParts, AreLegValues, Ha
 use Rattle.pf_front.specs.Spans.{piece_runs, whole_spans}
 use Rattle.pf_journal.specs.Machine.{Open}
 use Rattle.pf_model.specs.Lists.{Each}
-use Rattle.pf_model.specs.Log.{AreApart, store_of}
+use Rattle.pf_model.specs.Log.{AreApart, rules_of, store_of}
 use Rattle.pf_query.specs.declared.gathered.Gathered.{Gathered}
 use Rattle.pf_results.specs.Woven.{AreWoven, IsWoven, rest_of, wanted}
 use Rattle.pf_shard.specs.Bound.{AreBoundOver}
@@ -167,7 +167,7 @@ whole_by l o legs snap runs parts h d all = record {
   divided = d;
   many = all.many;
   fits = all.fits;
-  values = all.values (store_of l.window o.log).samples h.stands h.apart;
+  values = all.values (store_of (rules_of l) o.log).samples h.stands h.apart;
 }
 
 pub whole_parts : (c : CoreData) (found : Option Open) (legs legs' : ResolvedLegs) (snap snap' : SnapData) (grid : GridData) (interval : ℕ) (runs' : List GridData) (g : Gathered)

@@ -24,7 +24,7 @@ use Rattle.pf_front.specs.declared.outcome.Outcome.TheVariants as outcome
 use Rattle.pf_journal.specs.Machine.{AreSteps, Open, answer_of, open_at}
 use Rattle.pf_model.specs.Direct.{Answer, failed, gathered}
 use Rattle.pf_model.specs.Lists.{Each}
-use Rattle.pf_model.specs.Log.{AreApart, store_of}
+use Rattle.pf_model.specs.Log.{AreApart, rules_of, store_of}
 use Rattle.pf_query.specs.Covers.{covers}
 use Rattle.pf_query.specs.declared.answers.Collected.{Collected}
 use Rattle.pf_query.specs.declared.answers.Collected.TheVariants as collected
@@ -122,7 +122,7 @@ whole_runs l o = piece_runs (pieces_in l o)
 
 -- cells are what it is at its steps
 abbrev pub AreCellsOver : Limits → Open → AllCells → Type 0
-AreCellsOver l o cells = AreCellsAt (store_of l.window o.log).samples o.asked.query.tree (points o.asked.query.grid) cells
+AreCellsOver l o cells = AreCellsAt (store_of (rules_of l) o.log).samples o.asked.query.tree (points o.asked.query.grid) cells
 
 -- cells may be kept of it: those of each of its pieces in which one of some runs lies
 pub record AreNoted (l : Limits) (o : Open) (runs : List GridData) (cells : List DoneCells) : Type 0 where
