@@ -1,5 +1,5 @@
 -- The samples of a batch are those of a log with this batch alone.
-use Rattle.std.proofs.Common.{◌≡◌, ℕ, Bool, true, false, ◌||◌, cond, None, List, [], ◌∷◌, refl, sym, subst, true≢false}
+use Rattle.std.proofs.Common.{◌≡◌, Bool, true, false, ◌||◌, cond, None, List, [], ◌∷◌, refl, sym, subst, true≢false}
 use Rattle.pf_base.specs.declared.plain.Row.{Row}
 use Rattle.pf_model.specs.Log.{AreApart, Change, Rules, Verdict, any_taken, append, batch_samples, is_taken, log_with, store_of, taken_rows, verdicts_of, verdicts_on}
 use Rattle.pf_store.specs.Standing.{IsLog, IsPin, LogData, PinData, StandsFor}
