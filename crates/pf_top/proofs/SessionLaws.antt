@@ -13,7 +13,7 @@ use Rattle.pf_client.specs.declared.loaded.Content.TheVariants.{Bytes, TooLong}
 use Rattle.pf_client.specs.declared.loaded.ReadFile.{ReadFile}
 use Rattle.pf_top.specs.Pages.{page_in}
 use Rattle.pf_top.specs.Refusals.{refused_script}
-use Rattle.pf_top.specs.SessionOutputs.{IsSeedOutput, IsSummed}
+use Rattle.pf_top.specs.Commands.{IsSummed, SessionTells}
 
 -- two facts of a call's result
 pub both_ok : {A E : Type 0} (P Q R : A → Type 0) (r : Result A E) → ((x : A) → P x → Q x → R x) → IfOk r P → IfOk r Q → IfOk r R
@@ -51,7 +51,7 @@ summed_by limits held seed queries lines true t status text many is told sum = i
 
 -- by what was generated
 pub seed_summed : (limits : Limits) (seed : ℕ) (g : Session) (given : List ℕ) (lines : List Numbered) (status : ℕ) (text : List ℕ) → g ≡ session seed → given ≡ g.script
-    → script_of false given ≡ Ok lines → IsSummed limits (page_in g.files) seed lines status text → IsSeedOutput limits seed status text
+    → script_of false given ≡ Ok lines → IsSummed limits (page_in g.files) seed lines status text → SessionTells limits seed status text
 seed_summed limits seed g given lines status text is same read sum = inl (
   lines,
   (
@@ -61,7 +61,7 @@ seed_summed limits seed g given lines status text is same read sum = inl (
 )
 
 pub seed_refused : (limits : Limits) (seed : ℕ) (g : Session) (given : List ℕ) (line printed status : ℕ) (text : List ℕ) → g ≡ session seed → given ≡ g.script
-    → script_of false given ≡ Err line → (status ≡ 3) × (text ≡ refused_script 0 printed) → printed ≡ line → IsSeedOutput limits seed status text
+    → script_of false given ≡ Err line → (status ≡ 3) × (text ≡ refused_script 0 printed) → printed ≡ line → SessionTells limits seed status text
 seed_refused limits seed g given line printed status text is same bad p e = inr (
   p.0,
   (

@@ -1,8 +1,8 @@
+pub mod Commands
 pub mod Correct
-pub mod Evaluations
 pub mod Outputs
 pub mod Pages
 pub mod Refusals
-pub mod SessionOutputs
+pub mod Seen
 pub mod WordSteps
 pub mod Words

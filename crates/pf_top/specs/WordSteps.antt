@@ -3,6 +3,7 @@
 use Rattle.std.specs.Prelude.{ℕ, Option, Some, None, cond, option_map, List, [], ◌∷◌, nat_eq}
 use Rattle.pf_base.specs.Limits.{most_entries}
 use Rattle.pf_model.specs.Cuts.{only_if, ◌>>=◌}
+use Rattle.pf_top.specs.Commands as commands
 use Rattle.pf_top.specs.Words as words
 use Rattle.pf_top.specs.Words.{OptionName, Word, plain, last_dashes, named, valued, of_limit, of_window, of_interval, of_shards, of_extents, of_journal, duration_from, is_dashed, number_within, word_of}
 use Rattle.pf_top.specs.declared.options.Given.{Given as GivenCode}
@@ -12,6 +13,9 @@ use Rattle.pf_top.specs.declared.options.Next.{Next as NextCode}
 use Rattle.pf_top.specs.declared.options.Next.TheVariants as code_next
 use Rattle.pf_top.specs.declared.options.Word.{Word as WordCode}
 use Rattle.pf_top.specs.declared.options.Word.TheVariants as code_word
+use Rattle.pf_top.specs.declared.words.Command.{Command}
+use Rattle.pf_top.specs.declared.words.Command.TheVariants as code_command
+use Rattle.pf_top.specs.declared.words.Evaluation.{Evaluation}
 use Rattle.pf_top.specs.declared.words.Replay.{Replay}
 
 -- what stands behind a `-` in front
@@ -109,3 +113,11 @@ state_in s = (given_in s.0, next_in s.1)
 
 abbrev pub replay_in : Replay → words.Replay
 replay_in r = record { limit = r.limit; window = r.window; interval = r.interval; shards = r.shards; extents = r.extents; journal = r.journal; script = r.script.now }
+
+abbrev pub evaluation_in : Evaluation → words.Evaluation
+evaluation_in e = record { file = e.file.now; query = e.query.now; start = e.start; end = e.end; step = e.step }
+
+abbrev pub command_in : Command → commands.Command
+command_in (code_command.Replay r) = commands.replay (replay_in r)
+command_in (code_command.Evaluate e) = commands.evaluate (evaluation_in e)
+command_in (code_command.Load seed) = commands.load seed

@@ -1,27 +1,29 @@
 //! The call that does all that the program does.
 
-ghost use Rattle.std.specs.Prelude.{◌≡◌, ◌≢◌, ◌≤◌, ℕ, Err, List, [], IfOk, None, false, length, true, vec_len};
+ghost use Rattle.std.specs.Prelude.{◌≡◌, ◌≢◌, ◌≤◌, ℕ, Err, List, [], ◌∷◌, IfOk, Some, false, length, option_map, true, vec_len};
+ghost use Rattle.pf_base.specs.declared.plain.Limits.{Limits};
 ghost use Rattle.pf_block.specs.Snaps.{are_timed};
 ghost use Rattle.pf_core.specs.Cores.{AreLimits};
 ghost use Rattle.pf_model.specs.Lists.{Each};
 ghost use Rattle.pf_script.specs.Lines.{AllFollow, IsRead, lines_of};
-ghost use Rattle.pf_client.specs.Drives.{IsAnyReport};
 ghost use Rattle.pf_client.specs.Replays.{Held};
 ghost use Rattle.pf_client.specs.Written.{Begins, WritesPart};
 ghost use Rattle.pf_client.specs.declared.pieces.ReportError.{ReportError};
-ghost use Rattle.pf_top.specs.Correct.{Correct, FilesSeen, Outside};
 ghost use Rattle.pf_io.specs.Outside.{Holds, Rose};
 ghost use Rattle.pf_journal.specs.Scripts.{most_bytes};
 ghost use Rattle.pf_report.specs.Replies.{fault_of};
-ghost use Rattle.pf_top.specs.Evaluations.{IsBatchOutput, IsFileOutput, IsNamedOutput, evaluation_in};
 ghost use Rattle.pf_client.specs.Files.{AreHeld, HaveLast, HoldsContent, IsKept, IsShort, NamesFile};
-ghost use Rattle.pf_top.specs.Outputs.{IsReplay, IsReplayReport, IsReportOutput, IsRun, IsWordsOutput, Prints, default_limits};
+ghost use Rattle.pf_top.specs.Commands.{EvaluationTells, IsEvaluationText, IsReported, Says, command_of, evaluate, reads_files, replay};
+ghost use Rattle.pf_top.specs.Correct.{Correct};
+ghost use Rattle.pf_top.specs.Outputs.{IsReplay, Prints, default_limits};
 ghost use Rattle.pf_top.specs.Refusals.{refused_file, refused_line, refused_not_built, refused_read, refused_script};
-ghost use Rattle.pf_top.specs.Words.{evaluation_words, replay_words};
+ghost use Rattle.pf_top.specs.Seen.{Outside, files_seen};
+ghost use Rattle.pf_top.specs.Words.{limits_with};
+ghost use Rattle.pf_top.specs.WordSteps.{evaluation_in, replay_in};
 
 use crate::evaluation::evaluation_of;
 use crate::session::run_seed;
-use crate::words::{Evaluation, evaluation_words, limits_with, load_words, replay_words};
+use crate::words::{Command, Evaluation, Replay, command_of, limits_with};
 use pf_base::{Batch, Limits, OutOfMemory, Text};
 use pf_client::{
     Content, Contents, FileRead, LoadError, Loaded, ReportError, let_go, load_all, only,
@@ -110,9 +112,9 @@ fn run_loaded<O: Sink, H: Hop, G: Gate>(
     requires lasts { HaveLast (lines_of script.now) files }
     requires read { Each IsRead script.now.lines.items }
     requires following { AllFollow [] (lines_of script.now) }
-    ensures printed { IfOk result (λ o. (held : Held) → AreHeld held files → Prints (IsRun limits held (lines_of script.now) o.status) (O.told out.old) (O.told out.new) o.text.items) }
-    ensures begun { result ≡ Err ReportError.OutOfMemory → (held : Held) → AreHeld held files → Begins (IsAnyReport limits held (lines_of script.now)) (O.told out.old) (O.told out.new) }
-    ensures broken { result ≡ Err ReportError.WriteFault → (held : Held) → AreHeld held files → WritesPart (IsAnyReport limits held (lines_of script.now)) (O.told out.old) (O.told out.new) }
+    ensures printed { IfOk result (λ o. (held : Held) → AreHeld held files → Prints (IsReported limits held (lines_of script.now ∷ []) o.status) (O.told out.old) (O.told out.new) o.text.items) }
+    ensures begun { result ≡ Err ReportError.OutOfMemory → (held : Held) → AreHeld held files → Begins (IsReported limits held (lines_of script.now ∷ []) 6) (O.told out.old) (O.told out.new) }
+    ensures broken { result ≡ Err ReportError.WriteFault → (held : Held) → AreHeld held files → WritesPart (IsReported limits held (lines_of script.now ∷ []) 6) (O.told out.old) (O.told out.new) }
     ensures fault { result ≡ Err ReportError.WriteFault → Rose (O.faults out.old) (O.faults out.new) }
     ensures taken { result ≢ Err ReportError.WriteFault → O.faults out.new ≡ O.faults out.old }
 {
@@ -146,16 +148,11 @@ fn replay_script<F: Files, O: Sink, H: Hop, G: Gate>(
     requires held { Holds (F.told files.old name.now) bytes.items }
     requires short { length bytes.items ≤ most_bytes }
     requires there { F.lost files.old name.now ≡ false }
-    ensures output { let seen : FilesSeen = record { told = F.told files.old; sure = F.sure files.old; lost = F.lost files.old; before = F.faults files.old; after = F.faults files.new; failed = F.failed files.new } in
-        IfOk result (λ o. Prints (IsReplay limits seen name.now bytes.items (lines_of script.now) o.status) (O.told out.old) (O.told out.new) o.text.items) }
-    ensures begun { let seen : FilesSeen = record { told = F.told files.old; sure = F.sure files.old; lost = F.lost files.old; before = F.faults files.old; after = F.faults files.new; failed = F.failed files.new } in
-        result ≡ Err ReportError.OutOfMemory → Begins (IsReplayReport limits seen name.now bytes.items (lines_of script.now)) (O.told out.old) (O.told out.new) }
-    ensures broken { let seen : FilesSeen = record { told = F.told files.old; sure = F.sure files.old; lost = F.lost files.old; before = F.faults files.old; after = F.faults files.new; failed = F.failed files.new } in
-        result ≡ Err ReportError.WriteFault → WritesPart (IsReplayReport limits seen name.now bytes.items (lines_of script.now)) (O.told out.old) (O.told out.new) }
+    ensures output { IfOk result (λ o. Prints (IsReplay limits (files_seen F.told F.sure F.lost F.faults F.failed files.old files.new) name.now bytes.items (lines_of script.now) o.status) (O.told out.old) (O.told out.new) o.text.items) }
+    ensures begun { result ≡ Err ReportError.OutOfMemory → Begins (IsReplay limits (files_seen F.told F.sure F.lost F.faults F.failed files.old files.new) name.now bytes.items (lines_of script.now) 6) (O.told out.old) (O.told out.new) }
+    ensures broken { result ≡ Err ReportError.WriteFault → WritesPart (IsReplay limits (files_seen F.told F.sure F.lost F.faults F.failed files.old files.new) name.now bytes.items (lines_of script.now) 6) (O.told out.old) (O.told out.new) }
     ensures fault { result ≡ Err ReportError.WriteFault → Rose (O.faults out.old) (O.faults out.new) }
     ensures taken { result ≢ Err ReportError.WriteFault → O.faults out.new ≡ O.faults out.old }
-    ensures steady { IfOk result (λ o. o.status ≢ 4 → F.faults files.new ≡ F.faults files.old) }
-    ensures counted { F.faults files.old ≤ F.faults files.new }
 {
     let Ok(mut contents) = only(alloc, name, Content::Bytes(bytes)) else {
         return Err(ReportError::OutOfMemory);
@@ -203,7 +200,7 @@ fn evaluate_batch(
     named: &Evaluation<'_>,
 ) -> Result<Output, OutOfMemory>
     requires { are_timed batch.now.rows ≡ true }
-    ensures { IfOk result (λ o. IsBatchOutput batch.now (evaluation_in named.now) o.status o.text.items) }
+    ensures { IfOk result (λ o. (o.status ≡ 0) × IsEvaluationText batch.now (evaluation_in named.now) o.text.items) }
 {
     let text = evaluation_of(alloc, batch, named)?;
     Ok(Output { status: 0, text })
@@ -216,7 +213,7 @@ fn evaluate_content(
     named: &Evaluation<'_>,
 ) -> Result<Output, OutOfMemory>
     requires { IsShort content.now }
-    ensures { IfOk result (λ o. (held : List ℕ) → HoldsContent held content.now → IsFileOutput held (evaluation_in named.now) o.status o.text.items) }
+    ensures { IfOk result (λ o. (bytes : List ℕ) → HoldsContent bytes content.now → EvaluationTells bytes (evaluation_in named.now) o.status o.text.items) }
 {
     match read_content(alloc, content, 0)? {
         FileRead::Batch(batch) => evaluate_batch(alloc, &batch, named),
@@ -230,10 +227,7 @@ fn evaluate_file<F: Files>(
     files: &mut F,
     named: &Evaluation<'_>,
 ) -> Result<Output, OutOfMemory>
-    ensures output { let seen : FilesSeen = record { told = F.told files.old; sure = F.sure files.old; lost = F.lost files.old; before = F.faults files.old; after = F.faults files.new; failed = F.failed files.new } in
-        IfOk result (λ o. IsNamedOutput seen (evaluation_in named.now) o.status o.text.items) }
-    ensures steady { IfOk result (λ o. o.status ≢ 4 → F.faults files.new ≡ F.faults files.old) }
-    ensures counted { F.faults files.old ≤ F.faults files.new }
+    ensures output { IfOk result (λ o. (limits : Limits) → Says limits (files_seen F.told F.sure F.lost F.faults F.failed files.old files.new) (Some (evaluate (evaluation_in named.now))) o.status o.text.items) }
 {
     match read_file(alloc, files, named.file) {
         Ok(content) => evaluate_content(alloc, &content, named),
@@ -242,51 +236,51 @@ fn evaluate_file<F: Files>(
     }
 }
 
-/// Runs the session that the words name, where they name neither a script nor an evaluation.
-fn sum_words<H: Hop, G: Gate>(
+/// Reads the script of a replay, and replays it.
+fn run_replay<F: Files, O: Sink, H: Hop, G: Gate>(
     alloc: Global,
     limits: Limits,
-    words: &[Text],
-    hops: &mut [H],
-    gate: &G,
-) -> Result<Output, OutOfMemory>
-    requires limits { AreLimits limits }
-    requires actors { length hops.old ≡ 32 }
-    requires no_replay { replay_words words.now ≡ None }
-    requires no_evaluation { evaluation_words words.now ≡ None }
-    ensures { IfOk result (λ o. (seen : FilesSeen) → seen.after ≡ seen.before → IsWordsOutput limits seen words.now o.status o.text.items) }
-{
-    match load_words(words) {
-        Some(seed) => run_seed(alloc, limits, seed, hops, gate),
-        None => unbuilt(alloc),
-    }
-}
-
-/// Evaluates what the words name or runs the session that they name, where they name no script.
-fn evaluate_words<F: Files, H: Hop, G: Gate>(
-    alloc: Global,
-    limits: Limits,
-    words: &[Text],
+    named: &Replay<'_>,
     files: &mut F,
     hops: &mut [H],
     gate: &G,
-) -> Result<Output, OutOfMemory>
-    requires limits { AreLimits limits }
+    out: &mut O,
+) -> Result<Output, ReportError>
+    requires limits { AreLimits (limits_with limits (replay_in named.now)) }
     requires actors { length hops.old ≡ 32 }
-    requires no_replay { replay_words words.now ≡ None }
-    ensures output { let seen : FilesSeen = record { told = F.told files.old; sure = F.sure files.old; lost = F.lost files.old; before = F.faults files.old; after = F.faults files.new; failed = F.failed files.new } in
-        IfOk result (λ o. IsWordsOutput limits seen words.now o.status o.text.items) }
-    ensures steady { IfOk result (λ o. o.status ≢ 4 → F.faults files.new ≡ F.faults files.old) }
-    ensures counted { F.faults files.old ≤ F.faults files.new }
-    ensures untouched { evaluation_words words.now ≡ None → files.new ≡ files.old }
+    ensures output { IfOk result (λ o. Prints (Says limits (files_seen F.told F.sure F.lost F.faults F.failed files.old files.new) (Some (replay (replay_in named.now))) o.status) (O.told out.old) (O.told out.new) o.text.items) }
+    ensures begun { result ≡ Err ReportError.OutOfMemory → Begins (Says limits (files_seen F.told F.sure F.lost F.faults F.failed files.old files.new) (Some (replay (replay_in named.now))) 6) (O.told out.old) (O.told out.new) }
+    ensures broken { result ≡ Err ReportError.WriteFault → WritesPart (Says limits (files_seen F.told F.sure F.lost F.faults F.failed files.old files.new) (Some (replay (replay_in named.now))) 6) (O.told out.old) (O.told out.new) }
+    ensures fault { result ≡ Err ReportError.WriteFault → Rose (O.faults out.old) (O.faults out.new) }
+    ensures taken { result ≢ Err ReportError.WriteFault → O.faults out.new ≡ O.faults out.old }
 {
-    match evaluation_words(words) {
-        Some(named) => evaluate_file(alloc, files, &named),
-        None => sum_words(alloc, limits, words, hops, gate),
+    let bytes = match read_file(alloc, files, named.script) {
+        Ok(Content::Bytes(bytes)) => bytes,
+        Ok(Content::TooLong) => return Ok(script_refused(alloc, 0)?),
+        Err(ReadError::Failed) => return Ok(unread(alloc, named.script)?),
+        Err(_) => return Err(ReportError::OutOfMemory),
+    };
+    match read_script(alloc, bytes.as_slice(), true) {
+        Ok(script) => {
+            let chosen = limits_with(limits, named);
+            replay_script(
+                alloc,
+                chosen,
+                files,
+                &script,
+                named.script,
+                bytes,
+                hops,
+                gate,
+                out,
+            )
+        }
+        Err(ScriptError::Line { line }) => Ok(script_refused(alloc, line)?),
+        Err(ScriptError::OutOfMemory) => Err(ReportError::OutOfMemory),
     }
 }
 
-/// Reads the script that the words name and replays it, evaluates what they name, or runs their session.
+/// Does what the words ask for.
 fn run_words<F: Files, O: Sink, H: Hop, G: Gate>(
     alloc: Global,
     limits: Limits,
@@ -298,44 +292,20 @@ fn run_words<F: Files, O: Sink, H: Hop, G: Gate>(
 ) -> Result<Output, ReportError>
     requires limits { AreLimits limits }
     requires actors { length hops.old ≡ 32 }
-    ensures output { let seen : FilesSeen = record { told = F.told files.old; sure = F.sure files.old; lost = F.lost files.old; before = F.faults files.old; after = F.faults files.new; failed = F.failed files.new } in
-        IfOk result (λ o. Prints (IsWordsOutput limits seen words.now o.status) (O.told out.old) (O.told out.new) o.text.items) }
-    ensures begun { let seen : FilesSeen = record { told = F.told files.old; sure = F.sure files.old; lost = F.lost files.old; before = F.faults files.old; after = F.faults files.new; failed = F.failed files.new } in
-        result ≡ Err ReportError.OutOfMemory → Begins (IsReportOutput limits seen words.now) (O.told out.old) (O.told out.new) }
-    ensures broken { let seen : FilesSeen = record { told = F.told files.old; sure = F.sure files.old; lost = F.lost files.old; before = F.faults files.old; after = F.faults files.new; failed = F.failed files.new } in
-        result ≡ Err ReportError.WriteFault → WritesPart (IsReportOutput limits seen words.now) (O.told out.old) (O.told out.new) }
+    ensures output { IfOk result (λ o. Prints (Says limits (files_seen F.told F.sure F.lost F.faults F.failed files.old files.new) (command_of words.now) o.status) (O.told out.old) (O.told out.new) o.text.items) }
+    ensures begun { result ≡ Err ReportError.OutOfMemory → Begins (Says limits (files_seen F.told F.sure F.lost F.faults F.failed files.old files.new) (command_of words.now) 6) (O.told out.old) (O.told out.new) }
+    ensures broken { result ≡ Err ReportError.WriteFault → WritesPart (Says limits (files_seen F.told F.sure F.lost F.faults F.failed files.old files.new) (command_of words.now) 6) (O.told out.old) (O.told out.new) }
     ensures fault { result ≡ Err ReportError.WriteFault → Rose (O.faults out.old) (O.faults out.new) }
     ensures taken { result ≢ Err ReportError.WriteFault → O.faults out.new ≡ O.faults out.old }
-    ensures steady { IfOk result (λ o. o.status ≢ 4 → F.faults files.new ≡ F.faults files.old) }
-    ensures counted { F.faults files.old ≤ F.faults files.new }
-    ensures untouched { replay_words words.now ≡ None → evaluation_words words.now ≡ None → files.new ≡ files.old }
+    ensures untouched { reads_files (command_of words.now) ≡ false → files.new ≡ files.old }
 {
-    let Some(replay) = replay_words(words) else {
-        return Ok(evaluate_words(alloc, limits, words, files, hops, gate)?);
-    };
-    let bytes = match read_file(alloc, files, replay.script) {
-        Ok(Content::Bytes(bytes)) => bytes,
-        Ok(Content::TooLong) => return Ok(script_refused(alloc, 0)?),
-        Err(ReadError::Failed) => return Ok(unread(alloc, replay.script)?),
-        Err(_) => return Err(ReportError::OutOfMemory),
-    };
-    match read_script(alloc, bytes.as_slice(), true) {
-        Ok(script) => {
-            let limits = limits_with(limits, &replay);
-            replay_script(
-                alloc,
-                limits,
-                files,
-                &script,
-                replay.script,
-                bytes,
-                hops,
-                gate,
-                out,
-            )
+    match command_of(words) {
+        Some(Command::Replay(named)) => {
+            run_replay(alloc, limits, &named, files, hops, gate, out)
         }
-        Err(ScriptError::Line { line }) => Ok(script_refused(alloc, line)?),
-        Err(ScriptError::OutOfMemory) => Err(ReportError::OutOfMemory),
+        Some(Command::Evaluate(named)) => Ok(evaluate_file(alloc, files, &named)?),
+        Some(Command::Load(seed)) => Ok(run_seed(alloc, limits, seed, hops, gate)?),
+        None => Ok(unbuilt(alloc)?),
     }
 }
 
@@ -352,10 +322,9 @@ pub fn run_within<F: Files, O: Sink, H: Hop + Drop, G: Gate>(
 ) -> u8
     requires limits { AreLimits limits }
     requires actors { vec_len hops ≡ 32 }
-    ensures claim { let seen : FilesSeen = record { told = F.told files.old; sure = F.sure files.old; lost = F.lost files.old; before = F.faults files.old; after = F.faults files.new; failed = F.failed files.new } in
-        let outside : Outside = record { files = seen; out_before = O.faults out.old; out_after = O.faults out.new; old = O.told out.old; new = O.told out.new } in
+    ensures claim { let outside : Outside = record { files = files_seen F.told F.sure F.lost F.faults F.failed files.old files.new; out_before = O.faults out.old; out_after = O.faults out.new; old = O.told out.old; new = O.told out.new } in
         Correct limits outside words.now result }
-    ensures untouched { replay_words words.now ≡ None → evaluation_words words.now ≡ None → files.new ≡ files.old }
+    ensures untouched { reads_files (command_of words.now) ≡ false → files.new ≡ files.old }
 {
     let output = match run_words(alloc, limits, words, files, hops.as_mut_slice(), gate, out) {
         Ok(output) => output,
@@ -390,10 +359,9 @@ pub fn run<R, F: Files, O: Sink, H: Hop + Send + Drop, G: Gate + Sync, D: Doors>
 where
     R: AllocGlobal + Clock + Threads + Wait + Net + RandomSource + Sync,
     requires { vec_len hops ≡ 32 }
-    ensures claim { let seen : FilesSeen = record { told = F.told files.old; sure = F.sure files.old; lost = F.lost files.old; before = F.faults files.old; after = F.faults files.new; failed = F.failed files.new } in
-        let outside : Outside = record { files = seen; out_before = O.faults out.old; out_after = O.faults out.new; old = O.told out.old; new = O.told out.new } in
+    ensures claim { let outside : Outside = record { files = files_seen F.told F.sure F.lost F.faults F.failed files.old files.new; out_before = O.faults out.old; out_after = O.faults out.new; old = O.told out.old; new = O.told out.new } in
         Correct default_limits outside words.now result }
-    ensures untouched { replay_words words.now ≡ None → evaluation_words words.now ≡ None → files.new ≡ files.old }
+    ensures untouched { reads_files (command_of words.now) ≡ false → files.new ≡ files.old }
 {
     run_within(alloc, DEFAULT_LIMITS, words, files, out, hops, gate)
 }

@@ -11,7 +11,8 @@ ghost use Rattle.pf_model.specs.ErrorTexts.{grid_text};
 ghost use Rattle.pf_model.specs.Log.{AreApart, batch_samples};
 ghost use Rattle.pf_report.specs.Bodies.{code_in, text_of_body};
 ghost use Rattle.pf_store.specs.Standing.{StandsFor};
-ghost use Rattle.pf_top.specs.Evaluations.{IsEvaluationText, IsText, evaluation_in};
+ghost use Rattle.pf_top.specs.Commands.{IsEvaluationText, IsText};
+ghost use Rattle.pf_top.specs.WordSteps.{evaluation_in};
 ghost use Rattle.pf_client.specs.Queries.{IsQueryRead};
 ghost use Rattle.pf_types.specs.Errors.{words_of_error};
 

@@ -7,8 +7,8 @@ ghost use Rattle.pf_client.specs.Replays.{Held};
 ghost use Rattle.pf_journal.specs.Summaries.{summary_text};
 ghost use Rattle.pf_model.specs.Lists.{Each};
 ghost use Rattle.pf_script.specs.Lines.{AllFollow, IsRead, lines_of};
+ghost use Rattle.pf_top.specs.Commands.{IsSummed, SessionTells};
 ghost use Rattle.pf_top.specs.Pages.{page_in};
-ghost use Rattle.pf_top.specs.SessionOutputs.{IsSeedOutput, IsSummed};
 
 use crate::driver::{Output, script_refused};
 use crate::pages::Pages;
@@ -90,7 +90,7 @@ pub(crate) fn run_seed<H: Hop, G: Gate>(
 ) -> Result<Output, OutOfMemory>
     requires limits { AreLimits limits }
     requires actors { length hops.old ≡ 32 }
-    ensures { IfOk result (λ o. IsSeedOutput limits seed o.status o.text.items) }
+    ensures { IfOk result (λ o. SessionTells limits seed o.status o.text.items) }
 {
     let generated = session(alloc, seed)?;
     match read_script(alloc, generated.script.as_str().as_bytes(), false) {

@@ -1,9 +1,9 @@
 //! The words that the program is called with.
 
 ghost use Rattle.std.specs.Prelude.{◌≡◌, option_map};
-ghost use Rattle.pf_top.specs.Evaluations.{evaluation_in};
+ghost use Rattle.pf_top.specs.Commands.{command_of};
 ghost use Rattle.pf_top.specs.Words.{evaluation_words, limits_with, load_words, replay_words, seed_of, with_times};
-ghost use Rattle.pf_top.specs.WordSteps.{replay_in};
+ghost use Rattle.pf_top.specs.WordSteps.{command_in, evaluation_in, replay_in};
 
 use crate::options::{is_dashed, replay_behind};
 use pf_base::{Limits, Text};
@@ -22,7 +22,7 @@ pub struct Replay<'a> {
 }
 
 /// The replay in the words `replay [options] SCRIPT`.
-pub fn replay_words(words: &[Text]) -> Option<Replay<'_>>
+fn replay_words(words: &[Text]) -> Option<Replay<'_>>
     ensures { option_map replay_in result ≡ replay_words words.now }
 {
     let (command, words) = words.split_first()?;
@@ -79,7 +79,7 @@ fn with_times<'a>(
 }
 
 /// The evaluation in the words `eval FILE QUERY START END STEP`, where neither FILE nor QUERY begins with `-`.
-pub fn evaluation_words(words: &[Text]) -> Option<Evaluation<'_>>
+fn evaluation_words(words: &[Text]) -> Option<Evaluation<'_>>
     ensures { option_map evaluation_in result ≡ evaluation_words words.now }
 {
     let [command, file, query, start, end, step] = words else {
@@ -120,7 +120,7 @@ fn seed_of(digits: &[u8]) -> Option<u64>
 }
 
 /// The seed in the words `load SEED`.
-pub fn load_words(words: &[Text]) -> Option<u64>
+fn load_words(words: &[Text]) -> Option<u64>
     ensures { result ≡ load_words words.now }
 {
     let [command, seed] = words else {
@@ -131,4 +131,26 @@ pub fn load_words(words: &[Text]) -> Option<u64>
     } else {
         None
     }
+}
+
+/// What the words ask for.
+#[derive(Clone, Copy)]
+pub enum Command<'a> {
+    Replay(Replay<'a>),
+    Evaluate(Evaluation<'a>),
+    Load(u64),
+}
+
+/// The command that the words name, where it is built.
+pub fn command_of(words: &[Text]) -> Option<Command<'_>>
+    ensures { option_map command_in result ≡ command_of words.now }
+{
+    if let Some(replay) = replay_words(words) {
+        return Some(Command::Replay(replay));
+    }
+    if let Some(named) = evaluation_words(words) {
+        return Some(Command::Evaluate(named));
+    }
+    let seed = load_words(words)?;
+    Some(Command::Load(seed))
 }

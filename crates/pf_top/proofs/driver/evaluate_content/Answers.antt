@@ -7,7 +7,7 @@ use Rattle.pf_top.proofs.driver.evaluate_content.Goals as goal
 pub returns-in-Batch : goal.returns-in-Batch
 returns-in-Batch c =
     if_ok_map _ _ c.evaluate_batch.result
-    (λ o printed bytes held. inl (c.in-Batch.batch, (subst (IsFileRead bytes 0) c.in-Batch.is (c.in_ok-batch.ensures.read bytes held), printed)))
+    (λ o printed bytes held. inl (printed.0, (c.in-Batch.batch, (subst (IsFileRead bytes 0) c.in-Batch.is (c.in_ok-batch.ensures.read bytes held), printed.1))))
     c.evaluate_batch.ensures
 
 pub returns-in-Refused : goal.returns-in-Refused

@@ -1,11 +1,21 @@
 use Rattle.std.proofs.Common.{rules, inl}
 use Rattle.pf_script.specs.Lines.{lines_of}
 use Rattle.pf_client.proofs.Writing.{grows_none}
-use Rattle.pf_top.proofs.OutputLaws.{run_printed}
+use Rattle.pf_top.proofs.OutputLaws.{begins_map, part_map, run_printed, run_stopped}
 use Rattle.pf_top.proofs.driver.run_loaded.Goals as goal
 
 pub returns-in_err-queries-clause-begun : goal.returns-in_err-queries-clause-begun
 returns-in_err-queries-clause-begun g c is held are = inl (grows_none (g.O.Sink.told c.args.out.now))
+
+pub returns-in_err-full-clause-begun : goal.returns-in_err-full-clause-begun
+returns-in_err-full-clause-begun g c is held are =
+    begins_map _ _ (g.O.Sink.told c.args.out.now) (g.O.Sink.told c.run_script.new.out) (run_stopped c.args.limits held (lines_of c.args.script.now))
+    (c.run_script.ensures.begun (search rules) held (search rules))
+
+pub returns-in_err-full-clause-broken : goal.returns-in_err-full-clause-broken
+returns-in_err-full-clause-broken g c is held are =
+    part_map _ _ (g.O.Sink.told c.args.out.now) (g.O.Sink.told c.run_script.new.out) (run_stopped c.args.limits held (lines_of c.args.script.now))
+    (c.run_script.ensures.broken (search rules) held (search rules))
 
 pub returns-clause-printed : goal.returns-clause-printed
 returns-clause-printed g c held are =
