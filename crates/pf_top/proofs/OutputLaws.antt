@@ -1,6 +1,8 @@
 -- What the commands give is what the program says.
 use Rattle.std.proofs.Common.{◌≡◌, ℕ, ◌<◌, ◌≤◌, inl, inr, Bool, true, false, cond, nat_le, Option, Some, None, Result, Ok, Err, List, [], ◌∷◌, refl, arith, sym, ap, ◌∙◌, length, take, subst}
 use Rattle.std.specs.BTreeMap.{get_by_text}
+use Rattle.std.specs.Option.{option_or}
+use Rattle.std.specs.Prelude.{◌⊎◌, option_map}
 use Rattle.std.proofs.lemmas.Bool.Decides.{nat_tests}
 use Rattle.std.specs.declared.vec.Vec.{Vec}
 use Rattle.std.specs.declared.alloc.Global.{Global}
@@ -11,6 +13,7 @@ use Rattle.pf_model.specs.Exposition.{file_lines}
 use Rattle.pf_model.specs.Lists.{Each}
 use Rattle.pf_journal.specs.Rest.{Why, at_end, at_full}
 use Rattle.pf_journal.specs.Scripts.{Numbered, lines_from, most_bytes, script_of}
+use Rattle.pf_core.specs.Cores.{AreLimits}
 use Rattle.pf_script.specs.Lines.{AllFollow}
 use Rattle.pf_client.specs.Drives.{IsAnyReport, IsReport}
 use Rattle.pf_client.specs.Files.{AreHeld, AreLoaded, Contents, HasContent, HoldsContent, IsKept, LetsGo, NamesFile, TellsContent}
@@ -24,11 +27,14 @@ use Rattle.pf_client.proofs.Holding.{holding, holding_bytes, holding_none, holdi
 use Rattle.pf_client.proofs.Lines.{all_first, last_behind}
 use Rattle.pf_client.proofs.Texts.{each_file, failed_since, read_there}
 use Rattle.pf_client.proofs.Writing.{part_written, writes_all, writes_front, writes_none, writes_then}
-use Rattle.pf_top.specs.Commands.{Command, EvaluationTells, IsReported, ReplayTells, Reported, Says, Tells, evaluate, needed, replay, script_files}
+use Rattle.pf_top.specs.Commands.{Command, EvaluationTells, IsReported, ReplayTells, Reported, Says, Tells, command_of, evaluate, load, needed, replay, script_files}
 use Rattle.pf_top.specs.Outputs.{IsReplay, Prints}
 use Rattle.pf_top.specs.Refusals.{refused_read, refused_script}
 use Rattle.pf_top.specs.Seen.{AllRead, FilesSeen, Unread}
-use Rattle.pf_top.specs.Words.{Evaluation, Replay, limits_with}
+use Rattle.pf_top.specs.Words.{Evaluation, Replay, evaluation_words, limits_with, load_words, replay_words}
+use Rattle.pf_top.specs.WordSteps.{command_in}
+use Rattle.pf_top.specs.declared.words.Command.{Command as CommandCode}
+use Rattle.pf_top.proofs.WordLaws.{limits_right}
 
 -- ---- what is written
 
@@ -140,6 +146,24 @@ pub run_stopped : (limits : Limits) (held : Held) (lines : List Numbered) (text 
 run_stopped limits held lines text (why, r) = inr (inr (refl, (why, reported limits held lines why text r)))
 
 -- ---- by the command
+
+-- the one that the words name
+pub named_by : (words : List (List ℕ)) (read named : CommandCode) → Some (command_in read) ≡ command_of words → read ≡ named → Some (command_in named) ≡ command_of words
+named_by words read named is same = ap (λ (c : CommandCode). Some (command_in c)) (sym same) ∙ is
+
+-- the limits of a replay
+abbrev replay_or : Replay → Option Command → Replay
+replay_or r (Some (replay chosen)) = chosen
+replay_or r _ = r
+
+pub limits_chosen : (words : List (List ℕ)) (limits : Limits) (r : Replay) → command_of words ≡ Some (replay r) → AreLimits limits → AreLimits (limits_with limits r)
+limits_chosen words limits r e right = by (replay_words words) (evaluation_words words) (load_words words) refl e where
+  by : (p : Option Replay) (q : Option Evaluation) (n : Option ℕ) → replay_words words ≡ p
+      → option_or (option_map replay p) (option_or (option_map evaluate q) (option_map load n)) ≡ Some (replay r) → AreLimits (limits_with limits r)
+  by (Some s) q n is h = limits_right words limits r (is ∙ ap (λ (c : Option Command). Some (replay_or s c)) h) right
+  by None (Some s) n is h = cc
+  by None None (Some seed) is h = cc
+  by None None None is h = cc
 
 -- no file is needed
 pub plain_said : (limits : Limits) (files : FilesSeen) (command : Option Command) (status : ℕ) (text : List ℕ)

@@ -3,7 +3,7 @@ use Rattle.std.proofs.Common.{◌≡◌, ℕ, Bool, ◌||◌, Ok, Err, List, [],
 use Rattle.std.specs.Str.{bytes_eq}
 use Rattle.pf_journal.specs.Scripts.{Numbered, ingest, ask, keep, plan}
 use Rattle.pf_client.specs.Replays.{Reaches, files_of}
-use Rattle.pf_top.specs.Correct.{script_files}
+use Rattle.pf_top.specs.Commands.{script_files}
 
 abbrev lines : List Numbered
 lines =

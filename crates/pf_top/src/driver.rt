@@ -227,7 +227,7 @@ fn evaluate_file<F: Files>(
     files: &mut F,
     named: &Evaluation<'_>,
 ) -> Result<Output, OutOfMemory>
-    ensures output { IfOk result (λ o. (limits : Limits) → Says limits (files_seen F.told F.sure F.lost F.faults F.failed files.old files.new) (Some (evaluate (evaluation_in named.now))) o.status o.text.items) }
+    ensures { IfOk result (λ o. (limits : Limits) → Says limits (files_seen F.told F.sure F.lost F.faults F.failed files.old files.new) (Some (evaluate (evaluation_in named.now))) o.status o.text.items) }
 {
     match read_file(alloc, files, named.file) {
         Ok(content) => evaluate_content(alloc, &content, named),

@@ -52,7 +52,7 @@ returns-in-Err-Line-clause-output g c =
 -- ---- the script runs
 
 pub replay_script-requires-clause-limits : goal.replay_script-requires-clause-limits
-replay_script-requires-clause-limits g c = subst AreLimits (sym c.chosen.ensures) c.requires.limits
+replay_script-requires-clause-limits g c = subst AreLimits (sym c.limits_with-chosen.ensures) c.requires.limits
 
 pub returns-in-Ok-clause-output : goal.returns-in-Ok-clause-output
 returns-in-Ok-clause-output g c =
@@ -62,8 +62,8 @@ returns-in-Ok-clause-output g c =
     (λ o output. prints_map _ _ (g.O.Sink.told c.args.out.now) (g.O.Sink.told c.replay_script.new.out) o.text.items
     (λ text p. replay_said seen (f.told c.read_file.new.files) (f.sure c.read_file.new.files) (f.lost c.read_file.new.files) (f.faults c.read_file.new.files)
     c.read_file.ensures.kept c.read_file.ensures.kept_lost c.read_file.ensures.kept_sure (search rules)
-    c.args.limits c.chosen (replay_in c.args.named.now) c.in-Ok-Bytes.bytes.items c.as_slice.result.now (lines_of c.in-Ok.script) o.status text
-    c.chosen.ensures (search rules) (search rules) (search rules) p) output)
+    c.args.limits c.limits_with-chosen.result (replay_in c.args.named.now) c.in-Ok-Bytes.bytes.items c.as_slice.result.now (lines_of c.in-Ok.script) o.status text
+    c.limits_with-chosen.ensures (search rules) (search rules) (search rules) p) output)
     c.replay_script.ensures.output
 
 pub returns-in-Ok-clause-begun : goal.returns-in-Ok-clause-begun
@@ -73,8 +73,8 @@ returns-in-Ok-clause-begun g c is =
     begins_map _ _ (g.O.Sink.told c.args.out.now) (g.O.Sink.told c.replay_script.new.out)
     (λ text p. replay_said seen (f.told c.read_file.new.files) (f.sure c.read_file.new.files) (f.lost c.read_file.new.files) (f.faults c.read_file.new.files)
     c.read_file.ensures.kept c.read_file.ensures.kept_lost c.read_file.ensures.kept_sure (search rules)
-    c.args.limits c.chosen (replay_in c.args.named.now) c.in-Ok-Bytes.bytes.items c.as_slice.result.now (lines_of c.in-Ok.script) 6 text
-    c.chosen.ensures (search rules) (search rules) (search rules) p)
+    c.args.limits c.limits_with-chosen.result (replay_in c.args.named.now) c.in-Ok-Bytes.bytes.items c.as_slice.result.now (lines_of c.in-Ok.script) 6 text
+    c.limits_with-chosen.ensures (search rules) (search rules) (search rules) p)
     (c.replay_script.ensures.begun is)
 
 pub returns-in-Ok-clause-broken : goal.returns-in-Ok-clause-broken
@@ -84,6 +84,6 @@ returns-in-Ok-clause-broken g c is =
     part_map _ _ (g.O.Sink.told c.args.out.now) (g.O.Sink.told c.replay_script.new.out)
     (λ text p. replay_said seen (f.told c.read_file.new.files) (f.sure c.read_file.new.files) (f.lost c.read_file.new.files) (f.faults c.read_file.new.files)
     c.read_file.ensures.kept c.read_file.ensures.kept_lost c.read_file.ensures.kept_sure (search rules)
-    c.args.limits c.chosen (replay_in c.args.named.now) c.in-Ok-Bytes.bytes.items c.as_slice.result.now (lines_of c.in-Ok.script) 6 text
-    c.chosen.ensures (search rules) (search rules) (search rules) p)
+    c.args.limits c.limits_with-chosen.result (replay_in c.args.named.now) c.in-Ok-Bytes.bytes.items c.as_slice.result.now (lines_of c.in-Ok.script) 6 text
+    c.limits_with-chosen.ensures (search rules) (search rules) (search rules) p)
     (c.replay_script.ensures.broken is)
