@@ -1,5 +1,5 @@
 -- What the session of a seed gives.
-use Rattle.std.proofs.Common.{◌≡◌, ℕ, inl, inr, rules, Bool, true, false, cond, Option, Some, None, Result, Ok, Err, IfOk, List, [], ◌∷◌, sym, ap, ◌∙◌, subst}
+use Rattle.std.proofs.Common.{◌≡◌, ℕ, inl, inr, rules, Bool, true, false, cond, Option, Some, None, Result, Ok, Err, IfOk, List, sym, ap, ◌∙◌, subst}
 use Rattle.std.specs.BTreeMap.{IsEmpty, get_by_text}
 use Rattle.pf_base.specs.declared.plain.Limits.{Limits}
 use Rattle.pf_gen.specs.Sessions.{Session, session}

@@ -1,4 +1,4 @@
-use Rattle.std.proofs.Common.{rules, inl, length}
+use Rattle.std.proofs.Common.{rules, inl}
 use Rattle.pf_script.specs.Lines.{lines_of}
 use Rattle.pf_client.proofs.Gone.{left_last}
 use Rattle.pf_client.proofs.Writing.{grows_none}
