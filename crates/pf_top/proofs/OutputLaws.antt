@@ -19,6 +19,7 @@ use Rattle.pf_client.specs.Drives.{IsAnyReport, IsReport}
 use Rattle.pf_client.specs.Files.{AreHeld, AreLoaded, Contents, HasContent, HoldsContent, IsKept, LetsGo, NamesFile, TellsContent}
 use Rattle.pf_client.specs.Replays.{Agree, HasFailed, Held, Reaches, files_of, why_by}
 use Rattle.pf_client.specs.Sent.{WritesTo}
+use Rattle.pf_client.specs.Tries.{HaveCause}
 use Rattle.pf_client.specs.Written.{Begins, Writes, WritesPart}
 use Rattle.pf_client.specs.declared.loaded.Content.{Content}
 use Rattle.pf_client.specs.declared.loaded.Content.TheVariants.{Bytes, TooLong}
@@ -30,7 +31,7 @@ use Rattle.pf_client.proofs.Writing.{part_written, writes_all, writes_front, wri
 use Rattle.pf_top.specs.Commands.{Command, EvaluationTells, IsReported, ReplayTells, Reported, Says, Tells, command_of, evaluate, load, needed, replay, script_files}
 use Rattle.pf_top.specs.Outputs.{IsReplay, Prints}
 use Rattle.pf_top.specs.Refusals.{refused_read, refused_script}
-use Rattle.pf_top.specs.Seen.{AllRead, FilesSeen, Unread}
+use Rattle.pf_top.specs.Seen.{AllRead, FilesSeen, HopsSeen, Unread}
 use Rattle.pf_top.specs.Words.{Evaluation, Replay, evaluation_words, limits_with, load_words, replay_words}
 use Rattle.pf_top.specs.WordSteps.{command_in}
 use Rattle.pf_top.specs.declared.words.Command.{Command as CommandCode}
@@ -69,7 +70,7 @@ script_held : (held : Held) (kept : Contents) (script : List ℕ) (bytes : Vec �
 script_held held kept script bytes h has = (h script (record { content = Bytes bytes; last = has.last }) has.there).0
 
 -- what a run gives, over one reading of each file
-module _ (limits : Limits) (files : FilesSeen) (script : List ℕ) (bytes : Vec ℕ Global) (lines : List Numbered) (first kept left : Contents) (old new : Option (List ℕ))
+module _ (limits : Limits) (hops : HopsSeen) (files : FilesSeen) (script : List ℕ) (bytes : Vec ℕ Global) (lines : List Numbered) (first kept left : Contents) (old new : Option (List ℕ))
     (loaded : AreLoaded files.told files.lost first lines kept) (at_hand : get_by_text first script ≡ Some (record { content = Bytes bytes; last = 0 })) (steady : files.after ≡ files.before)
     (go : LetsGo kept script 0 left) where
   reading : (held : Held) × (Agree files.told held × AreHeld held kept)
@@ -78,7 +79,7 @@ module _ (limits : Limits) (files : FilesSeen) (script : List ℕ) (bytes : Vec 
   are_held : AreHeld reading.0 left
   are_held = left_held reading.0 kept script 0 left go reading.1.1
 
-  replay_text : (status : ℕ) (text : List ℕ) → IsReported limits reading.0 (lines ∷ []) status text → IsReplay limits files script bytes.items lines status text
+  replay_text : (status : ℕ) (text : List ℕ) → IsReported limits hops reading.0 (lines ∷ []) status text → IsReplay limits hops files script bytes.items lines status text
   replay_text status text r = record {
     held = reading.0;
     agree = reading.1.0;
@@ -86,16 +87,16 @@ module _ (limits : Limits) (files : FilesSeen) (script : List ℕ) (bytes : Vec 
     output = inl (record { there = each_file (λ name. files.lost name ≡ false) lines (read_there files.told files.lost first kept lines loaded); steady = steady }, r);
   }
 
-  pub replayed : (status : ℕ) (rest : List ℕ) → ((held : Held) → AreHeld held left → Prints (IsReported limits held (lines ∷ []) status) old new rest)
-      → Prints (IsReplay limits files script bytes.items lines status) old new rest
+  pub replayed : (status : ℕ) (rest : List ℕ) → ((held : Held) → AreHeld held left → Prints (IsReported limits hops held (lines ∷ []) status) old new rest)
+      → Prints (IsReplay limits hops files script bytes.items lines status) old new rest
   replayed status rest run =
-      prints_map (IsReported limits reading.0 (lines ∷ []) status) (IsReplay limits files script bytes.items lines status) old new rest (replay_text status) (run reading.0 are_held)
+      prints_map (IsReported limits hops reading.0 (lines ∷ []) status) (IsReplay limits hops files script bytes.items lines status) old new rest (replay_text status) (run reading.0 are_held)
 
-  pub replay_begun : ((held : Held) → AreHeld held left → Begins (IsReported limits held (lines ∷ []) 6) old new) → Begins (IsReplay limits files script bytes.items lines 6) old new
-  replay_begun run = begins_map (IsReported limits reading.0 (lines ∷ []) 6) (IsReplay limits files script bytes.items lines 6) old new (replay_text 6) (run reading.0 are_held)
+  pub replay_begun : ((held : Held) → AreHeld held left → Begins (IsReported limits hops held (lines ∷ []) 6) old new) → Begins (IsReplay limits hops files script bytes.items lines 6) old new
+  replay_begun run = begins_map (IsReported limits hops reading.0 (lines ∷ []) 6) (IsReplay limits hops files script bytes.items lines 6) old new (replay_text 6) (run reading.0 are_held)
 
-  pub replay_broken : ((held : Held) → AreHeld held left → WritesPart (IsReported limits held (lines ∷ []) 6) old new) → WritesPart (IsReplay limits files script bytes.items lines 6) old new
-  replay_broken run = part_map (IsReported limits reading.0 (lines ∷ []) 6) (IsReplay limits files script bytes.items lines 6) old new (replay_text 6) (run reading.0 are_held)
+  pub replay_broken : ((held : Held) → AreHeld held left → WritesPart (IsReported limits hops held (lines ∷ []) 6) old new) → WritesPart (IsReplay limits hops files script bytes.items lines 6) old new
+  replay_broken run = part_map (IsReported limits hops reading.0 (lines ∷ []) 6) (IsReplay limits hops files script bytes.items lines 6) old new (replay_text 6) (run reading.0 are_held)
 
 -- the files that lines name are left where the script is let go
 pub left_files : (told : List ℕ → Option (List ℕ)) (lost : List ℕ → Bool) (first : Contents) (lines : List Numbered) (kept : Contents) (script : List ℕ) (left : Contents)
@@ -105,11 +106,11 @@ left_files told lost first lines kept script left following loaded go name named
     left_there kept (Some script) 0 left go name k (last_behind lines 0 k.file.last name named (all_first [] lines following) (loaded.lasts name k.file k.there))
 
 -- a file of the script was not read
-pub replay_failed : (limits : Limits) (files : FilesSeen) (script bytes name given : List ℕ) (lines : List Numbered) (status : ℕ) (text : List ℕ)
+pub replay_failed : (limits : Limits) (hops : HopsSeen) (files : FilesSeen) (script bytes name given : List ℕ) (lines : List Numbered) (status : ℕ) (text : List ℕ)
     → Holds (files.told script) bytes → Reaches files.lost (files_of lines) name
     → HasFailed files.sure files.before files.after files.failed name → (status ≡ 4) × (text ≡ refused_read given) → given ≡ name
-    → IsReplay limits files script bytes lines status text
-replay_failed limits files script bytes name given lines status text holds reached fault p e =
+    → IsReplay limits hops files script bytes lines status text
+replay_failed limits hops files script bytes name given lines status text holds reached fault p e =
     let h = holding_bytes files.told script bytes holds in
     record {
       held = h.0;
@@ -119,8 +120,8 @@ replay_failed limits files script bytes name given lines status text holds reach
     }
 
 -- what a run gives, once the script and the files are read, by its report
-reported : (limits : Limits) (held : Held) (lines : List Numbered) (why : Why) (text : List ℕ) → IsReport limits held lines why text → Reported limits held (lines ∷ []) why text
-reported limits held lines why text r = record {
+reported : (limits : Limits) (hops : HopsSeen) (after : ℕ) (held : Held) (lines : List Numbered) (why : Why) (text : List ℕ) → IsReport limits held lines (HaveCause hops.most hops.before after) why text → Reported limits hops held (lines ∷ []) why text
+reported limits hops after held lines why text r = record {
   journal = r.journal;
   names = r.names;
   readings = r.readings;
@@ -129,21 +130,22 @@ reported limits held lines why text r = record {
   named = r.named;
   woven = r.woven;
   stopped = r.stopped;
+  spared = r.tries.spared;
   whole = r.whole;
 }
 
-run_ended : (limits : Limits) (held : Held) (lines : List Numbered) (full : Bool) (status : ℕ) (text : List ℕ)
-    → status ≡ cond full 8 0 → IsReport limits held lines (why_by full) text → IsReported limits held (lines ∷ []) status text
-run_ended limits held lines false status text is r = inl (is, reported limits held lines at_end text r)
-run_ended limits held lines true status text is r = inr (inl (is, reported limits held lines at_full text r))
+run_ended : (limits : Limits) (hops : HopsSeen) (after : ℕ) (held : Held) (lines : List Numbered) (full : Bool) (status : ℕ) (text : List ℕ)
+    → status ≡ cond full 8 0 → IsReport limits held lines (HaveCause hops.most hops.before after) (why_by full) text → IsReported limits hops held (lines ∷ []) status text
+run_ended limits hops after held lines false status text is r = inl (is, reported limits hops after held lines at_end text r)
+run_ended limits hops after held lines true status text is r = inr (inl (is, reported limits hops after held lines at_full text r))
 
-pub run_printed : (limits : Limits) (held : Held) (lines : List Numbered) (full : Bool) (status : ℕ) (rest : List ℕ) (old new : Option (List ℕ))
-    → status ≡ cond full 8 0 → rest ≡ [] → Writes (IsReport limits held lines (why_by full)) old new → Prints (IsReported limits held (lines ∷ []) status) old new rest
-run_printed limits held lines full status rest old new is none w =
-    (w.0, (run_ended limits held lines full status w.0 is w.1.0, subst (WritesTo old new w.0) (sym none) (writes_all old new w.0 w.1.1)))
+pub run_printed : (limits : Limits) (hops : HopsSeen) (after : ℕ) (held : Held) (lines : List Numbered) (full : Bool) (status : ℕ) (rest : List ℕ) (old new : Option (List ℕ))
+    → status ≡ cond full 8 0 → rest ≡ [] → Writes (IsReport limits held lines (HaveCause hops.most hops.before after) (why_by full)) old new → Prints (IsReported limits hops held (lines ∷ []) status) old new rest
+run_printed limits hops after held lines full status rest old new is none w =
+    (w.0, (run_ended limits hops after held lines full status w.0 is w.1.0, subst (WritesTo old new w.0) (sym none) (writes_all old new w.0 w.1.1)))
 
-pub run_stopped : (limits : Limits) (held : Held) (lines : List Numbered) (text : List ℕ) → IsAnyReport limits held lines text → IsReported limits held (lines ∷ []) 6 text
-run_stopped limits held lines text (why, r) = inr (inr (refl, (why, reported limits held lines why text r)))
+pub run_stopped : (limits : Limits) (hops : HopsSeen) (after : ℕ) (held : Held) (lines : List Numbered) (text : List ℕ) → IsAnyReport limits held lines (HaveCause hops.most hops.before after) text → IsReported limits hops held (lines ∷ []) 6 text
+run_stopped limits hops after held lines text (why, r) = inr (inr (refl, (why, reported limits hops after held lines why text r)))
 
 -- ---- by the command
 
@@ -166,10 +168,10 @@ limits_chosen words limits r e right = by (replay_words words) (evaluation_words
   by None None None is h = cc
 
 -- no file is needed
-pub plain_said : (limits : Limits) (files : FilesSeen) (command : Option Command) (status : ℕ) (text : List ℕ)
-    → ((held : Held) → needed held command ≡ []) → files.after ≡ files.before → ((held : Held) → Tells limits held command status text)
-    → Says limits files command status text
-plain_said limits files command status text nothing steady tells =
+pub plain_said : (limits : Limits) (hops : HopsSeen) (files : FilesSeen) (command : Option Command) (status : ℕ) (text : List ℕ)
+    → ((held : Held) → needed held command ≡ []) → files.after ≡ files.before → ((held : Held) → Tells limits hops held command status text)
+    → Says limits hops files command status text
+plain_said limits hops files command status text nothing steady tells =
     let h = holding_none files.told in
     record {
       held = h.0;
@@ -178,18 +180,18 @@ plain_said limits files command status text nothing steady tells =
     }
 
 -- a file that is needed was not read
-pub unread_said : (limits : Limits) (files : FilesSeen) (command : Option Command) (name : List ℕ) (status : ℕ) (text : List ℕ)
+pub unread_said : (limits : Limits) (hops : HopsSeen) (files : FilesSeen) (command : Option Command) (name : List ℕ) (status : ℕ) (text : List ℕ)
     → ((held : Held) → Reaches files.lost (needed held command) name) → HasFailed files.sure files.before files.after files.failed name
-    → (status ≡ 4) × (text ≡ refused_read name) → Says limits files command status text
-unread_said limits files command name status text reached fault p =
+    → (status ≡ 4) × (text ≡ refused_read name) → Says limits hops files command status text
+unread_said limits hops files command name status text reached fault p =
     let h = holding_none files.told in
     record { held = h.0; agree = h.1; said = inr (p.0, record { name = name; reached = reached h.0; fault = fault; whole = p.1 }) }
 
 -- the file of an evaluation was read
-pub evaluation_said : (limits : Limits) (files : FilesSeen) (e : Evaluation) (content : Content) (status : ℕ) (text : List ℕ)
+pub evaluation_said : (limits : Limits) (hops : HopsSeen) (files : FilesSeen) (e : Evaluation) (content : Content) (status : ℕ) (text : List ℕ)
     → TellsContent (files.told e.file) content → files.lost e.file ≡ false → files.after ≡ files.before
-    → ((bytes : List ℕ) → HoldsContent bytes content → EvaluationTells bytes e status text) → Says limits files (Some (evaluate e)) status text
-evaluation_said limits files e content status text holds found steady output =
+    → ((bytes : List ℕ) → HoldsContent bytes content → EvaluationTells bytes e status text) → Says limits hops files (Some (evaluate e)) status text
+evaluation_said limits hops files e content status text holds found steady output =
     let one = holding_one (files.told e.file) content holds in
     let h = holding_bytes files.told e.file one.0 one.1.0 in
     record {
@@ -238,11 +240,11 @@ module _ (old : FilesSeen) (told : List ℕ → Option (List ℕ)) (sure lost : 
     whole = u.whole;
   }
 
-  pub replay_said : (limits chosen : Limits) (r : Replay) (bytes given : List ℕ) (lines : List Numbered) (status : ℕ) (text : List ℕ)
+  pub replay_said : (limits chosen : Limits) (hops : HopsSeen) (r : Replay) (bytes given : List ℕ) (lines : List Numbered) (status : ℕ) (text : List ℕ)
       → chosen ≡ limits_with limits r → given ≡ bytes → script_of true given ≡ Ok lines → old.lost r.script ≡ false
-      → IsReplay chosen (record { told = told; sure = sure; lost = lost; before = middle; after = old.after; failed = old.failed }) r.script bytes lines status text
-      → Says limits old (Some (replay r)) status text
-  replay_said limits chosen r bytes given lines status text by_words same read found p = record {
+      → IsReplay chosen hops (record { told = told; sure = sure; lost = lost; before = middle; after = old.after; failed = old.failed }) r.script bytes lines status text
+      → Says limits hops old (Some (replay r)) status text
+  replay_said limits chosen hops r bytes given lines status text by_words same read found p = record {
     held = p.held;
     agree = λ name. subst (λ (t : Option (List ℕ)). Holds t (p.held name)) (same_told name) (p.agree name);
     said = said p.output;
@@ -250,19 +252,19 @@ module _ (old : FilesSeen) (told : List ℕ → Option (List ℕ)) (sure lost : 
     is : script_of true (p.held r.script) ≡ Ok lines
     is = ap (script_of true) (p.same ∙ sym same) ∙ read
 
-    said : (AllRead since (files_of lines) × IsReported chosen p.held (lines ∷ []) status text) ⊎ ((status ≡ 4) × Unread since (files_of lines) text)
-        → (AllRead old (needed p.held (Some (replay r))) × ReplayTells limits p.held r status text) ⊎ ((status ≡ 4) × Unread old (needed p.held (Some (replay r))) text)
+    said : (AllRead since (files_of lines) × IsReported chosen hops p.held (lines ∷ []) status text) ⊎ ((status ≡ 4) × Unread since (files_of lines) text)
+        → (AllRead old (needed p.held (Some (replay r))) × ReplayTells limits hops p.held r status text) ⊎ ((status ≡ 4) × Unread old (needed p.held (Some (replay r))) text)
     said (inl (a, run)) = inl (
       all_read p.held r (Ok lines) is old found (all_since (files_of lines) a),
-      inl (lines, (is, subst (λ (l : Limits). IsReported l p.held (lines ∷ []) status text) by_words run)),
+      inl (lines, (is, subst (λ (l : Limits). IsReported l hops p.held (lines ∷ []) status text) by_words run)),
     )
     said (inr (four, u)) = inr (four, none_read p.held r (Ok lines) is old text found (unread_since (files_of lines) text u))
 
 -- a script that is refused
-pub refused_said : (limits : Limits) (files : FilesSeen) (r : Replay) (bytes given : List ℕ) (line printed status : ℕ) (text : List ℕ)
+pub refused_said : (limits : Limits) (hops : HopsSeen) (files : FilesSeen) (r : Replay) (bytes given : List ℕ) (line printed status : ℕ) (text : List ℕ)
     → Holds (files.told r.script) bytes → given ≡ bytes → script_of true given ≡ Err line → files.lost r.script ≡ false → files.after ≡ files.before
-    → (status ≡ 3) × (text ≡ refused_script 0 printed) → printed ≡ line → Says limits files (Some (replay r)) status text
-refused_said limits files r bytes given line printed status text holds e bad found steady p same =
+    → (status ≡ 3) × (text ≡ refused_script 0 printed) → printed ≡ line → Says limits hops files (Some (replay r)) status text
+refused_said limits hops files r bytes given line printed status text holds e bad found steady p same =
     let h = holding_bytes files.told r.script bytes holds in
     let is : script_of true (h.0 r.script) ≡ Err line = ap (script_of true) (h.1.1 ∙ sym e) ∙ bad in
     record {
@@ -282,12 +284,12 @@ unfolding script_of
 long_script bytes h = ap (λ (b : Bool). cond b (lines_from true 1 [] (file_lines bytes)) (Err 0)) (past (length bytes) most_bytes h)
 
 -- a script that is too long
-pub long_said : (limits : Limits) (files : FilesSeen) (r : Replay) (status : ℕ) (text : List ℕ)
+pub long_said : (limits : Limits) (hops : HopsSeen) (files : FilesSeen) (r : Replay) (status : ℕ) (text : List ℕ)
     → LongerThan (files.told r.script) most_bytes → files.lost r.script ≡ false → files.after ≡ files.before
-    → (status ≡ 3) × (text ≡ refused_script 0 0) → Says limits files (Some (replay r)) status text
-long_said limits files r status text long found steady p =
+    → (status ≡ 3) × (text ≡ refused_script 0 0) → Says limits hops files (Some (replay r)) status text
+long_said limits hops files r status text long found steady p =
     let h = holding_one (files.told r.script) TooLong long in
-    refused_said limits files r h.0 h.0 0 0 status text h.1.0 refl (long_script h.0 h.1.1) found steady p refl
+    refused_said limits hops files r h.0 h.0 0 0 status text h.1.0 refl (long_script h.0 h.1.1) found steady p refl
 
 -- bytes that were read are those that are told
 pub bytes_told : (told : Option (List ℕ)) (content : Content) (bytes : Vec ℕ Global) → content ≡ Bytes bytes → TellsContent told content

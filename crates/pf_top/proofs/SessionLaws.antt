@@ -8,11 +8,13 @@ use Rattle.pf_journal.specs.Summaries.{Tally, asks, summary_text}
 use Rattle.pf_client.specs.Files.{AreHeld, AreThere, AreTold, Contents, HoldsContent, TellsContent}
 use Rattle.pf_client.specs.Replays.{Held}
 use Rattle.pf_client.specs.Summaries.{IsSummary}
+use Rattle.pf_client.specs.Tries.{AreSpared, HaveCause}
 use Rattle.pf_client.specs.declared.loaded.Content.{Content}
 use Rattle.pf_client.specs.declared.loaded.Content.TheVariants.{Bytes, TooLong}
 use Rattle.pf_client.specs.declared.loaded.ReadFile.{ReadFile}
 use Rattle.pf_top.specs.Pages.{page_in}
 use Rattle.pf_top.specs.Refusals.{refused_script}
+use Rattle.pf_top.specs.Seen.{HopsSeen}
 use Rattle.pf_top.specs.Commands.{IsSummed, SessionTells}
 
 -- two facts of a call's result
@@ -43,26 +45,43 @@ pub told_held : (held : Held) (kept : Contents) → AreTold (λ name. Some (held
 told_held held kept told name file there = holds_told (held name) file.content (told name file there)
 
 -- what a session's run gives, by its sums
-pub summed_by : (limits : Limits) (held : Held) (seed queries : ℕ) (lines : List Numbered) (full : Bool) (t : Tally) (status : ℕ) (text : List ℕ)
-    → queries ≡ asks lines → status ≡ cond full 8 0 → text ≡ summary_text seed queries t → IsSummary limits held lines full t
-    → IsSummed limits held seed lines status text
-summed_by limits held seed queries lines false t status text many is told sum = inl (is, (t, (sum, told ∙ ap (λ (n : ℕ). summary_text seed n t) many)))
-summed_by limits held seed queries lines true t status text many is told sum = inr (is, (t, (sum, told ∙ ap (λ (n : ℕ). summary_text seed n t) many)))
+spared : (limits : Limits) (hops : HopsSeen) (after : ℕ) (held : Held) (lines : List Numbered) (full : Bool) (t : Tally)
+    → IsSummary limits held lines (HaveCause hops.most hops.before after) full t → IsSummary limits held lines (AreSpared hops.most hops.before) full t
+spared limits hops after held lines full t s = record {
+  journal = s.journal;
+  names = s.names;
+  readings = s.readings;
+  rest = s.rest;
+  legal = s.legal;
+  named = s.named;
+  woven = s.woven;
+  ended = s.ended;
+  tries = s.tries.spared;
+  whole = s.whole;
+}
+
+pub summed_by : (limits : Limits) (hops : HopsSeen) (after : ℕ) (held : Held) (seed queries : ℕ) (lines : List Numbered) (full : Bool) (t : Tally) (status : ℕ) (text : List ℕ)
+    → queries ≡ asks lines → status ≡ cond full 8 0 → text ≡ summary_text seed queries t → IsSummary limits held lines (HaveCause hops.most hops.before after) full t
+    → IsSummed limits hops held seed lines status text
+summed_by limits hops after held seed queries lines false t status text many is told sum =
+    inl (is, (t, (spared limits hops after held lines false t sum, told ∙ ap (λ (n : ℕ). summary_text seed n t) many)))
+summed_by limits hops after held seed queries lines true t status text many is told sum =
+    inr (is, (t, (spared limits hops after held lines true t sum, told ∙ ap (λ (n : ℕ). summary_text seed n t) many)))
 
 -- by what was generated
-pub seed_summed : (limits : Limits) (seed : ℕ) (g : Session) (given : List ℕ) (lines : List Numbered) (status : ℕ) (text : List ℕ) → g ≡ session seed → given ≡ g.script
-    → script_of false given ≡ Ok lines → IsSummed limits (page_in g.files) seed lines status text → SessionTells limits seed status text
-seed_summed limits seed g given lines status text is same read sum = inl (
+pub seed_summed : (limits : Limits) (hops : HopsSeen) (seed : ℕ) (g : Session) (given : List ℕ) (lines : List Numbered) (status : ℕ) (text : List ℕ) → g ≡ session seed → given ≡ g.script
+    → script_of false given ≡ Ok lines → IsSummed limits hops (page_in g.files) seed lines status text → SessionTells limits hops seed status text
+seed_summed limits hops seed g given lines status text is same read sum = inl (
   lines,
   (
     sym (ap (script_of false) (same ∙ ap (λ (s : Session). s.script) is)) ∙ read,
-    subst (λ (s : Session). IsSummed limits (page_in s.files) seed lines status text) is sum,
+    subst (λ (s : Session). IsSummed limits hops (page_in s.files) seed lines status text) is sum,
   ),
 )
 
-pub seed_refused : (limits : Limits) (seed : ℕ) (g : Session) (given : List ℕ) (line printed status : ℕ) (text : List ℕ) → g ≡ session seed → given ≡ g.script
-    → script_of false given ≡ Err line → (status ≡ 3) × (text ≡ refused_script 0 printed) → printed ≡ line → SessionTells limits seed status text
-seed_refused limits seed g given line printed status text is same bad p e = inr (
+pub seed_refused : (limits : Limits) (hops : HopsSeen) (seed : ℕ) (g : Session) (given : List ℕ) (line printed status : ℕ) (text : List ℕ) → g ≡ session seed → given ≡ g.script
+    → script_of false given ≡ Err line → (status ≡ 3) × (text ≡ refused_script 0 printed) → printed ≡ line → SessionTells limits hops seed status text
+seed_refused limits hops seed g given line printed status text is same bad p e = inr (
   p.0,
   (
     line,

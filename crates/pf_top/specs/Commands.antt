@@ -20,9 +20,10 @@ use Rattle.pf_journal.specs.Summaries.{Tally, asks, summary_text}
 use Rattle.pf_journal.specs.Weave.{Weave}
 use Rattle.pf_client.specs.Replays.{Agree, HaveStopped, Held, files_of}
 use Rattle.pf_client.specs.Summaries.{IsSummary}
+use Rattle.pf_client.specs.Tries.{AreSpared}
 use Rattle.pf_top.specs.Pages.{page_in}
 use Rattle.pf_top.specs.Refusals.{refused_file, refused_not_built, refused_script}
-use Rattle.pf_top.specs.Seen.{AllRead, FilesSeen, Unread}
+use Rattle.pf_top.specs.Seen.{AllRead, FilesSeen, HopsSeen, Unread}
 use Rattle.pf_top.specs.Words.{Evaluation, Replay, evaluation_words, limits_with, load_words, replay_words}
 
 pub data Command : Type 0 where
@@ -59,8 +60,8 @@ needed held (Some (load seed)) = []
 -- ---- what each command prints, once its files are read: a text with its status
 
 -- text is the report of a legal journal that is woven from the scripts, within these limits, by clients that stopped for this
--- cause
-pub record Reported (limits : Limits) (held : Held) (scripts : List (List Numbered)) (why : Why) (text : List ℕ) : Type 0 where
+-- cause; where each hop tells what it counts at most, failed tries are no more than what was left to count
+pub record Reported (limits : Limits) (hops : HopsSeen) (held : Held) (scripts : List (List Numbered)) (why : Why) (text : List ℕ) : Type 0 where
   pub journal : List Entry
   pub names : List (List ℕ)
   pub readings : Readings
@@ -69,20 +70,21 @@ pub record Reported (limits : Limits) (held : Held) (scripts : List (List Number
   pub named : AreNames names journal
   pub woven : Weave (record { limits = limits; names = names; files = held; readings = readings }) journal scripts rest
   pub stopped : HaveStopped why rest.clients
+  pub spared : AreSpared hops.most hops.before rest.failed
   pub whole : text ≡ report (record { limits = limits; names = names; files = held; readings = readings }) journal scripts rest
 
 -- 0: each client ran its whole script; 8: one met the full journal; 6, of which only a front need be written: any cause
-abbrev pub IsReported : Limits → Held → List (List Numbered) → ℕ → List ℕ → Type 0
-IsReported limits held scripts status text =
-    ((status ≡ 0) × Reported limits held scripts at_end text)
-    ⊎ (((status ≡ 8) × Reported limits held scripts at_full text)
-    ⊎ ((status ≡ 6) × ((why : Why) × Reported limits held scripts why text)))
+abbrev pub IsReported : Limits → HopsSeen → Held → List (List Numbered) → ℕ → List ℕ → Type 0
+IsReported limits hops held scripts status text =
+    ((status ≡ 0) × Reported limits hops held scripts at_end text)
+    ⊎ (((status ≡ 8) × Reported limits hops held scripts at_full text)
+    ⊎ ((status ≡ 6) × ((why : Why) × Reported limits hops held scripts why text)))
 
 -- the report of the script that is named, within the limits that are chosen; 3: its first line that is none, or 0 where it is
 -- too long
-abbrev pub ReplayTells : Limits → Held → Replay → ℕ → List ℕ → Type 0
-ReplayTells limits held r status text =
-    ((lines : List Numbered) × ((script_of true (held r.script) ≡ Ok lines) × IsReported (limits_with limits r) held (lines ∷ []) status text))
+abbrev pub ReplayTells : Limits → HopsSeen → Held → Replay → ℕ → List ℕ → Type 0
+ReplayTells limits hops held r status text =
+    ((lines : List Numbered) × ((script_of true (held r.script) ≡ Ok lines) × IsReported (limits_with limits r) hops held (lines ∷ []) status text))
     ⊎ ((status ≡ 3) × ((line : ℕ) × ((script_of true (held r.script) ≡ Err line) × (text ≡ refused_script 0 line))))
 
 -- what is printed of a query over times, and the samples of a batch
@@ -100,35 +102,37 @@ EvaluationTells bytes e status text =
     ((status ≡ 0) × ((batch : BatchData) × (Gives bytes 0 batch × IsEvaluationText batch e text)))
     ⊎ ((status ≡ 3) × ((refusal : FileRefusal) × (IsRefusedAs bytes 0 refusal × (text ≡ refused_file refusal))))
 
--- text sums up a legal journal that is woven from one script, whose client met the full journal or ran it whole
-abbrev pub IsSum : Limits → Held → (seed : ℕ) → List Numbered → (full : Bool) → List ℕ → Type 0
-IsSum limits held seed lines full text = (t : Tally) × (IsSummary limits held lines full t × (text ≡ summary_text seed (asks lines) t))
+-- text sums up a legal journal that is woven from one script, whose client met the full journal or ran it whole, with failed tries
+-- as above
+abbrev pub IsSum : Limits → HopsSeen → Held → (seed : ℕ) → List Numbered → (full : Bool) → List ℕ → Type 0
+IsSum limits hops held seed lines full text =
+    (t : Tally) × (IsSummary limits held lines (AreSpared hops.most hops.before) full t × (text ≡ summary_text seed (asks lines) t))
 
 -- 0: the client ran the whole script; 8: it met the full journal
-abbrev pub IsSummed : Limits → Held → (seed : ℕ) → List Numbered → ℕ → List ℕ → Type 0
-IsSummed limits held seed lines status text =
-    ((status ≡ 0) × IsSum limits held seed lines false text) ⊎ ((status ≡ 8) × IsSum limits held seed lines true text)
+abbrev pub IsSummed : Limits → HopsSeen → Held → (seed : ℕ) → List Numbered → ℕ → List ℕ → Type 0
+IsSummed limits hops held seed lines status text =
+    ((status ≡ 0) × IsSum limits hops held seed lines false text) ⊎ ((status ≡ 8) × IsSum limits hops held seed lines true text)
 
 -- the sums of the generated session of a seed, over its pages; 3: the first line of its script that is none
-abbrev pub SessionTells : Limits → (seed : ℕ) → ℕ → List ℕ → Type 0
-SessionTells limits seed status text =
+abbrev pub SessionTells : Limits → HopsSeen → (seed : ℕ) → ℕ → List ℕ → Type 0
+SessionTells limits hops seed status text =
     ((lines : List Numbered) × ((script_of false (session seed).script ≡ Ok lines)
-    × IsSummed limits (page_in (session seed).files) seed lines status text))
+    × IsSummed limits hops (page_in (session seed).files) seed lines status text))
     ⊎ ((status ≡ 3) × ((line : ℕ) × ((script_of false (session seed).script ≡ Err line) × (text ≡ refused_script 0 line))))
 
 -- ---- what the program prints
 
 -- by the command; 9: the words are of no form that is built
-abbrev pub Tells : Limits → Held → Option Command → ℕ → List ℕ → Type 0
-Tells limits held None status text = (status ≡ 9) × (text ≡ refused_not_built)
-Tells limits held (Some (replay r)) status text = ReplayTells limits held r status text
-Tells limits held (Some (evaluate e)) status text = EvaluationTells (held e.file) e status text
-Tells limits held (Some (load seed)) status text = SessionTells limits seed status text
+abbrev pub Tells : Limits → HopsSeen → Held → Option Command → ℕ → List ℕ → Type 0
+Tells limits hops held None status text = (status ≡ 9) × (text ≡ refused_not_built)
+Tells limits hops held (Some (replay r)) status text = ReplayTells limits hops held r status text
+Tells limits hops held (Some (evaluate e)) status text = EvaluationTells (held e.file) e status text
+Tells limits hops held (Some (load seed)) status text = SessionTells limits hops seed status text
 
 -- a text with its status, over one reading of each file, which gave what is told: all files that are needed were read; or 4:
 -- one was not
-pub record Says (limits : Limits) (files : FilesSeen) (command : Option Command) (status : ℕ) (text : List ℕ) : Type 0 where
+pub record Says (limits : Limits) (hops : HopsSeen) (files : FilesSeen) (command : Option Command) (status : ℕ) (text : List ℕ) : Type 0 where
   pub held : Held
   pub agree : Agree files.told held
-  pub said : (AllRead files (needed held command) × Tells limits held command status text)
+  pub said : (AllRead files (needed held command) × Tells limits hops held command status text)
       ⊎ ((status ≡ 4) × Unread files (needed held command) text)

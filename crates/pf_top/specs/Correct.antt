@@ -9,9 +9,9 @@ use Rattle.pf_top.specs.Seen.{Outside}
 -- how a run ends, by its status, with the limits of a run without options
 pub data Correct (limits : Limits) (o : Outside) (words : List (List ℕ)) (status : ℕ) : Type 0 where
   -- what the words ask for was written, whole, with its status
-  written : (taken : o.out_after ≡ o.out_before) → Writes (Says limits o.files (command_of words) status) o.old o.new → Correct limits o words status
+  written : (taken : o.out_after ≡ o.out_before) → Writes (Says limits o.hops o.files (command_of words) status) o.old o.new → Correct limits o words status
   -- 5: the output's count of faults rose, behind a front of what was to be written
   unwritten : status ≡ 5 → Rose o.out_before o.out_after
-      → WritesPart (λ text. (meant : ℕ) × Says limits o.files (command_of words) meant text) o.old o.new → Correct limits o words status
+      → WritesPart (λ text. (meant : ℕ) × Says limits o.hops o.files (command_of words) meant text) o.old o.new → Correct limits o words status
   -- 6: memory ran out, and nothing was written, or a front of a report
-  starved : status ≡ 6 → (taken : o.out_after ≡ o.out_before) → Begins (Says limits o.files (command_of words) 6) o.old o.new → Correct limits o words status
+  starved : status ≡ 6 → (taken : o.out_after ≡ o.out_before) → Begins (Says limits o.hops o.files (command_of words) 6) o.old o.new → Correct limits o words status

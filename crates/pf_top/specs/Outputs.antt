@@ -6,7 +6,7 @@ use Rattle.pf_journal.specs.Scripts.{Numbered}
 use Rattle.pf_client.specs.Replays.{Agree, Held, files_of}
 use Rattle.pf_client.specs.Sent.{WritesTo}
 use Rattle.pf_top.specs.Commands.{IsReported}
-use Rattle.pf_top.specs.Seen.{AllRead, FilesSeen, Unread}
+use Rattle.pf_top.specs.Seen.{AllRead, FilesSeen, HopsSeen, Unread}
 
 -- a run without options: ten minutes of window, a day of interval
 abbrev pub default_limits : Limits
@@ -19,8 +19,8 @@ Prints IsText old new left = (text : List ℕ) × (IsText text × WritesTo old n
 
 -- a text with its status, once the script is read: over one reading of each file, which gave what is told, and these bytes
 -- of the script
-pub record IsReplay (limits : Limits) (files : FilesSeen) (script bytes : List ℕ) (lines : List Numbered) (status : ℕ) (text : List ℕ) : Type 0 where
+pub record IsReplay (limits : Limits) (hops : HopsSeen) (files : FilesSeen) (script bytes : List ℕ) (lines : List Numbered) (status : ℕ) (text : List ℕ) : Type 0 where
   pub held : Held
   pub agree : Agree files.told held
   pub same : held script ≡ bytes
-  pub output : (AllRead files (files_of lines) × IsReported limits held (lines ∷ []) status text) ⊎ ((status ≡ 4) × Unread files (files_of lines) text)
+  pub output : (AllRead files (files_of lines) × IsReported limits hops held (lines ∷ []) status text) ⊎ ((status ≡ 4) × Unread files (files_of lines) text)

@@ -1,5 +1,5 @@
 -- What a run sees of its outside: this project's own.
-use Rattle.std.specs.Prelude.{◌≡◌, ℕ, Bool, false, Option, List}
+use Rattle.std.specs.Prelude.{◌≡◌, ℕ, Bool, false, Option, List, map, sum_by}
 use Rattle.pf_model.specs.Lists.{Each}
 use Rattle.pf_client.specs.Replays.{HasFailed, Reaches}
 use Rattle.pf_top.specs.Refusals.{refused_read}
@@ -22,8 +22,20 @@ abbrev pub files_seen : {F : Type 0} → (told : F → List ℕ → Option (List
 files_seen told sure lost faults failed old new =
     record { told = told old; sure = sure old; lost = lost old; before = faults old; after = faults new; failed = failed new }
 
+-- of the hops, before
+pub record HopsSeen : Type 0 where
+  -- what each counts at most, where it tells that
+  pub most : List (Option ℕ)
+  -- their counts of faults, together
+  pub before : ℕ
+
+-- of hops of any type
+abbrev pub hops_seen : {H : Type 0} → (most : H → Option ℕ) → (faults : H → ℕ) → List H → HopsSeen
+hops_seen most faults hops = record { most = map most hops; before = sum_by faults hops }
+
 pub record Outside : Type 0 where
   pub files : FilesSeen
+  pub hops : HopsSeen
   -- the output's count of faults, before and after
   pub out_before : ℕ
   pub out_after : ℕ

@@ -17,7 +17,7 @@ ghost use Rattle.pf_top.specs.Commands.{EvaluationTells, IsEvaluationText, IsRep
 ghost use Rattle.pf_top.specs.Correct.{Correct};
 ghost use Rattle.pf_top.specs.Outputs.{IsReplay, Prints, default_limits};
 ghost use Rattle.pf_top.specs.Refusals.{refused_file, refused_line, refused_not_built, refused_read, refused_script};
-ghost use Rattle.pf_top.specs.Seen.{Outside, files_seen};
+ghost use Rattle.pf_top.specs.Seen.{HopsSeen, Outside, files_seen, hops_seen};
 ghost use Rattle.pf_top.specs.Words.{limits_with};
 ghost use Rattle.pf_top.specs.WordSteps.{evaluation_in, replay_in};
 
@@ -112,9 +112,9 @@ fn run_loaded<O: Sink, H: Hop, G: Gate>(
     requires lasts { HaveLast (lines_of script.now) files }
     requires read { Each IsRead script.now.lines.items }
     requires following { AllFollow [] (lines_of script.now) }
-    ensures printed { IfOk result (λ o. (held : Held) → AreHeld held files → Prints (IsReported limits held (lines_of script.now ∷ []) o.status) (O.told out.old) (O.told out.new) o.text.items) }
-    ensures begun { result ≡ Err ReportError.OutOfMemory → (held : Held) → AreHeld held files → Begins (IsReported limits held (lines_of script.now ∷ []) 6) (O.told out.old) (O.told out.new) }
-    ensures broken { result ≡ Err ReportError.WriteFault → (held : Held) → AreHeld held files → WritesPart (IsReported limits held (lines_of script.now ∷ []) 6) (O.told out.old) (O.told out.new) }
+    ensures printed { IfOk result (λ o. (held : Held) → AreHeld held files → Prints (IsReported limits (hops_seen H.most H.faults hops.old) held (lines_of script.now ∷ []) o.status) (O.told out.old) (O.told out.new) o.text.items) }
+    ensures begun { result ≡ Err ReportError.OutOfMemory → (held : Held) → AreHeld held files → Begins (IsReported limits (hops_seen H.most H.faults hops.old) held (lines_of script.now ∷ []) 6) (O.told out.old) (O.told out.new) }
+    ensures broken { result ≡ Err ReportError.WriteFault → (held : Held) → AreHeld held files → WritesPart (IsReported limits (hops_seen H.most H.faults hops.old) held (lines_of script.now ∷ []) 6) (O.told out.old) (O.told out.new) }
     ensures fault { result ≡ Err ReportError.WriteFault → Rose (O.faults out.old) (O.faults out.new) }
     ensures taken { result ≢ Err ReportError.WriteFault → O.faults out.new ≡ O.faults out.old }
 {
@@ -148,9 +148,9 @@ fn replay_script<F: Files, O: Sink, H: Hop, G: Gate>(
     requires held { Holds (F.told files.old name.now) bytes.items }
     requires short { length bytes.items ≤ most_bytes }
     requires there { F.lost files.old name.now ≡ false }
-    ensures output { IfOk result (λ o. Prints (IsReplay limits (files_seen F.told F.sure F.lost F.faults F.failed files.old files.new) name.now bytes.items (lines_of script.now) o.status) (O.told out.old) (O.told out.new) o.text.items) }
-    ensures begun { result ≡ Err ReportError.OutOfMemory → Begins (IsReplay limits (files_seen F.told F.sure F.lost F.faults F.failed files.old files.new) name.now bytes.items (lines_of script.now) 6) (O.told out.old) (O.told out.new) }
-    ensures broken { result ≡ Err ReportError.WriteFault → WritesPart (IsReplay limits (files_seen F.told F.sure F.lost F.faults F.failed files.old files.new) name.now bytes.items (lines_of script.now) 6) (O.told out.old) (O.told out.new) }
+    ensures output { IfOk result (λ o. Prints (IsReplay limits (hops_seen H.most H.faults hops.old) (files_seen F.told F.sure F.lost F.faults F.failed files.old files.new) name.now bytes.items (lines_of script.now) o.status) (O.told out.old) (O.told out.new) o.text.items) }
+    ensures begun { result ≡ Err ReportError.OutOfMemory → Begins (IsReplay limits (hops_seen H.most H.faults hops.old) (files_seen F.told F.sure F.lost F.faults F.failed files.old files.new) name.now bytes.items (lines_of script.now) 6) (O.told out.old) (O.told out.new) }
+    ensures broken { result ≡ Err ReportError.WriteFault → WritesPart (IsReplay limits (hops_seen H.most H.faults hops.old) (files_seen F.told F.sure F.lost F.faults F.failed files.old files.new) name.now bytes.items (lines_of script.now) 6) (O.told out.old) (O.told out.new) }
     ensures fault { result ≡ Err ReportError.WriteFault → Rose (O.faults out.old) (O.faults out.new) }
     ensures taken { result ≢ Err ReportError.WriteFault → O.faults out.new ≡ O.faults out.old }
 {
@@ -227,7 +227,7 @@ fn evaluate_file<F: Files>(
     files: &mut F,
     named: &Evaluation<'_>,
 ) -> Result<Output, OutOfMemory>
-    ensures { IfOk result (λ o. (limits : Limits) → Says limits (files_seen F.told F.sure F.lost F.faults F.failed files.old files.new) (Some (evaluate (evaluation_in named.now))) o.status o.text.items) }
+    ensures { IfOk result (λ o. (limits : Limits) (hops : HopsSeen) → Says limits hops (files_seen F.told F.sure F.lost F.faults F.failed files.old files.new) (Some (evaluate (evaluation_in named.now))) o.status o.text.items) }
 {
     match read_file(alloc, files, named.file) {
         Ok(content) => evaluate_content(alloc, &content, named),
@@ -248,9 +248,9 @@ fn run_replay<F: Files, O: Sink, H: Hop, G: Gate>(
 ) -> Result<Output, ReportError>
     requires limits { AreLimits (limits_with limits (replay_in named.now)) }
     requires actors { length hops.old ≡ 32 }
-    ensures output { IfOk result (λ o. Prints (Says limits (files_seen F.told F.sure F.lost F.faults F.failed files.old files.new) (Some (replay (replay_in named.now))) o.status) (O.told out.old) (O.told out.new) o.text.items) }
-    ensures begun { result ≡ Err ReportError.OutOfMemory → Begins (Says limits (files_seen F.told F.sure F.lost F.faults F.failed files.old files.new) (Some (replay (replay_in named.now))) 6) (O.told out.old) (O.told out.new) }
-    ensures broken { result ≡ Err ReportError.WriteFault → WritesPart (Says limits (files_seen F.told F.sure F.lost F.faults F.failed files.old files.new) (Some (replay (replay_in named.now))) 6) (O.told out.old) (O.told out.new) }
+    ensures output { IfOk result (λ o. Prints (Says limits (hops_seen H.most H.faults hops.old) (files_seen F.told F.sure F.lost F.faults F.failed files.old files.new) (Some (replay (replay_in named.now))) o.status) (O.told out.old) (O.told out.new) o.text.items) }
+    ensures begun { result ≡ Err ReportError.OutOfMemory → Begins (Says limits (hops_seen H.most H.faults hops.old) (files_seen F.told F.sure F.lost F.faults F.failed files.old files.new) (Some (replay (replay_in named.now))) 6) (O.told out.old) (O.told out.new) }
+    ensures broken { result ≡ Err ReportError.WriteFault → WritesPart (Says limits (hops_seen H.most H.faults hops.old) (files_seen F.told F.sure F.lost F.faults F.failed files.old files.new) (Some (replay (replay_in named.now))) 6) (O.told out.old) (O.told out.new) }
     ensures fault { result ≡ Err ReportError.WriteFault → Rose (O.faults out.old) (O.faults out.new) }
     ensures taken { result ≢ Err ReportError.WriteFault → O.faults out.new ≡ O.faults out.old }
 {
@@ -292,9 +292,9 @@ fn run_words<F: Files, O: Sink, H: Hop, G: Gate>(
 ) -> Result<Output, ReportError>
     requires limits { AreLimits limits }
     requires actors { length hops.old ≡ 32 }
-    ensures output { IfOk result (λ o. Prints (Says limits (files_seen F.told F.sure F.lost F.faults F.failed files.old files.new) (command_of words.now) o.status) (O.told out.old) (O.told out.new) o.text.items) }
-    ensures begun { result ≡ Err ReportError.OutOfMemory → Begins (Says limits (files_seen F.told F.sure F.lost F.faults F.failed files.old files.new) (command_of words.now) 6) (O.told out.old) (O.told out.new) }
-    ensures broken { result ≡ Err ReportError.WriteFault → WritesPart (Says limits (files_seen F.told F.sure F.lost F.faults F.failed files.old files.new) (command_of words.now) 6) (O.told out.old) (O.told out.new) }
+    ensures output { IfOk result (λ o. Prints (Says limits (hops_seen H.most H.faults hops.old) (files_seen F.told F.sure F.lost F.faults F.failed files.old files.new) (command_of words.now) o.status) (O.told out.old) (O.told out.new) o.text.items) }
+    ensures begun { result ≡ Err ReportError.OutOfMemory → Begins (Says limits (hops_seen H.most H.faults hops.old) (files_seen F.told F.sure F.lost F.faults F.failed files.old files.new) (command_of words.now) 6) (O.told out.old) (O.told out.new) }
+    ensures broken { result ≡ Err ReportError.WriteFault → WritesPart (Says limits (hops_seen H.most H.faults hops.old) (files_seen F.told F.sure F.lost F.faults F.failed files.old files.new) (command_of words.now) 6) (O.told out.old) (O.told out.new) }
     ensures fault { result ≡ Err ReportError.WriteFault → Rose (O.faults out.old) (O.faults out.new) }
     ensures taken { result ≢ Err ReportError.WriteFault → O.faults out.new ≡ O.faults out.old }
     ensures untouched { reads_files (command_of words.now) ≡ false → files.new ≡ files.old }
@@ -322,7 +322,7 @@ pub fn run_within<F: Files, O: Sink, H: Hop + Drop, G: Gate>(
 ) -> u8
     requires limits { AreLimits limits }
     requires actors { vec_len hops ≡ 32 }
-    ensures claim { let outside : Outside = record { files = files_seen F.told F.sure F.lost F.faults F.failed files.old files.new; out_before = O.faults out.old; out_after = O.faults out.new; old = O.told out.old; new = O.told out.new } in
+    ensures claim { let outside : Outside = record { files = files_seen F.told F.sure F.lost F.faults F.failed files.old files.new; hops = hops_seen H.most H.faults hops.items; out_before = O.faults out.old; out_after = O.faults out.new; old = O.told out.old; new = O.told out.new } in
         Correct limits outside words.now result }
     ensures untouched { reads_files (command_of words.now) ≡ false → files.new ≡ files.old }
 {
@@ -359,7 +359,7 @@ pub fn run<R, F: Files, O: Sink, H: Hop + Send + Drop, G: Gate + Sync, D: Doors>
 where
     R: AllocGlobal + Clock + Threads + Wait + Net + RandomSource + Sync,
     requires { vec_len hops ≡ 32 }
-    ensures claim { let outside : Outside = record { files = files_seen F.told F.sure F.lost F.faults F.failed files.old files.new; out_before = O.faults out.old; out_after = O.faults out.new; old = O.told out.old; new = O.told out.new } in
+    ensures claim { let outside : Outside = record { files = files_seen F.told F.sure F.lost F.faults F.failed files.old files.new; hops = hops_seen H.most H.faults hops.items; out_before = O.faults out.old; out_after = O.faults out.new; old = O.told out.old; new = O.told out.new } in
         Correct default_limits outside words.now result }
     ensures untouched { reads_files (command_of words.now) ≡ false → files.new ≡ files.old }
 {

@@ -9,6 +9,7 @@ ghost use Rattle.pf_model.specs.Lists.{Each};
 ghost use Rattle.pf_script.specs.Lines.{AllFollow, IsRead, lines_of};
 ghost use Rattle.pf_top.specs.Commands.{IsSummed, SessionTells};
 ghost use Rattle.pf_top.specs.Pages.{page_in};
+ghost use Rattle.pf_top.specs.Seen.{hops_seen};
 
 use crate::driver::{Output, script_refused};
 use crate::pages::Pages;
@@ -48,7 +49,7 @@ fn run_loaded<H: Hop, G: Gate>(
     requires lasts { HaveLast (lines_of script.now) files }
     requires read { Each IsRead script.now.lines.items }
     requires following { AllFollow [] (lines_of script.now) }
-    ensures { IfOk result (λ o. (held : Held) → AreHeld held files → IsSummed limits held seed (lines_of script.now) o.status o.text.items) }
+    ensures { IfOk result (λ o. (held : Held) → AreHeld held files → IsSummed limits (hops_seen H.most H.faults hops.old) held seed (lines_of script.now) o.status o.text.items) }
 {
     let queries = read_queries(alloc, script)?;
     let loaded = Loaded { files, queries };
@@ -70,7 +71,7 @@ fn run_pages<H: Hop, G: Gate>(
     requires actors { length hops.old ≡ 32 }
     requires read { Each IsRead script.now.lines.items }
     requires following { AllFollow [] (lines_of script.now) }
-    ensures { IfOk result (λ o. IsSummed limits (page_in (map (λ f. (f.0, f.1.items)) pages.items)) seed (lines_of script.now) o.status o.text.items) }
+    ensures { IfOk result (λ o. IsSummed limits (hops_seen H.most H.faults hops.old) (page_in (map (λ f. (f.0, f.1.items)) pages.items)) seed (lines_of script.now) o.status o.text.items) }
 {
     let mut files = Pages { pages };
     let mut contents = BTreeMap::new(alloc);
@@ -90,7 +91,7 @@ pub(crate) fn run_seed<H: Hop, G: Gate>(
 ) -> Result<Output, OutOfMemory>
     requires limits { AreLimits limits }
     requires actors { length hops.old ≡ 32 }
-    ensures { IfOk result (λ o. SessionTells limits seed o.status o.text.items) }
+    ensures { IfOk result (λ o. SessionTells limits (hops_seen H.most H.faults hops.old) seed o.status o.text.items) }
 {
     let generated = session(alloc, seed)?;
     match read_script(alloc, generated.script.as_str().as_bytes(), false) {

@@ -2,7 +2,7 @@ use Rattle.std.proofs.Common.{rules, Some, inl, refl}
 use Rattle.pf_client.proofs.Cases.{if_ok_map}
 use Rattle.pf_client.proofs.Texts.{short_by}
 use Rattle.pf_top.specs.Commands.{evaluate}
-use Rattle.pf_top.specs.Seen.{files_seen}
+use Rattle.pf_top.specs.Seen.{files_seen, hops_seen}
 use Rattle.pf_top.specs.WordSteps.{evaluation_in}
 use Rattle.pf_top.proofs.OutputLaws.{evaluation_said, unread_said}
 use Rattle.pf_top.proofs.driver.evaluate_file.Goals as goal
@@ -15,7 +15,7 @@ returns-in-Ok g c =
     let f = g.F.Files in
     let seen = files_seen f.told f.sure f.lost f.faults f.failed c.args.files.now c.read_file.new.files in
     if_ok_map _ _ c.evaluate_content.result
-    (λ o output limits. evaluation_said limits seen (evaluation_in c.args.named.now) c.in-Ok.content o.status o.text.items (search rules) (search rules) (search rules) output)
+    (λ o output limits hops. evaluation_said limits hops seen (evaluation_in c.args.named.now) c.in-Ok.content o.status o.text.items (search rules) (search rules) (search rules) output)
     c.evaluate_content.ensures
 
 pub returns-in-Err-Failed : goal.returns-in-Err-Failed
@@ -23,5 +23,5 @@ returns-in-Err-Failed g c =
     let f = g.F.Files in
     let seen = files_seen f.told f.sure f.lost f.faults f.failed c.args.files.now c.read_file.new.files in
     if_ok_map _ _ c.unread.result
-    (λ o p limits. unread_said limits seen (Some (evaluate (evaluation_in c.args.named.now))) c.args.named.now.file.now o.status o.text.items (λ held. inl refl) (search rules) p)
+    (λ o p limits hops. unread_said limits hops seen (Some (evaluate (evaluation_in c.args.named.now))) c.args.named.now.file.now o.status o.text.items (λ held. inl refl) (search rules) p)
     c.unread.ensures
