@@ -12,8 +12,8 @@ use Rattle.pf_client.specs.Tries.{AreSpared, HaveCause}
 use Rattle.pf_client.specs.declared.loaded.Content.{Content}
 use Rattle.pf_client.specs.declared.loaded.Content.TheVariants.{Bytes, TooLong}
 use Rattle.pf_client.specs.declared.loaded.ReadFile.{ReadFile}
+use Rattle.pf_top.proofs.SessionScripts.{generated_asks}
 use Rattle.pf_top.specs.Pages.{page_in}
-use Rattle.pf_top.specs.Refusals.{refused_script}
 use Rattle.pf_top.specs.Seen.{HopsSeen}
 use Rattle.pf_top.specs.Commands.{IsSummed, SessionTells}
 
@@ -62,7 +62,7 @@ spared limits hops after held lines full t s = record {
 
 pub summed_by : (limits : Limits) (hops : HopsSeen) (after : ℕ) (held : Held) (seed queries : ℕ) (lines : List Numbered) (full : Bool) (t : Tally) (status : ℕ) (text : List ℕ)
     → queries ≡ asks lines → status ≡ cond full 8 0 → text ≡ summary_text seed queries t → IsSummary limits held lines (HaveCause hops.most hops.before after) full t
-    → IsSummed limits hops held seed lines status text
+    → IsSummed limits hops held seed (asks lines) lines status text
 summed_by limits hops after held seed queries lines false t status text many is told sum =
     inl (is, (t, (spared limits hops after held lines false t sum, told ∙ ap (λ (n : ℕ). summary_text seed n t) many)))
 summed_by limits hops after held seed queries lines true t status text many is told sum =
@@ -70,21 +70,12 @@ summed_by limits hops after held seed queries lines true t status text many is t
 
 -- by what was generated
 pub seed_summed : (limits : Limits) (hops : HopsSeen) (seed : ℕ) (g : Session) (given : List ℕ) (lines : List Numbered) (status : ℕ) (text : List ℕ) → g ≡ session seed → given ≡ g.script
-    → script_of false given ≡ Ok lines → IsSummed limits hops (page_in g.files) seed lines status text → SessionTells limits hops seed status text
-seed_summed limits hops seed g given lines status text is same read sum = inl (
+    → script_of false given ≡ Ok lines → IsSummed limits hops (page_in g.files) seed (asks lines) lines status text → SessionTells limits hops seed status text
+seed_summed limits hops seed g given lines status text is same read sum = (
   lines,
   (
     sym (ap (script_of false) (same ∙ ap (λ (s : Session). s.script) is)) ∙ read,
-    subst (λ (s : Session). IsSummed limits hops (page_in s.files) seed lines status text) is sum,
-  ),
-)
-
-pub seed_refused : (limits : Limits) (hops : HopsSeen) (seed : ℕ) (g : Session) (given : List ℕ) (line printed status : ℕ) (text : List ℕ) → g ≡ session seed → given ≡ g.script
-    → script_of false given ≡ Err line → (status ≡ 3) × (text ≡ refused_script 0 printed) → printed ≡ line → SessionTells limits hops seed status text
-seed_refused limits hops seed g given line printed status text is same bad p e = inr (
-  p.0,
-  (
-    line,
-    (sym (ap (script_of false) (same ∙ ap (λ (s : Session). s.script) is)) ∙ bad, p.1 ∙ ap (refused_script 0) e),
+    subst (λ (n : ℕ). IsSummed limits hops (page_in (session seed).files) seed n lines status text) (generated_asks seed g given lines is same read)
+    (subst (λ (s : Session). IsSummed limits hops (page_in s.files) seed (asks lines) lines status text) is sum),
   ),
 )

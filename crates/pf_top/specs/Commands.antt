@@ -16,7 +16,7 @@ use Rattle.pf_journal.specs.Machine.{Entry}
 use Rattle.pf_journal.specs.Report.{report}
 use Rattle.pf_journal.specs.Rest.{Rest, Why, at_end, at_full}
 use Rattle.pf_journal.specs.Scripts.{Numbered, script_of}
-use Rattle.pf_journal.specs.Summaries.{Tally, asks, summary_text}
+use Rattle.pf_journal.specs.Summaries.{Tally, summary_text}
 use Rattle.pf_journal.specs.Weave.{Weave}
 use Rattle.pf_client.specs.Replays.{Agree, HaveStopped, Held, files_of}
 use Rattle.pf_client.specs.Summaries.{IsSummary}
@@ -104,21 +104,20 @@ EvaluationTells bytes e status text =
 
 -- text sums up a legal journal that is woven from one script, whose client met the full journal or ran it whole, with failed tries
 -- as above
-abbrev pub IsSum : Limits → HopsSeen → Held → (seed : ℕ) → List Numbered → (full : Bool) → List ℕ → Type 0
-IsSum limits hops held seed lines full text =
-    (t : Tally) × (IsSummary limits held lines (AreSpared hops.most hops.before) full t × (text ≡ summary_text seed (asks lines) t))
+abbrev pub IsSum : Limits → HopsSeen → Held → (seed queries : ℕ) → List Numbered → (full : Bool) → List ℕ → Type 0
+IsSum limits hops held seed queries lines full text =
+    (t : Tally) × (IsSummary limits held lines (AreSpared hops.most hops.before) full t × (text ≡ summary_text seed queries t))
 
 -- 0: the client ran the whole script; 8: it met the full journal
-abbrev pub IsSummed : Limits → HopsSeen → Held → (seed : ℕ) → List Numbered → ℕ → List ℕ → Type 0
-IsSummed limits hops held seed lines status text =
-    ((status ≡ 0) × IsSum limits hops held seed lines false text) ⊎ ((status ≡ 8) × IsSum limits hops held seed lines true text)
+abbrev pub IsSummed : Limits → HopsSeen → Held → (seed queries : ℕ) → List Numbered → ℕ → List ℕ → Type 0
+IsSummed limits hops held seed queries lines status text =
+    ((status ≡ 0) × IsSum limits hops held seed queries lines false text) ⊎ ((status ≡ 8) × IsSum limits hops held seed queries lines true text)
 
--- the sums of the generated session of a seed, over its pages; 3: the first line of its script that is none
+-- the sums of the generated session of a seed, over its pages, which asks a hundred queries
 abbrev pub SessionTells : Limits → HopsSeen → (seed : ℕ) → ℕ → List ℕ → Type 0
 SessionTells limits hops seed status text =
-    ((lines : List Numbered) × ((script_of false (session seed).script ≡ Ok lines)
-    × IsSummed limits hops (page_in (session seed).files) seed lines status text))
-    ⊎ ((status ≡ 3) × ((line : ℕ) × ((script_of false (session seed).script ≡ Err line) × (text ≡ refused_script 0 line))))
+    (lines : List Numbered) × ((script_of false (session seed).script ≡ Ok lines)
+    × IsSummed limits hops (page_in (session seed).files) seed 100 lines status text)
 
 -- ---- what the program prints
 

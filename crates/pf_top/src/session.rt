@@ -4,14 +4,14 @@ ghost use Rattle.std.specs.Prelude.{◌≡◌, ℕ, IfOk, List, [], cond, length
 ghost use Rattle.pf_core.specs.Cores.{AreLimits};
 ghost use Rattle.pf_client.specs.Files.{AreHeld, HaveLast, IsKept, NamesFile};
 ghost use Rattle.pf_client.specs.Replays.{Held};
-ghost use Rattle.pf_journal.specs.Summaries.{summary_text};
+ghost use Rattle.pf_journal.specs.Summaries.{asks, summary_text};
 ghost use Rattle.pf_model.specs.Lists.{Each};
 ghost use Rattle.pf_script.specs.Lines.{AllFollow, IsRead, lines_of};
 ghost use Rattle.pf_top.specs.Commands.{IsSummed, SessionTells};
 ghost use Rattle.pf_top.specs.Pages.{page_in};
 ghost use Rattle.pf_top.specs.Seen.{hops_seen};
 
-use crate::driver::{Output, script_refused};
+use crate::driver::Output;
 use crate::pages::Pages;
 use pf_base::{Limits, OutOfMemory, Text};
 use pf_client::{Contents, Loaded, Summary, load_all, read_queries, run_session};
@@ -49,7 +49,7 @@ fn run_loaded<H: Hop, G: Gate>(
     requires lasts { HaveLast (lines_of script.now) files }
     requires read { Each IsRead script.now.lines.items }
     requires following { AllFollow [] (lines_of script.now) }
-    ensures { IfOk result (λ o. (held : Held) → AreHeld held files → IsSummed limits (hops_seen H.most H.faults hops.old) held seed (lines_of script.now) o.status o.text.items) }
+    ensures { IfOk result (λ o. (held : Held) → AreHeld held files → IsSummed limits (hops_seen H.most H.faults hops.old) held seed (asks (lines_of script.now)) (lines_of script.now) o.status o.text.items) }
 {
     let queries = read_queries(alloc, script)?;
     let loaded = Loaded { files, queries };
@@ -71,7 +71,7 @@ fn run_pages<H: Hop, G: Gate>(
     requires actors { length hops.old ≡ 32 }
     requires read { Each IsRead script.now.lines.items }
     requires following { AllFollow [] (lines_of script.now) }
-    ensures { IfOk result (λ o. IsSummed limits (hops_seen H.most H.faults hops.old) (page_in (map (λ f. (f.0, f.1.items)) pages.items)) seed (lines_of script.now) o.status o.text.items) }
+    ensures { IfOk result (λ o. IsSummed limits (hops_seen H.most H.faults hops.old) (page_in (map (λ f. (f.0, f.1.items)) pages.items)) seed (asks (lines_of script.now)) (lines_of script.now) o.status o.text.items) }
 {
     let mut files = Pages { pages };
     let mut contents = BTreeMap::new(alloc);
@@ -96,7 +96,7 @@ pub(crate) fn run_seed<H: Hop, G: Gate>(
     let generated = session(alloc, seed)?;
     match read_script(alloc, generated.script.as_str().as_bytes(), false) {
         Ok(script) => run_pages(alloc, limits, seed, generated.files, &script, hops, gate),
-        Err(ScriptError::Line { line }) => script_refused(alloc, line),
+        Err(ScriptError::Line { .. }) => unreachable!(),
         Err(ScriptError::OutOfMemory) => Err(OutOfMemory),
     }
 }
