@@ -27,10 +27,10 @@ Regex-sync : IsSync Regex.the_field.row
 Regex-sync = search (Hir-sync, Prefilter-sync, crosses, sendable) depth 60 fits 100000
 
 pub Pattern-send : IsSend Pattern.the_row
-Pattern-send = search (Regex-send, crosses, sendable) depth 20
+Pattern-send = search (Regex-send, Regex-sync, crosses, sendable) depth 40 fits 20000
 
 pub Pattern-sync : IsSync Pattern.the_row
-Pattern-sync = search (Regex-sync, crosses, sendable) depth 20
+Pattern-sync = search (Regex-send, Regex-sync, crosses, sendable) depth 40 fits 20000
 
 -- for a search over a type that holds patterns
 pub ruleset patterns_cross = (Pattern-send, Pattern-sync)

@@ -1,3 +1,4 @@
 pub mod Crossing
 mod Searches
+pub mod Tables
 mod Worked

@@ -1,10 +1,16 @@
 -- From what the crate `regex` promises of a search to what the pattern's text means.
-use Rattle.std.proofs.Common.{◌≡◌, ℕ, zero, suc, ◌+◌, ◌*◌, ◌<◌, ◌≤◌, ◌==◌, true, List, length, get_or, Option, None, Some, IsSomeAnd, is_some, option_map, refl, sym, ap, ◌∙◌, arith, ne_eqb, if◌then◌else◌}
+use Rattle.std.proofs.Common.{◌≡◌, ℕ, Bool, zero, suc, ◌+◌, ◌*◌, ◌<◌, ◌≤◌, ◌==◌, true, List, length, get_or, Option, None, Some, IsSomeAnd, IfSome, ◌⊎◌, inl, inr, is_some, option_map, option_and_then, false, cond, nat_le, refl, sym, ap, ◌∙◌, arith, ne_eqb, if◌then◌else◌}
 use Rattle.std.proofs.lemmas.Bool.{cond-false}
+use Rattle.std.proofs.lemmas.Bool.Decides.{nat_tests}
 use Rattle.std.proofs.lemmas.List.{get_or_default}
 use mathlib.Core.Path.{fun_ext}
 use Rattle.std.specs.Str.{chars}
-use Rattle.regex.specs.Patterns.{Re, Match, SameCaptures, default_config, find_str, span, Reads}
+use Rattle.regex.specs.Patterns.{Re, Match, SameCaptures, default_config, find_str, span, Reads, Refuses}
+use Rattle.regex.specs.Failures.{IsPattern, IsRightKind}
+use Rattle.regex.specs.Sources.{IsRefusal}
+use Rattle.regex.specs.declared.error.Error as engine
+use Rattle.regex.specs.declared.error.Error.TheVariants as refusal
+use Rattle.regex_syntax.specs.declared.error.ErrorKind.TheVariants as syntax
 use Rattle.regex.specs.Replace.{bytes_of, expansion}
 use Rattle.regex.specs.Search.{group_span, Shows, SpansGroups}
 use Rattle.regex.specs.Strings.{regex_pattern, regex_source, regex_config, regex_names, IsReadFromSource, IsCapturesOf, IsReadFrom, expansion_of}
@@ -20,15 +26,27 @@ use Rattle.regex_syntax.proofs.CapturesLemmas.{find_str_alike}
 use Rattle.regex_syntax.specs.Brackets.{Nested}
 use Rattle.regex_syntax.specs.Grammar.{Names, group_count, read}
 use Rattle.pf_match.specs.Meaning.{Reading, reading_of, reading, is_pattern, has_match, matches, written, written_at, expand, anchored}
-use Rattle.pf_match.specs.Kept.{IsAs, IsReadAs}
+use Rattle.pf_match.specs.Kept.{IsAs, IsReadAs, IsPatternFault, pattern_error}
 
 -- ---- a pattern that is built
 
-read_as : (o : Option (Nested Re × Names)) (most : ℕ) (tree : Re) (names : Names)
-    → IsSomeAnd o (λ (re, found). (re.depth ≤ most) × SameCaptures tree re.value × (names ≡ found) × (group_count tree ≤ length names))
-    → IsSomeAnd (option_map reading_of o) (IsAs tree names)
-read_as None most tree names h = absurd h
-read_as (Some found) most tree names h = (h.1, h.2)
+within : (n : ℕ) (found : Nested Re × Names) → found.0.depth ≤ 250 → reading_of found ≡ Some (record { tree = found.0.value; names = found.1 })
+within n found h = by (nat_le found.0.depth 250) refl where
+  by : (b : Bool) → nat_le found.0.depth 250 ≡ b → cond {A = Option Reading} b (Some (record { tree = found.0.value; names = found.1 })) None ≡ Some (record { tree = found.0.value; names = found.1 })
+  by true e = refl
+  by false e = grind (arith, nat_tests, h, e)
+
+beyond : (found : Nested Re × Names) → 250 < found.0.depth → reading_of found ≡ None
+beyond found h = by (nat_le found.0.depth 250) refl where
+  by : (b : Bool) → nat_le found.0.depth 250 ≡ b → cond {A = Option Reading} b (Some (record { tree = found.0.value; names = found.1 })) None ≡ None
+  by false e = refl
+  by true e = grind (arith, nat_tests, h, e)
+
+read_as : (o : Option (Nested Re × Names)) (tree : Re) (names : Names)
+    → IsSomeAnd o (λ (re, found). (re.depth ≤ 250) × SameCaptures tree re.value × (names ≡ found) × (group_count tree ≤ length names))
+    → IsSomeAnd (option_and_then reading_of o) (IsAs tree names)
+read_as None tree names h = absurd h
+read_as (Some found) tree names h = rw (within 0 found h.0) (h.1, h.2)
 
 -- of what `Regex::new` ensures
 pub built_is_read_as : (r : Regex) (text : List ℕ) → regex_source r ≡ anchored text → regex_config r ≡ default_config → IsReadFromSource r
@@ -36,7 +54,7 @@ pub built_is_read_as : (r : Regex) (text : List ℕ) → regex_source r ≡ anch
 unfolding Reads reading
 built_is_read_as r text source config h =
     let reads : Reads default_config (anchored text) r.pattern.program.hir (regex_names r) = rw (source, config) at h in
-    read_as (read default_config (chars (anchored text))) _ _ _ reads
+    read_as (read default_config (chars (anchored text))) _ _ reads
 
 some_of : (o : Option Reading) (P : Reading → Type 0) → IsSomeAnd o P → is_some o ≡ true
 some_of None P h = absurd h
@@ -44,6 +62,37 @@ some_of (Some r) P h = refl
 
 pub is_pattern_of : (text : List ℕ) (tree : Re) (names : Names) → IsReadAs text tree names → is_pattern text ≡ true
 is_pattern_of text tree names h = some_of (reading text) _ h
+
+-- an expression that does not nest too deep
+expression : (text source : List ℕ) → source ≡ anchored text → IsPattern default_config source → is_pattern text ≡ true
+unfolding Reads reading
+expression text source is h =
+    let reads : Reads default_config (anchored text) h.0 h.1 = rw is at h.2 in
+    some_of (reading text) _ (read_as (read default_config (chars (anchored text))) _ _ reads)
+
+-- ---- a text that gives no pattern
+
+none_read : (o : Option (Nested Re × Names)) → (o ≡ None) ⊎ IfSome o (λ (re, found). 250 < re.depth) → is_some (option_and_then reading_of o) ≡ false
+none_read None h = refl
+none_read (Some found) (inl h) = let wrong : Some found ≡ None = h in cc
+none_read (Some found) (inr h) = ap (λ (r : Option Reading). is_some r) (beyond found h)
+
+-- of what `Regex::new` ensures of its errors
+pub pattern_fault : (text source : List ℕ) (e : engine.Error) → source ≡ anchored text → IsRefusal default_config source e
+    → IsRightKind default_config source e → IsPatternFault text (pattern_error e)
+unfolding Reads Refuses reading
+pattern_fault text source (refusal.Syntax x) is h kind =
+    let refuses : Refuses default_config (anchored text) x.kind = rw is at (h x refl) in
+    by refuses where
+      by : (x.kind ≡ syntax.OutOfMemory) ⊎ ((read default_config (chars (anchored text)) ≡ None)
+          ⊎ ((x.kind ≡ syntax.NestLimitExceeded) × IfSome (read default_config (chars (anchored text))) (λ (re, found). 250 < re.depth)))
+          → is_pattern text ≡ false
+      by (inl g) = absurd (kind g)
+      by (inr (inl g)) = none_read (read default_config (chars (anchored text))) (inl g)
+      by (inr (inr g)) = none_read (read default_config (chars (anchored text))) (inr g.1)
+pattern_fault text source refusal.CompiledTooBig is h kind = expression text source is kind
+pattern_fault text source refusal.Internal is h kind = expression text source is kind
+pattern_fault text source refusal.OutOfMemory is h kind = tt
 
 -- ---- a search
 

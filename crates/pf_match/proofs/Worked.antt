@@ -1,5 +1,5 @@
 -- Worked patterns, computed by the checker with the reader of `regex`.
-use Rattle.std.proofs.Common.{◌≡◌, refl, codes, true, false, Some, None}
+use Rattle.std.proofs.Common.{◌≡◌, refl, codes, true, false, Some, None, [], ◌∷◌}
 use Rattle.regex_syntax.proofs.SetLemmas.{in_ranges-members}
 use Rattle.regex.proofs.OnLiterals.{regex_on_literals}
 use Rattle.regex.specs.Patterns.{holds, slot_of, find_str, has_bytes_at}
@@ -7,7 +7,7 @@ use Rattle.regex_hir.specs.Find.{first_from}
 use Rattle.regex_hir.specs.Looks.{holds_between}
 use Rattle.regex_hir.specs.Re.{attempt, rounds}
 use Rattle.regex_hir.specs.Text.{byte_before, char_at, char_before, is_boundary}
-use Rattle.pf_match.specs.Meaning.{is_pattern, matches, expand, reading}
+use Rattle.pf_match.specs.Meaning.{is_pattern, is_refused, matches, expand, reading}
 
 -- an unclosed group
 refused : is_pattern (codes "a(b") ≡ false
@@ -17,6 +17,19 @@ refused = refl
 read : is_pattern (codes "a(b)+-x") ≡ true
 unfolding regex_on_literals reading
 read = refl
+
+-- no expression is refused whatever is listed, and an expression where it is listed
+unlisted_is_refused : is_refused [] (codes "a(b") ≡ true
+unfolding regex_on_literals reading
+unlisted_is_refused = refl
+
+unlisted_is_read : is_refused (codes "b+" ∷ []) (codes "a+") ≡ false
+unfolding regex_on_literals reading
+unlisted_is_read = refl
+
+listed_is_refused : is_refused (codes "b+" ∷ (codes "a+" ∷ [])) (codes "a+") ≡ true
+unfolding regex_on_literals reading
+listed_is_refused = refl
 
 whole_value : matches (codes "a(b)+-x") (codes "abb-x") ≡ true
 unfolding regex_on_literals reading find_str first_from attempt rounds holds holds_between byte_before char_at char_before is_boundary has_bytes_at slot_of

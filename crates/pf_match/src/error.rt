@@ -1,15 +1,16 @@
 //! Why a text gives no pattern.
 
-ghost use Rattle.std.specs.Prelude.{◌≡◌, ◌↔◌};
+ghost use Rattle.std.specs.Prelude.{◌≡◌};
 ghost use Rattle.pf_match.specs.declared.error.PatternError.{PatternError};
 
 use std::alloc::AllocError;
 
 #[derive(Clone, Copy)]
 pub enum PatternError {
-    /// `regex` refused the text for another cause than memory: it is no expression, nests too deep, or compiles to more
-    /// than 10 MiB.
+    /// The text is no expression, or nests too deep.
     BadPattern,
+    /// The text is an expression that compiles to more than 10 MiB.
+    TooBig,
     OutOfMemory,
 }
 
@@ -22,16 +23,16 @@ impl From<AllocError> for PatternError {
 }
 
 impl From<regex::Error> for PatternError {
-    ghost use Rattle.regex.specs.declared.error.Error.TheVariants as regex;
+    ghost use Rattle.pf_match.specs.Kept.{pattern_error};
 
-    ghost from_gives = { λ error e. (e ≡ PatternError.OutOfMemory) ↔ (error ≡ regex.OutOfMemory) };
+    ghost from_gives = { λ error e. e ≡ pattern_error error };
 
+    // `Regex::new` is proved not to give `Internal`.
     fn from(error: regex::Error) -> PatternError {
         match error {
             regex::Error::OutOfMemory => PatternError::OutOfMemory,
-            regex::Error::Syntax(_) | regex::Error::CompiledTooBig | regex::Error::Internal => {
-                PatternError::BadPattern
-            }
+            regex::Error::Syntax(_) => PatternError::BadPattern,
+            regex::Error::CompiledTooBig | regex::Error::Internal => PatternError::TooBig,
         }
     }
 }

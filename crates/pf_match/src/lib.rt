@@ -6,6 +6,9 @@
 //! what a template such as `$1` stands for at a value. `matches` and `expand` answer exactly that, or that memory is
 //! wanting.
 //!
+//! A text is refused where it is no expression, where it nests too deep, or where it compiles too big. Only the last can't be
+//! said of the text beforehand, so a `Patterns` keeps what it found: in it the same text has one fate.
+//!
 //! A pattern doesn't change, and it is proved that threads may share it. What a search writes to stands beside it:
 //! `matches` and `expand` make it for one value, `matcher` and `expander` for any number of them.
 //!
@@ -26,8 +29,10 @@ mod expander;
 mod matcher;
 mod pattern;
 mod shared;
+mod table;
 
 pub use error::PatternError;
 pub use expander::PatternExpander;
 pub use matcher::PatternMatcher;
 pub use pattern::Pattern;
+pub use table::Patterns;

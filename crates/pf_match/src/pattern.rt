@@ -1,6 +1,8 @@
 //! Patterns, seen by contracts as their texts.
 
-ghost use Rattle.std.specs.Prelude.{◌≡◌, true, IfOk, option_map, string_bytes};
+ghost use Rattle.std.specs.Prelude.{◌≡◌, true, IfErr, IfOk, option_map, string_bytes};
+ghost use Rattle.std.specs.Arc.{arc_value};
+ghost use Rattle.pf_match.specs.Kept.{IsPatternFault};
 ghost use Rattle.pf_match.specs.Meaning.{anchored, expand, is_pattern, matches};
 
 use crate::error::PatternError;
@@ -9,16 +11,18 @@ use crate::matcher::PatternMatcher;
 use regex::{Regex, Template};
 use std::alloc::{AllocError, Global};
 use std::marker::Model;
+use std::sync::Arc;
 
 /// A regular expression that has to match a whole value, in which `.` is any character, a line feed too. Threads may
 /// share it.
 #[derive(Drop)]
 pub struct Pattern {
     text: String,
-    regex: Box<Regex>,
+    regex: Arc<Regex>,
 }
 
 impl Model for Pattern {
+    ghost use Rattle.std.specs.Arc.{arc_value};
     ghost use Rattle.std.specs.Prelude.{List, ℕ, string_bytes};
     ghost use Rattle.regex.specs.Strings.{regex_pattern, regex_names};
     ghost use Rattle.pf_match.specs.Kept.{IsReadAs};
@@ -27,7 +31,7 @@ impl Model for Pattern {
 
     ghost view = { λ p. string_bytes p.text };
 
-    ghost invariant = { λ p. IsReadAs (string_bytes p.text) (regex_pattern p.regex.value) (regex_names p.regex.value) };
+    ghost invariant = { λ p. IsReadAs (string_bytes p.text) (regex_pattern (arc_value p.regex)) (regex_names (arc_value p.regex)) };
 }
 
 fn anchored(alloc: Global, text: &str) -> Result<String, AllocError>
@@ -39,10 +43,10 @@ fn anchored(alloc: Global, text: &str) -> Result<String, AllocError>
     Ok(source)
 }
 
-fn boxed(alloc: Global, regex: Regex) -> Result<Box<Regex>, AllocError>
-    ensures { IfOk result (λ r. r.value ≡ regex) }
+fn shared(alloc: Global, regex: Regex) -> Result<Arc<Regex>, AllocError>
+    ensures { IfOk result (λ r. arc_value r ≡ regex) }
 {
-    Ok(Box::new(alloc, regex)?)
+    Ok(Arc::new(alloc, regex)?)
 }
 
 impl Pattern {
@@ -51,11 +55,22 @@ impl Pattern {
     pub fn build(alloc: Global, text: &str) -> Result<Pattern, PatternError>
         ensures built { IfOk result (λ p. p ≡ text.now) }
         ensures read { IfOk result (λ p. is_pattern text.now ≡ true) }
+        ensures refused { IfErr result (IsPatternFault text.now) }
     {
         let source = anchored(alloc, text)?;
         let engine = Regex::new(alloc, source.as_str())?;
-        let regex = boxed(alloc, engine)?;
+        let regex = shared(alloc, engine)?;
         let text = String::from_str(alloc, text)?;
+        Ok(Pattern { text, regex })
+    }
+
+    /// The same pattern again, which is not compiled anew.
+    pub fn share(&self) -> Result<Pattern, AllocError>
+        ensures value { IfOk result (λ p. p ≡ self.now) }
+        ensures read { is_pattern self.now ≡ true }
+    {
+        let regex = Arc::try_clone(&self.regex)?;
+        let text = String::from_str(*self.text.allocator(), self.text.as_str())?;
         Ok(Pattern { text, regex })
     }
 
