@@ -87,12 +87,12 @@ module _ (old new : Built) (refused : List (List ℕ)) (text p : List ℕ) (ther
         sym is ∙ own ∙ sym same
 
   pub kept_stays : Stays (texts_of old, refused) (texts_of new, refused)
-  kept_stays = record {
-    built = λ other h. elim (bool_cases (bytes_eq other text)) [
+  kept_stays told agrees = record {
+    built = λ other h. agrees.built other (elim (bool_cases (bytes_eq other text)) [
       | inl t ↦ let same = (bytes_eq-Decides other text).0 t in ap (is_listed (texts_of new)) same ∙ is_among new text p there
       | inr t ↦ among new other ∙ ap (λ (o : Option (List ℕ)). is_some o) (others other (apart other text t)) ∙ sym (among old other) ∙ h
-    ];
-    too_big = λ other h. h;
+    ]);
+    too_big = agrees.too_big;
   }
 
 pub fate_of_built : (m : Built) (refs refused : List (List ℕ)) (text p : List ℕ) → get_by_text m text ≡ Some p → is_pattern text ≡ true
@@ -109,12 +109,6 @@ same_table old new refused same table = record {
 } where
   got : (text : List ℕ) → get_by_text new text ≡ get_by_text old text
   got text = ap (lookup (λ k. is_eq (slice_cmp nat_cmp text (string_bytes k)))) same
-
-pub same_stays : (old new : Built) (refused : List (List ℕ)) → new.entries ≡ old.entries → Stays (texts_of old, refused) (texts_of new, refused)
-same_stays old new refused same = record {
-  built = λ text h. ap (λ (es : List (String Global × List ℕ)). is_listed (map (λ e. string_bytes e.0) es) text) same ∙ h;
-  too_big = λ text h. h;
-}
 
 -- ---- a text that is refused
 
@@ -147,9 +141,9 @@ module _ (m : Built) (refs more : List (List ℕ)) (text : List ℕ) (is : more 
   }
 
   pub refused_stays : Stays (texts_of m, refs) (texts_of m, more)
-  refused_stays = record {
-    built = λ other h. h;
-    too_big = λ other h. ap (λ l. is_listed l other) is ∙ listed_before refs text other h;
+  refused_stays told agrees = record {
+    built = agrees.built;
+    too_big = λ other h. agrees.too_big other (ap (λ l. is_listed l other) is ∙ listed_before refs text other h);
   }
 
   pub fate_of_last : (refused : List (List ℕ)) → Agrees (texts_of m, more) refused → is_refused refused text ≡ true

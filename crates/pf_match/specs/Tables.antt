@@ -1,12 +1,12 @@
 -- Patterns that were read one after another: what was found of a pattern stays. This project's own.
 use Rattle.std.specs.BTreeMap.{BTreeMap, get_by_text}
-use Rattle.std.specs.Prelude.{◌≡◌, ℕ, true, false, List, Some, Result, Ok, Err, map, string_bytes}
+use Rattle.std.specs.Prelude.{◌≡◌, ℕ, Bool, true, false, List, Some, Result, Ok, Err, map, string_bytes}
 use Rattle.std.specs.List.{list_all}
 use Rattle.std.specs.declared.alloc.Global.{Global}
 use Rattle.std.specs.declared.string.String.{String}
 use Rattle.pf_match.specs.declared.error.PatternError.{PatternError}
 use Rattle.pf_match.specs.declared.error.PatternError.TheVariants as pattern
-use Rattle.pf_match.specs.Meaning.{is_listed, is_pattern, is_refused}
+use Rattle.pf_match.specs.Meaning.{is_listed, is_pattern}
 
 -- the texts that were built, and the expressions that compile too big
 abbrev pub Table : Type 0
@@ -17,17 +17,16 @@ pub record Agrees (table : Table) (refused : List (List ℕ)) : Type 0 where
   pub built : (text : List ℕ) → is_listed table.0 text ≡ true → is_listed refused text ≡ false
   pub too_big : (text : List ℕ) → is_listed table.1 text ≡ true → is_listed refused text ≡ true
 
--- what was found stays
-pub record Stays (old new : Table) : Type 0 where
-  pub built : (text : List ℕ) → is_listed old.0 text ≡ true → is_listed new.0 text ≡ true
-  pub too_big : (text : List ℕ) → is_listed old.1 text ≡ true → is_listed new.1 text ≡ true
+-- what was found stays: a list that agrees with the new table agrees with the old one
+abbrev pub Stays : Table → Table → Type 0
+Stays old new = (refused : List (List ℕ)) → Agrees new refused → Agrees old refused
 
--- a pattern is refused as the list says, unless memory ran out
-abbrev pub IsFate : List (List ℕ) → List ℕ → Result (List ℕ) PatternError → Type 0
-IsFate refused text (Ok p) = is_refused refused text ≡ false
-IsFate refused text (Err pattern.BadPattern) = is_refused refused text ≡ true
-IsFate refused text (Err pattern.TooBig) = is_refused refused text ≡ true
-IsFate refused text (Err pattern.OutOfMemory) = Unit {0}
+-- an answer is none exactly where a pattern is refused, unless memory ran out
+abbrev pub IsFate : {T : Type 0} → Bool → Result T PatternError → Type 0
+IsFate refused (Ok found) = refused ≡ false
+IsFate refused (Err pattern.BadPattern) = refused ≡ true
+IsFate refused (Err pattern.TooBig) = refused ≡ true
+IsFate refused (Err pattern.OutOfMemory) = Unit {0}
 
 -- a list of expressions, which compile too big
 abbrev pub AreTooBig : List (List ℕ) → Type 0

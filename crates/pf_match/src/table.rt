@@ -2,7 +2,7 @@
 
 ghost use Rattle.std.specs.Prelude.{◌≡◌, ◌≢◌, ◌++◌, ◌∷◌, [], ℕ, IfOk, List, MatchOption, None, OnErr, OnOk, Some, false, map, string_bytes, true};
 ghost use Rattle.std.specs.BTreeMap.{get_by_text};
-ghost use Rattle.pf_match.specs.Meaning.{is_listed, is_pattern};
+ghost use Rattle.pf_match.specs.Meaning.{is_listed, is_pattern, is_refused};
 ghost use Rattle.pf_match.specs.Tables.{Agrees, AreTooBig, IsFate, Stays};
 
 use crate::error::PatternError;
@@ -91,7 +91,8 @@ impl Patterns {
         requires read { is_pattern text.now ≡ true }
         requires further { is_listed self.old.1 text.now ≡ false }
         ensures built { IfOk result (λ p. p ≡ text.now) }
-        ensures fate { (refused : List (List ℕ)) → Agrees self.new refused → IsFate refused text.now result }
+        ensures read { IfOk result (λ p. is_pattern text.now ≡ true) }
+        ensures fate { (refused : List (List ℕ)) → Agrees self.new refused → IsFate (is_refused refused text.now) result }
         ensures still { Stays self.old self.new }
     {
         let given = pattern.share()?;
@@ -104,7 +105,8 @@ impl Patterns {
         requires read { is_pattern text.now ≡ true }
         requires further { is_listed self.old.0 text.now ≡ false }
         ensures built { IfOk result (λ p. p ≡ text.now) }
-        ensures fate { (refused : List (List ℕ)) → Agrees self.new refused → IsFate refused text.now result }
+        ensures read { IfOk result (λ p. is_pattern text.now ≡ true) }
+        ensures fate { (refused : List (List ℕ)) → Agrees self.new refused → IsFate (is_refused refused text.now) result }
         ensures still { Stays self.old self.new }
     {
         push(self.alloc, &mut self.refused, text)?;
@@ -116,7 +118,8 @@ impl Patterns {
         requires unbuilt { is_listed self.old.0 text.now ≡ false }
         requires unlisted { is_listed self.old.1 text.now ≡ false }
         ensures built { IfOk result (λ p. p ≡ text.now) }
-        ensures fate { (refused : List (List ℕ)) → Agrees self.new refused → IsFate refused text.now result }
+        ensures read { IfOk result (λ p. is_pattern text.now ≡ true) }
+        ensures fate { (refused : List (List ℕ)) → Agrees self.new refused → IsFate (is_refused refused text.now) result }
         ensures still { Stays self.old self.new }
     {
         match Pattern::build(self.alloc, text) {
@@ -130,7 +133,8 @@ impl Patterns {
     /// words of each list of refused patterns that agrees with what was found.
     pub fn pattern(&mut self, text: &str) -> Result<Pattern, PatternError>
         ensures built { IfOk result (λ p. p ≡ text.now) }
-        ensures fate { (refused : List (List ℕ)) → Agrees self.new refused → IsFate refused text.now result }
+        ensures read { IfOk result (λ p. is_pattern text.now ≡ true) }
+        ensures fate { (refused : List (List ℕ)) → Agrees self.new refused → IsFate (is_refused refused text.now) result }
         ensures still { Stays self.old self.new }
     {
         if let Some(pattern) = built_of(&self.built, text) {

@@ -1,19 +1,18 @@
 -- How the queries and the selectors of scripts are read. Prometheus, Querying basics: Time series selectors, whose rule it is
 -- that a selector refuses the empty text; the order of refusals is this project's own.
-use Rattle.std.specs.Prelude.{◌≡◌, ℕ, pos, ◌+◌, ◌⊎◌, Bool, true, false, ◌&&◌, not, cond, Option, Some, None, List, [], ◌∷◌, take}
-use Rattle.std.specs.List.{filter, list_all, list_any}
+use Rattle.std.specs.Prelude.{◌≡◌, ℕ, pos, ◌+◌, ◌⊎◌, Bool, true, false, ◌&&◌, not, cond, Option, Some, None, List, [], ◌∷◌}
+use Rattle.std.specs.List.{filter, list_all}
 use Rattle.std.specs.Option.{is_none}
 use Rattle.std.specs.Ordering.{int_eq}
-use Rattle.pf_match.specs.Meaning.{is_pattern}
+use Rattle.pf_match.specs.Meaning.{is_pattern, is_refused}
 use Rattle.pf_model.specs.declared.expr.Function.{Function}
 use Rattle.pf_model.specs.declared.expr.Function.TheVariants as called
 use Rattle.pf_model.specs.declared.expr.Matcher.{Matcher}
 use Rattle.pf_model.specs.declared.expr.Mods.{Mods}
 use Rattle.pf_model.specs.declared.functions.InstantFn.TheVariants as function
 use Rattle.pf_model.specs.ErrorTexts.{QueryFault, of_grammar, of_kinds, refused_pattern, empty_selector}
-use Rattle.pf_model.specs.Lists.{at}
 use Rattle.pf_model.specs.Parsing.{Refusal, Parses, Refuses}
-use Rattle.pf_model.specs.Selection.{accepts_empty, all_compared, all_meant}
+use Rattle.pf_model.specs.Selection.{accepts_empty, all_meant, any_refused}
 use Rattle.pf_model.specs.Trees.{Tree, Trees, call, more, select, preorder}
 use Rattle.pf_model.specs.Trees as trees
 use Rattle.pf_model.specs.Typing.{asked_fault}
@@ -42,11 +41,27 @@ abbrev pub is_empty_selector : Tree → Bool
 is_empty_selector (select ms range mods) = accepts_empty ms
 is_empty_selector _ = false
 
--- a selector with a pattern that isn't plain, or a call of `label_replace`: `regex` may refuse its pattern
-abbrev pub may_be_refused : Tree → Bool
-may_be_refused (select ms range mods) = not (all_compared ms)
-may_be_refused (call f args) = is_label_replace f
-may_be_refused _ = false
+-- the pattern of `label_replace`, its fifth argument, is refused
+abbrev pub is_fifth_refused : (refused : List (List ℕ)) → Trees → Bool
+is_fifth_refused refused (more vector (more target (more replacement (more source (more (trees.text pattern) args))))) = is_refused refused pattern
+is_fifth_refused refused args = false
+
+-- a pattern of a node is refused
+abbrev pub has_refused : (refused : List (List ℕ)) → Tree → Bool
+has_refused refused (select ms range mods) = any_refused refused ms
+has_refused refused (call f args) = is_label_replace f && is_fifth_refused refused args
+has_refused refused _ = false
+
+-- the first fault among these nodes, of which the first has this number: a refused pattern or an empty selector, and of both at
+-- one node the pattern
+abbrev pub bind_fault_from : (refused : List (List ℕ)) → ℕ → List Tree → Option QueryFault
+bind_fault_from refused n [] = None
+bind_fault_from refused n (t ∷ ts) =
+    cond (has_refused refused t) (Some (refused_pattern n))
+    (cond (is_empty_selector t) (Some (empty_selector n)) (bind_fault_from refused (n + 1) ts))
+
+abbrev pub bind_fault : (refused : List (List ℕ)) → Tree → Option QueryFault
+bind_fault refused tree = bind_fault_from refused 0 (counted tree)
 
 -- the number of the first empty selector, where the first of these nodes has this one
 abbrev pub first_empty_from : ℕ → List Tree → Option ℕ
@@ -75,20 +90,6 @@ pub record IsBindable (tree : Tree) : Type 0 where
   pub meant : are_meant (counted tree) ≡ true
   pub selects : first_empty tree ≡ None
 
--- the first empty selector has this number, and no pattern up to it lacks a meaning
-pub record IsFirstEmpty (which : ℕ) (tree : Tree) : Type 0 where
-  pub meant : are_meant (take (which + 1) (counted tree)) ≡ true
-  pub first : first_empty tree ≡ Some which
-
--- no counted node before this number is an empty selector or has a pattern without a meaning, and the pattern of the node of
--- this number may be refused
-pub record CanRefuse (which : ℕ) (tree : Tree) : Type 0 where
-  pub meant : are_meant (take which (counted tree)) ≡ true
-  pub before : list_any is_empty_selector (take which (counted tree)) ≡ false
-  pub node : Tree
-  pub there : at (counted tree) which ≡ Some node
-  pub pattern : may_be_refused node ≡ true
-
 -- ---- queries
 
 -- a text is a query whose kinds are lawful
@@ -101,15 +102,17 @@ pub data Reading : Type 0 where
   lawful : Tree → Reading
   refused : QueryFault → Reading
 
-abbrev pub IsFaultOf : List ℕ → QueryFault → Type 0
-IsFaultOf text (of_grammar refusal) = Refuses text refusal
-IsFaultOf text (of_kinds fault) = (tree : Tree) × (Parses text tree × (asked_fault tree ≡ Some fault))
-IsFaultOf text (refused_pattern which) = (tree : Tree) × (IsQuery text tree × CanRefuse which tree)
-IsFaultOf text (empty_selector which) = (tree : Tree) × (IsQuery text tree × IsFirstEmpty which tree)
+-- a text is refused for this fault, by the refused patterns that are expressions
+abbrev pub IsFaultOf : (refused : List (List ℕ)) → List ℕ → QueryFault → Type 0
+IsFaultOf refs text (of_grammar refusal) = Refuses text refusal
+IsFaultOf refs text (of_kinds fault) = (tree : Tree) × (Parses text tree × (asked_fault tree ≡ Some fault))
+IsFaultOf refs text (refused_pattern which) = (tree : Tree) × (IsQuery text tree × (bind_fault refs tree ≡ Some (refused_pattern which)))
+IsFaultOf refs text (empty_selector which) = (tree : Tree) × (IsQuery text tree × (bind_fault refs tree ≡ Some (empty_selector which)))
 
-abbrev pub IsReading : List ℕ → Reading → Type 0
-IsReading text (lawful tree) = IsQuery text tree × IsBindable tree
-IsReading text (refused fault) = IsFaultOf text fault
+-- a text has one tree, so its reading is given by it and the refused patterns
+abbrev pub IsReading : (refused : List (List ℕ)) → List ℕ → Reading → Type 0
+IsReading refs text (lawful tree) = IsQuery text tree × (bind_fault refs tree ≡ None)
+IsReading refs text (refused fault) = IsFaultOf refs text fault
 
 -- neither `@` nor an offset
 abbrev pub is_unmodified : Mods → Bool
@@ -127,27 +130,21 @@ Readings = List ℕ → Option Reading
 -- ---- selectors of deletions
 
 -- what a tree says as a deletion's selector: matchers, or no selector: any other query, and a selector with modifiers, with a
--- pattern without a meaning, or that accepts the empty text
+-- refused pattern, or that accepts the empty text
 pub data Selecting : Type 0 where
   selector : List Matcher → Selecting
   no_selector : Selecting
 
-abbrev pub selecting : Tree → Selecting
-selecting (select ms None mods) = cond (is_unmodified mods && (all_meant ms && not (accepts_empty ms))) (selector ms) no_selector
-selecting _ = no_selector
+abbrev pub selecting : (refused : List (List ℕ)) → Tree → Selecting
+selecting refs (select ms None mods) = cond (is_unmodified mods && (not (any_refused refs ms) && not (accepts_empty ms))) (selector ms) no_selector
+selecting refs _ = no_selector
 
-abbrev pub Selects : List ℕ → Selecting → Type 0
-Selects text s = (tree : Tree) × (Parses text tree × (selecting tree ≡ s))
+abbrev pub Selects : (refused : List (List ℕ)) → List ℕ → Selecting → Type 0
+Selects refs text s = (tree : Tree) × (Parses text tree × (selecting refs tree ≡ s))
 
-abbrev pub IsSelector : List ℕ → List Matcher → Type 0
-IsSelector text ms = Selects text (selector ms)
+abbrev pub IsSelector : (refused : List (List ℕ)) → List ℕ → List Matcher → Type 0
+IsSelector refs text ms = Selects refs text (selector ms)
 
--- an instant selector without modifiers, whose pattern may be refused
-abbrev pub may_be_no_selector : Tree → Bool
-may_be_no_selector tree = is_plain_selector tree && may_be_refused tree
-
--- a text that the grammar refuses is no selector either, and one whose pattern is refused
-abbrev pub IsNoSelector : List ℕ → Type 0
-IsNoSelector text =
-    ((refusal : Refusal) × Refuses text refusal)
-    ⊎ (Selects text no_selector ⊎ ((tree : Tree) × (Parses text tree × (may_be_no_selector tree ≡ true))))
+-- a text that the grammar refuses is no selector either
+abbrev pub IsNoSelector : (refused : List (List ℕ)) → List ℕ → Type 0
+IsNoSelector refs text = ((refusal : Refusal) × Refuses text refusal) ⊎ Selects refs text no_selector

@@ -3,7 +3,8 @@
 use Rattle.std.specs.Prelude.{ℕ, ℤ, pos, ◌-ℤ◌, int_lt, int_le, Bool, true, ◌&&◌, not, Option, Some, None, cond, List, [], ◌∷◌, nat_lt}
 use Rattle.std.specs.Ordering.{is_eq}
 use Rattle.std.specs.Str.{bytes_eq}
-use Rattle.std.specs.List.{list_all}
+use Rattle.std.specs.List.{list_all, list_any}
+use Rattle.pf_match.specs.Meaning.{is_refused}
 use Rattle.pf_base.specs.Limits.{lookback}
 use Rattle.pf_base.specs.declared.plain.Row.{Row}
 use Rattle.pf_base.specs.LabelSets.{Pairs, value_of}
@@ -40,6 +41,13 @@ has_meaning sign text = true
 
 abbrev pub all_meant : List Matcher → Bool
 all_meant ms = list_all (λ m. has_meaning m.sign m.text) ms
+
+-- a matcher's pattern is refused, by the refused patterns that are expressions; one that is compared never is
+abbrev pub is_refused_matcher : List (List ℕ) → Matcher → Bool
+is_refused_matcher refused m = not (is_compared m.sign m.text) && is_refused refused m.text
+
+abbrev pub any_refused : List (List ℕ) → List Matcher → Bool
+any_refused refused ms = list_any (is_refused_matcher refused) ms
 
 -- every matcher holds of its label's value
 abbrev pub accepts : List Matcher → Pairs → Bool

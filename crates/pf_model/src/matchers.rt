@@ -1,16 +1,16 @@
 //! Matchers that series are selected by.
 
-ghost use Rattle.std.specs.Prelude.{◌≡◌, ◌<◌, IfOk, length, slice_index_or, true, false};
+ghost use Rattle.std.specs.Prelude.{◌≡◌, ◌<◌, ℕ, IfErr, IfOk, List, length, slice_index_or, true, false};
 ghost use Rattle.pf_base.specs.LabelSets.{value_of};
-ghost use Rattle.pf_match.specs.declared.error.PatternError.TheVariants as pattern;
+ghost use Rattle.pf_match.specs.Tables.{Agrees, IsFate, Stays};
 ghost use Rattle.pf_model.specs.declared.expr.Matcher.{Matcher};
 ghost use Rattle.pf_model.specs.Patterns.{is_alternative, is_plain_pattern, is_plain_byte};
-ghost use Rattle.pf_model.specs.Selection.{accepts, accepts_empty, all_compared, all_meant, has_meaning, holds, is_compared};
-ghost use Rattle.pf_model.specs.Tests.{IsTest};
+ghost use Rattle.pf_model.specs.Selection.{accepts, accepts_empty, all_compared, all_meant, any_refused, has_meaning, holds, is_compared, is_refused_matcher};
+ghost use Rattle.pf_model.specs.Tests.{IsMatchFate, IsTest, MayRefuse};
 
 use crate::expr::{MatchSign, Matcher, Selector};
 use pf_base::{Labels, OutOfMemory};
-use pf_match::{Pattern, PatternError, PatternMatcher};
+use pf_match::{Pattern, PatternError, PatternMatcher, Patterns};
 use std::alloc::Global;
 use std::marker::Model;
 
@@ -41,7 +41,7 @@ impl From<PatternError> for MatchError {
 
     fn from(error: PatternError) -> MatchError {
         match error {
-            PatternError::BadPattern => MatchError::BadPattern,
+            PatternError::BadPattern | PatternError::TooBig => MatchError::BadPattern,
             PatternError::OutOfMemory => MatchError::OutOfMemory,
         }
     }
@@ -125,35 +125,45 @@ impl Model for Test {
 }
 
 /// A matcher's pattern, where it isn't plain.
-fn pattern_of(alloc: Global, matcher: &Matcher) -> Result<Option<Pattern>, PatternError>
+fn pattern_of(patterns: &mut Patterns, matcher: &Matcher) -> Result<Option<Pattern>, PatternError>
     ensures built { IfOk result (IsTest matcher.now) }
-    ensures refused { result ≡ Err pattern.BadPattern → is_compared matcher.now.sign matcher.now.text ≡ false }
+    ensures refused { IfErr result (MayRefuse (is_compared matcher.now.sign matcher.now.text)) }
+    ensures fate { (refused : List (List ℕ)) → Agrees patterns.new refused → IsFate (is_refused_matcher refused matcher.now) result }
+    ensures still { Stays patterns.old patterns.new }
 {
     let text = matcher.text.as_str();
     if matcher.sign.is_compared(text) {
         return Ok(None);
     }
-    Ok(Some(Pattern::build(alloc, text)?))
+    Ok(Some(patterns.pattern(text)?))
 }
 
-fn test_of(alloc: Global, matcher: &Matcher) -> Result<Test, PatternError>
+fn test_of(patterns: &mut Patterns, matcher: &Matcher) -> Result<Test, PatternError>
     ensures built { IfOk result (λ t. t ≡ matcher.now) }
     ensures meant { IfOk result (λ t. has_meaning matcher.now.sign matcher.now.text ≡ true) }
-    ensures refused { result ≡ Err pattern.BadPattern → is_compared matcher.now.sign matcher.now.text ≡ false }
+    ensures refused { IfErr result (MayRefuse (is_compared matcher.now.sign matcher.now.text)) }
+    ensures fate { (refused : List (List ℕ)) → Agrees patterns.new refused → IsFate (is_refused_matcher refused matcher.now) result }
+    ensures still { Stays patterns.old patterns.new }
 {
-    let pattern = pattern_of(alloc, matcher)?;
+    let pattern = pattern_of(patterns, matcher)?;
     let matcher = matcher.clone()?;
     Ok(Test { matcher, pattern })
 }
 
-fn tests_of(alloc: Global, matchers: &[Matcher]) -> Result<Vec<Test>, PatternError>
+fn tests_of(
+    alloc: Global,
+    patterns: &mut Patterns,
+    matchers: &[Matcher],
+) -> Result<Vec<Test>, PatternError>
     ensures built { IfOk result (λ v. v.items ≡ matchers.now) }
     ensures meant { IfOk result (λ v. all_meant matchers.now ≡ true) }
-    ensures refused { result ≡ Err pattern.BadPattern → all_compared matchers.now ≡ false }
+    ensures refused { IfErr result (MayRefuse (all_compared matchers.now)) }
+    ensures fate { (refused : List (List ℕ)) → Agrees patterns.new refused → IsFate (any_refused refused matchers.now) result }
+    ensures still { Stays patterns.old patterns.new }
 {
     let mut tests = Vec::with_capacity(alloc, matchers.len())?;
     for matcher in matchers {
-        let test = test_of(alloc, matcher)?;
+        let test = test_of(patterns, matcher)?;
         if tests.push(test).is_err() {
             return Err(PatternError::OutOfMemory);
         }
@@ -340,8 +350,25 @@ impl Matchers {
         ensures refused { result ≡ Err MatchError.BadPattern → all_compared selector.now ≡ false }
         ensures empty { result ≡ Err MatchError.EmptySelector → (all_meant selector.now ≡ true) × (accepts_empty selector.now ≡ true) }
     {
+        let mut patterns = Patterns::new(*selector.matchers.allocator());
+        Matchers::build_with(&mut patterns, selector)
+    }
+
+    /// The same, where the patterns that were read before keep their fates.
+    pub fn build_with(
+        patterns: &mut Patterns,
+        selector: &Selector,
+    ) -> Result<Matchers, MatchError>
+        ensures built { IfOk result (λ m. m ≡ selector.now) }
+        ensures meant { IfOk result (λ m. all_meant selector.now ≡ true) }
+        ensures selects { IfOk result (λ m. accepts_empty selector.now ≡ false) }
+        ensures refused { result ≡ Err MatchError.BadPattern → all_compared selector.now ≡ false }
+        ensures empty { result ≡ Err MatchError.EmptySelector → (all_meant selector.now ≡ true) × (accepts_empty selector.now ≡ true) }
+        ensures fate { (refused : List (List ℕ)) → Agrees patterns.new refused → IsMatchFate refused selector.now result }
+        ensures still { Stays patterns.old patterns.new }
+    {
         let matchers = &selector.matchers;
-        let tests = tests_of(*matchers.allocator(), matchers)?;
+        let tests = tests_of(*matchers.allocator(), patterns, matchers)?;
         if all_accept_empty(&tests)? {
             return Err(MatchError::EmptySelector);
         }

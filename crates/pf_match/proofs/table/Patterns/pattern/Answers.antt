@@ -11,3 +11,7 @@ returns-in-Some-clause-fate c refused agrees =
 
 pub compile-requires-clause-unbuilt : goal.compile-requires-clause-unbuilt
 compile-requires-clause-unbuilt c = rw (← c.self.view_is) (is_absent c.self.inside.built c.args.text.now c.in_default.ensures)
+
+pub returns-in-Some-clause-read : goal.returns-in-Some-clause-read
+returns-in-Some-clause-read c =
+    ap is_pattern (sym (c.self.invariant.own c.args.text.now c.in-Some.pattern.now c.in-Some.ensures)) ∙ c.in_ok-share.ensures.read
