@@ -10,11 +10,17 @@ use Rattle.pf_model.specs.declared.functions.RangeFn.TheVariants as ranged
 use Rattle.pf_model.specs.declared.functions.Sign.TheVariants as operator
 use Rattle.pf_model.specs.declared.expr.Side.TheVariants as side
 use Rattle.pf_model.specs.Built.{is_evaluated}
-use Rattle.pf_model.specs.ErrorTexts.{of_grammar, of_kinds, empty_selector, query_text}
+use Rattle.pf_model.specs.ErrorTexts.{of_grammar, of_kinds, empty_selector, query_text, refused_pattern}
 use Rattle.pf_match.specs.Meaning.{reading}
 use Rattle.regex.proofs.OnLiterals.{regex_on_literals}
-use Rattle.pf_model.specs.Queries.{CanRefuse, IsFirstEmpty, first_empty, may_be_no_selector, may_be_refused, no_selector, selecting, selector}
+use Rattle.regex.specs.Patterns.{holds, slot_of, find_str, has_bytes_at}
+use Rattle.regex_hir.specs.Find.{first_from}
+use Rattle.regex_hir.specs.Looks.{holds_between}
+use Rattle.regex_hir.specs.Re.{attempt, rounds}
+use Rattle.regex_hir.specs.Text.{byte_before, char_at, char_before, is_boundary}
+use Rattle.pf_model.specs.Queries.{bind_fault, first_empty, no_selector, selecting, selector}
 use Rattle.pf_model.specs.Parsing.{bad_token}
+use Rattle.pf_model.specs.Selection.{any_refused}
 use Rattle.pf_model.specs.Trees.{Tree, instant, no_mods}
 use Rattle.pf_model.specs.Trees as tree
 use Rattle.pf_model.specs.Typing.{bool_needed}
@@ -53,28 +59,36 @@ calls_are_counted : first_empty unclosed ≡ Some 1
 unfolding unclosed one
 calls_are_counted = refl
 
--- and its pattern may be refused before
-calls_may_be_refused : CanRefuse 0 unclosed
-unfolding unclosed one
-calls_may_be_refused = record { meant = refl; before = refl; node = unclosed; there = refl; pattern = refl }
+-- but its pattern is no expression, which is told
+call_is_refused : bind_fault [] unclosed ≡ Some (refused_pattern 0)
+unfolding unclosed one regex_on_literals reading
+call_is_refused = refl
 
--- at one node too: `{a=~"("}`
-pattern_comes_first : CanRefuse 0 (instant (one match.Like (codes "(")))
-unfolding one
-pattern_comes_first = record { meant = refl; before = refl; node = instant (one match.Like (codes "(")); there = refl; pattern = refl }
-
--- `{a!~"("}` accepts the empty text by its sign, but its pattern has no meaning, so it is refused for that
-pattern_before_empty : IsFirstEmpty 0 (instant (one match.NotLike (codes "("))) → ⊥
+-- at one node too: `{a!~"("}` accepts the empty text by its sign
+pattern_comes_first : bind_fault [] (instant (one match.NotLike (codes "("))) ≡ Some (refused_pattern 0)
 unfolding one regex_on_literals reading
-pattern_before_empty h = let wrong : false ≡ true = h.meant in cc
+pattern_comes_first = refl
 
 -- nor is it a selector of deletions
-unmeant_is_none : selecting (instant (one match.NotLike (codes "("))) ≡ no_selector
+unmeant_is_none : selecting [] (instant (one match.NotLike (codes "("))) ≡ no_selector
 unfolding one regex_on_literals reading
 unmeant_is_none = refl
 
--- a plain pattern is never refused
-plain_is_taken : may_be_refused (instant (one match.Like (codes "b"))) ≡ false
+-- an expression is refused where it is listed: `{a=~"b+"}`
+expression_is_taken : bind_fault [] (instant (one match.Like (codes "b+"))) ≡ None
+unfolding one regex_on_literals reading find_str first_from attempt rounds holds holds_between byte_before char_at char_before is_boundary has_bytes_at slot_of
+expression_is_taken = refl
+
+listed_is_refused : bind_fault (codes "b+" ∷ []) (instant (one match.Like (codes "b+"))) ≡ Some (refused_pattern 0)
+unfolding one regex_on_literals reading
+listed_is_refused = refl
+
+listed_is_no_selector : selecting (codes "b+" ∷ []) (instant (one match.Like (codes "b+"))) ≡ no_selector
+unfolding one regex_on_literals reading
+listed_is_no_selector = refl
+
+-- a plain pattern of a matcher is never refused
+plain_is_taken : any_refused (codes "b" ∷ []) (one match.Like (codes "b")) ≡ false
 unfolding one
 plain_is_taken = refl
 
@@ -90,24 +104,20 @@ range_is_not_evaluated = refl
 offset_is_evaluated : is_evaluated (tree.select up_job None (record { at = None; offset = pos 1000 })) ≡ true
 offset_is_evaluated = refl
 
-instant_selector_is_one : selecting (instant up_job) ≡ selector up_job
+instant_selector_is_one : selecting [] (instant up_job) ≡ selector up_job
 unfolding up_job equal
 instant_selector_is_one = refl
 
-range_selector_is_none : selecting (tree.select up_job (Some 60000) no_mods) ≡ no_selector
+range_selector_is_none : selecting [] (tree.select up_job (Some 60000) no_mods) ≡ no_selector
 range_selector_is_none = refl
 
-empty_selector_is_none : selecting (instant (one match.NotEqual (codes "b"))) ≡ no_selector
+empty_selector_is_none : selecting [] (instant (one match.NotEqual (codes "b"))) ≡ no_selector
 unfolding one
 empty_selector_is_none = refl
 
-plain_pattern_is_a_selector : selecting (instant (one match.Like (codes "b"))) ≡ selector (one match.Like (codes "b"))
+plain_pattern_is_a_selector : selecting [] (instant (one match.Like (codes "b"))) ≡ selector (one match.Like (codes "b"))
 unfolding one
 plain_pattern_is_a_selector = refl
-
-unclosed_pattern_may_be_none : may_be_no_selector (instant (one match.NotLike (codes "("))) ≡ true
-unfolding one
-unclosed_pattern_may_be_none = refl
 
 texts_of_refusals : query_text (of_grammar (bad_token 3)) ≡ codes "bad token at 3"
 unfolding digits

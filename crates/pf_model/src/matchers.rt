@@ -355,10 +355,7 @@ impl Matchers {
     }
 
     /// The same, where the patterns that were read before keep their fates.
-    pub fn build_with(
-        patterns: &mut Patterns,
-        selector: &Selector,
-    ) -> Result<Matchers, MatchError>
+    pub fn build_with(patterns: &mut Patterns, selector: &Selector) -> Result<Matchers, MatchError>
         ensures built { IfOk result (λ m. m ≡ selector.now) }
         ensures meant { IfOk result (λ m. all_meant selector.now ≡ true) }
         ensures selects { IfOk result (λ m. accepts_empty selector.now ≡ false) }
