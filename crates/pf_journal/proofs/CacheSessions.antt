@@ -122,6 +122,7 @@ at_the_end_known = record {
   limits = limits_with 100 120000 256;
   names = codes "acme" ∷ [];
   files = files_of ((codes "x", x_page) ∷ []);
+  refused = [];
   readings = reads;
 }
 
@@ -150,6 +151,7 @@ later_asker_known = record {
   limits = usual_limits;
   names = codes "acme" ∷ [];
   files = files_of ((codes "a", a_page) ∷ (codes "b", b_page) ∷ (codes "c", c_page) ∷ []);
+  refused = [];
   readings = reads;
 }
 
@@ -186,6 +188,7 @@ counted_known = record {
   limits = usual_limits;
   names = codes "acme" ∷ [];
   files = files_of ((codes "x", newest_page) ∷ (codes "y", older_page) ∷ []);
+  refused = [];
   readings = reads;
 }
 
@@ -219,6 +222,7 @@ deleted_known = record {
   limits = usual_limits;
   names = codes "acme" ∷ [];
   files = files_of ((codes "d", d_page) ∷ []);
+  refused = [];
   readings = reads;
 }
 
@@ -256,6 +260,7 @@ two_open_known = record {
   limits = limits_with 2 86400000 256;
   names = codes "acme" ∷ codes "beta" ∷ [];
   files = files_of ([]);
+  refused = [];
   readings = reads;
 }
 
@@ -292,6 +297,7 @@ in_turn_known = record {
   limits = limits_with 100 86400000 1;
   names = codes "acme" ∷ codes "beta" ∷ [];
   files = files_of ((codes "x", newest_page) ∷ []);
+  refused = [];
   readings = reads;
 }
 

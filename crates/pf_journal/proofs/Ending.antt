@@ -6,6 +6,7 @@ use Rattle.std.proofs.lemmas.List.Elements.{filter-append}
 use Rattle.std.proofs.lemmas.Slice.Eq.{bytes_eq-Decides}
 use Rattle.std.specs.Str.{bytes_eq}
 use Rattle.pf_base.specs.declared.plain.Limits.{Limits}
+use Rattle.pf_match.specs.Tables.{AreTooBig}
 use Rattle.pf_model.specs.Lists.{Each, first_with}
 use Rattle.pf_model.specs.Queries.{IsReading, Reading}
 use Rattle.pf_journal.proofs.Going.{NeverStops, going, ran-snoc, runs_to_end, runs_to_stop, text_grows, text_stays, turn_behind, woven_enters, woven_stays, one_more}
@@ -556,10 +557,11 @@ only_one x y (suc n) h = cc
 pub begins_report : (known : Known) (journal : List Entry) (lines : List Numbered) (told : List Told) (failed : List ℕ)
     → Legal known.limits known.names journal → AreNames known.names journal → Each (λ e. e.client ≡ 0) journal
     → Woven known (own_moments 0 (moments journal)) lines (record { told = told; why = at_end }) → NeverStops (ran_lines lines told) → NumbersRise lines
-    → ((text : List ℕ) (r : Reading) → known.readings text ≡ Some r → IsReading text r)
+    → AreTooBig known.refused
+    → ((text : List ℕ) (r : Reading) → known.readings text ≡ Some r → IsReading known.refused text r)
     → AreTried journal (record { clients = record { told = told; why = at_end } ∷ []; failed = failed })
     → BeginsReport known journal lines told failed
-begins_report known journal lines told failed legal names alone woven goes rise read tried =
+begins_report known journal lines told failed legal names alone woven goes rise too_big read tried =
     let e = can_end known 0 journal lines told legal alone woven goes rise in
     let c : Client = record { told = told ++ e.more; why = e.why } in
     let all_mine : Each (λ x. x.client ≡ 0) (journal ++ e.entries) = each_append (λ x. x.client ≡ 0) journal e.entries alone e.mine in
@@ -574,6 +576,7 @@ begins_report known journal lines told failed legal names alone woven goes rise 
         many = refl;
         each = λ client ls d at_ls at_d. each_one c (journal ++ e.entries) e.woven e.runs client ls d at_ls at_d;
         nobody_else = each_so _ _ (λ (x : Entry) h. omega (arith, h)) (journal ++ e.entries) all_mine;
+        too_big = too_big;
         read = read;
         tried = record {
           actors = tried.actors;

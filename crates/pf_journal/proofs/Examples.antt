@@ -120,7 +120,7 @@ limits_of outstanding journal =
     record { outstanding = outstanding; window = 600000; interval = 86400000; shards = 4; extents = 256; journal = journal }
 
 abbrev pub known_of : Limits → List (List ℕ) → Known
-known_of limits names = record { limits = limits; names = names; files = files_of ((codes "up", up_page) ∷ []); readings = reads }
+known_of limits names = record { limits = limits; names = names; files = files_of ((codes "up", up_page) ∷ []); refused = []; readings = reads }
 
 -- with ample limits, and the tenant `acme` alone
 abbrev pub usual : Known

@@ -17,7 +17,7 @@ use Rattle.pf_journal.specs.Report.{report}
 use Rattle.pf_model.proofs.ScannedTokens.{are_tokens}
 
 -- the selector of the deletion
-up_selects : IsSelector (codes "up") (equal (codes "__name__") (codes "up") ∷ [])
+up_selects : IsSelector [] (codes "up") (equal (codes "__name__") (codes "up") ∷ [])
 unfolding encode_utf8 clamp
 up_selects = (
   any_up,

@@ -420,13 +420,14 @@ two_is_a_session = (
 )
 
 -- a session is woven, where its queries are read as they are said to be
-cancel_is_woven : ((text : List ℕ) (r : Reading) → cancel_known.readings text ≡ Some r → IsReading text r)
+cancel_is_woven : ((text : List ℕ) (r : Reading) → cancel_known.readings text ≡ Some r → IsReading [] text r)
     → Weave cancel_known cancel_journal cancel_scripts cancel_rest
 cancel_is_woven read = record {
   many = refl;
   each = λ client lines c a b. subst (λ k. IsWovenIn cancel_known cancel_journal k lines c) (zero-add client)
       (each_client cancel_known cancel_journal 0 cancel_scripts cancel_rest.clients cancel_is_a_session.1.0 client lines c a b);
   nobody_else = (lit< tt, (lit< tt, (lit< tt, (lit< tt, tt))));
+  too_big = refl;
   read = read;
   tried = cancel_is_a_session.1.1;
 }

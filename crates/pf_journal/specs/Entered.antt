@@ -41,11 +41,11 @@ FitsIngest bytes time (append u batch vs entry) = Gives bytes time batch
 FitsIngest bytes time (no_tenant name) = (batch : BatchData) × Gives bytes time batch
 FitsIngest bytes time _ = ⊥
 
-abbrev pub FitsDelete : ℕ → ℕ → (selector : List ℕ) → What → Type 0
-FitsDelete from to selector (delete u ms from' to' generation entry) =
-    IsRange from to × IsSelector selector ms × (from' ≡ from) × (to' ≡ to)
-FitsDelete from to selector (no_tenant name) = IsRange from to × ((ms : List Matcher) × IsSelector selector ms)
-FitsDelete from to selector _ = ⊥
+abbrev pub FitsDelete : (refused : List (List ℕ)) → ℕ → ℕ → (selector : List ℕ) → What → Type 0
+FitsDelete refused from to selector (delete u ms from' to' generation entry) =
+    IsRange from to × IsSelector refused selector ms × (from' ≡ from) × (to' ≡ to)
+FitsDelete refused from to selector (no_tenant name) = IsRange from to × ((ms : List Matcher) × IsSelector refused selector ms)
+FitsDelete refused from to selector _ = ⊥
 
 abbrev pub FitsAsk : Option (Result Asked (List ℕ)) → What → Type 0
 FitsAsk wanted (ask u asked pin generation floor) = wanted ≡ Some (Ok asked)
@@ -71,7 +71,7 @@ FitsAnswer asked _ = ⊥
 abbrev pub Fits : Known → (asker : List ℕ) → (asked : Option Moment) → Line → What → Type 0
 Fits known asker asked (script.ingest tenant file time) what = IsNamed known.names tenant what × FitsIngest (known.files file) time what
 Fits known asker asked (script.delete tenant from to selector) what =
-    IsNamed known.names tenant what × FitsDelete from to selector what
+    IsNamed known.names tenant what × FitsDelete known.refused from to selector what
 Fits known asker asked (script.ask id tenant start end step query) what =
     IsNamed known.names tenant what × FitsAsk (ranged known.readings start end step query) what
 Fits known asker asked (script.instant id tenant time query) what =

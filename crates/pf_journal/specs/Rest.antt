@@ -6,11 +6,12 @@ use Rattle.pf_journal.specs.Files.{FileRefusal}
 use Rattle.pf_journal.specs.Steps.{PlanReply, TakeReply, DoneReply, KeepReply}
 
 -- what lines and journals are judged by: the limits of the run, the names of the known tenants by number, what files hold by
--- name, and how queries are read by their texts, and so which of their patterns are refused
+-- name, which expressions are refused as patterns, and how queries are read by their texts
 pub record Known : Type 0 where
   pub limits : Limits
   pub names : List (List ℕ)
   pub files : List ℕ → List ℕ
+  pub refused : List (List ℕ)
   pub readings : Readings
 
 -- what was told of a line beside its entry

@@ -23,11 +23,11 @@ ToldOfIngest bytes time no_memory = Unit {0}
 ToldOfIngest bytes time _ = ⊥
 
 -- the range or the selector is refused; or neither is, and the journal is full
-abbrev pub ToldOfDelete : ℕ → ℕ → (selector : List ℕ) → Told → Type 0
-ToldOfDelete from to selector nothing = (to < from) ⊎ ((greatest_time < to) ⊎ IsNoSelector selector)
-ToldOfDelete from to selector journal_full = IsRange from to × ((ms : List Matcher) × IsSelector selector ms)
-ToldOfDelete from to selector no_memory = Unit {0}
-ToldOfDelete from to selector _ = ⊥
+abbrev pub ToldOfDelete : (refused : List (List ℕ)) → ℕ → ℕ → (selector : List ℕ) → Told → Type 0
+ToldOfDelete refused from to selector nothing = (to < from) ⊎ ((greatest_time < to) ⊎ IsNoSelector refused selector)
+ToldOfDelete refused from to selector journal_full = IsRange from to × ((ms : List Matcher) × IsSelector refused selector ms)
+ToldOfDelete refused from to selector no_memory = Unit {0}
+ToldOfDelete refused from to selector _ = ⊥
 
 abbrev pub IsNotAsked : Option (Result Asked (List ℕ)) → Type 0
 IsNotAsked (Some (Err text)) = Unit {0}
@@ -106,7 +106,7 @@ ToldOfDone w t _ = ⊥
 -- what was told of a line that has no entry
 abbrev pub Unentered : Known → Turn → Line → Told → Type 0
 Unentered known t (script.ingest tenant file time) told = ToldOfIngest (known.files file) time told
-Unentered known t (script.delete tenant from to selector) told = ToldOfDelete from to selector told
+Unentered known t (script.delete tenant from to selector) told = ToldOfDelete known.refused from to selector told
 Unentered known t (script.ask id tenant start end step query) told = ToldOfAsk (ranged known.readings start end step query) told
 Unentered known t (script.instant id tenant time query) told = ToldOfAsk (at_once known.readings time query) told
 Unentered known t (script.cancel id asked tenant) told = ToldOfCancel t tenant told

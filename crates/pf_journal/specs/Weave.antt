@@ -2,6 +2,7 @@
 use Rattle.std.specs.Prelude.{◌≡◌, ℕ, ◌+◌, ◌*◌, ◌<◌, ◌≤◌, ◌⊎◌, Bool, true, false, Option, Some, None, List, [], ◌∷◌, length, drop, nat_eq, cond, slice_get, take}
 use Rattle.std.specs.List.{sum}
 use Rattle.pf_base.specs.declared.plain.Limits.{Limits}
+use Rattle.pf_match.specs.Tables.{AreTooBig}
 use Rattle.pf_model.specs.Lists.{Each}
 use Rattle.pf_model.specs.Queries.{IsReading, Reading}
 use Rattle.pf_journal.specs.Entered.{Fits, room_of}
@@ -140,5 +141,6 @@ pub record Weave (known : Known) (journal : List Entry) (scripts : List (List Nu
       → slice_get scripts client ≡ Some lines → slice_get rest.clients client ≡ Some c
       → WovenClient known journal client (own_moments client (moments journal)) lines c
   pub nobody_else : Each (λ e. e.client < length scripts) journal
-  pub read : (text : List ℕ) (r : Reading) → known.readings text ≡ Some r → IsReading text r
+  pub too_big : AreTooBig known.refused
+  pub read : (text : List ℕ) (r : Reading) → known.readings text ≡ Some r → IsReading known.refused text r
   pub tried : AreTried journal rest
