@@ -1,17 +1,17 @@
 -- Going over the counted nodes of a query.
-use Rattle.std.proofs.Common.{◌≡◌, ◌∙◌, sym, ap, subst, refl, arith, ℕ, zero, suc, ◌+◌, ◌<◌, ◌≤◌, ◌||◌, Bool, true, false, true≢false, cond, Some, None, List, [], ◌∷◌, ◌++◌, get_or, length, map, take, append_assoc}
+use Rattle.std.proofs.Common.{◌≡◌, ◌∙◌, sym, ap, subst, refl, arith, ℕ, zero, suc, ◌+◌, ◌<◌, ◌≤◌, ◌||◌, Bool, true, false, true≢false, cond, Option, Some, None, Err, drop, List, [], ◌∷◌, ◌++◌, get_or, length, map, take, append_assoc}
 use Rattle.std.specs.List.{list_any}
 use Rattle.std.specs.Prelude.{◌&&◌}
-use Rattle.std.proofs.lemmas.List.{length-map, map-append, take-map, take_more}
+use Rattle.std.proofs.lemmas.List.{drop_more, length-map, map-append, take_more}
 use Rattle.std.proofs.lemmas.List.Folds.{list_all-append, list_any-append}
 use Rattle.pf_model.specs.declared.expr.Matcher.{Matcher}
 use Rattle.pf_model.specs.Binding.{matchers_in, pattern_of, patterns_in}
-use Rattle.pf_model.specs.Lists.{at}
-use Rattle.pf_model.specs.Queries.{CanRefuse, IsBindable, are_meant, counted, first_empty_from, is_empty_selector, is_meant_node}
+use Rattle.pf_model.specs.Queries.{IsBindable, are_meant, bind_fault, bind_fault_from, counted, first_empty_from, has_refused, is_empty_selector, is_meant_node}
+use Rattle.pf_model.specs.ErrorTexts.{QueryFault, empty_selector, refused_pattern}
 use Rattle.pf_model.specs.Trees.{Tree, number, text, unary, binary, call, aggregate, select, size, subquery}
 use Rattle.pf_types.specs.declared.bound.BindError.{BindError}
 use Rattle.pf_types.specs.declared.bound.BindError.TheVariants as bind
-use Rattle.pf_types.specs.Counted.{IsBindFault, IsNodeFault}
+use Rattle.pf_types.specs.Counted.{IsBindFate, IsNodeFate}
 use Rattle.pf_types.proofs.CountedNodes.{counted_size}
 
 pub one_more : {X : Type 0} (f : X → Tree) (xs : List X) (i : ℕ) (x : X) → i < length xs → x ≡ get_or xs i x
@@ -83,63 +83,41 @@ bindable ts tree meant h is = record {
   selects = ap (first_empty_from 0) (sym is) ∙ no_first 0 ts h;
 }
 
-own_place : (n : ℕ) → n ≡ n + zero
-own_place n = omega arith
+-- ---- the first fault
 
-next_place : (n i : ℕ) → n + 1 + i ≡ n + suc i
-next_place n i = omega arith
+-- what is left of the nodes has the fault of all, behind one without
+pub fault_step : {X : Type 0} (f : X → Tree) (refs : List (List ℕ)) (xs : List X) (i : ℕ) (x : X) (whole : Option QueryFault) → i < length xs → x ≡ get_or xs i x
+    → bind_fault_from refs i (map f (drop i xs)) ≡ whole → has_refused refs (f x) ≡ false → is_empty_selector (f x) ≡ false
+    → bind_fault_from refs (i + 1) (map f (drop (i + 1) xs)) ≡ whole
+fault_step f refs xs i x whole h is left refused empty =
+    let first : map f (drop i xs) ≡ f x ∷ map f (drop (i + 1) xs) = ap (map f) (drop_more xs i x h) ∙ ap (λ y. f y ∷ map f (drop (i + 1) xs)) (sym is) in
+    let rest = bind_fault_from refs (i + 1) (map f (drop (i + 1) xs)) in
+    sym (ap (bind_fault_from refs i) first ∙ ap (λ b. cond b (Some (refused_pattern i)) (cond (is_empty_selector (f x)) (Some (empty_selector i)) rest)) refused
+    ∙ ap (λ b. cond b (Some (empty_selector i)) rest) empty)
+    ∙ left
 
-first_at : (n i : ℕ) (ts : List Tree) (t : Tree) → list_any is_empty_selector (take i ts) ≡ false → at ts i ≡ Some t → is_empty_selector t ≡ true
-    → first_empty_from n ts ≡ Some (n + i)
-first_at n i [] t h a e = absurd (none_is a) where
-  none_is : None ≡ Some t → ⊥
-  none_is g = cc
-first_at n zero (x ∷ xs) t h a e =
-    ap (λ b. cond b (Some n) (first_empty_from (n + 1) xs)) (ap is_empty_selector (same a) ∙ e) ∙ ap Some (own_place n) where
-      same : Some x ≡ Some t → x ≡ t
-      same g = cc
-first_at n (suc i) (x ∷ xs) t h a e = by (is_empty_selector x) h (λ g. first_at (n + 1) i xs t g a e) where
-  by : (b : Bool) → (b || list_any is_empty_selector (take i xs)) ≡ false
-      → (list_any is_empty_selector (take i xs) ≡ false → first_empty_from (n + 1) xs ≡ Some (n + 1 + i))
-      → cond b (Some n) (first_empty_from (n + 1) xs) ≡ Some (n + suc i)
-  by true g more = absurd (true≢false g)
-  by false g more = more g ∙ ap Some (next_place n i)
+-- a node that is not bound
+pub node_fate : {X : Type 0} (f : X → Tree) (refs : List (List ℕ)) (xs : List X) (i which : ℕ) (x : X) (e : BindError) (tree : Tree)
+    → i < length xs → x ≡ get_or xs i x → which ≡ i → bind_fault_from refs i (map f (drop i xs)) ≡ bind_fault_from refs 0 (map f xs)
+    → IsNodeFate {T = Unit {0}} refs which (f x) (Err e) → map f xs ≡ counted tree → IsBindFate {T = Unit {0}} refs tree (Err e)
+node_fate f refs xs i which x e tree h is w left fate all = by e fate where
+  first : map f (drop i xs) ≡ f x ∷ map f (drop (i + 1) xs)
+  first = ap (map f) (drop_more xs i x h) ∙ ap (λ y. f y ∷ map f (drop (i + 1) xs)) (sym is)
 
-at_map : {X : Type 0} (f : X → Tree) (xs : List X) (i : ℕ) (x : X) → i < length xs → at (map f xs) i ≡ Some (f (get_or xs i x))
-at_map f [] i x h = absurd (omega (arith, h))
-at_map f (y ∷ ys) zero x h = refl
-at_map f (y ∷ ys) (suc i) x h = at_map f ys i x (omega (arith, h))
+  whole : bind_fault refs tree ≡ bind_fault_from refs i (f x ∷ map f (drop (i + 1) xs))
+  whole = ap (bind_fault_from refs 0) (sym all) ∙ sym left ∙ ap (bind_fault_from refs i) first
 
-from_zero : (i : ℕ) → i ≡ 0 + i
-from_zero i = omega arith
+  rest : Option QueryFault
+  rest = bind_fault_from refs (i + 1) (map f (drop (i + 1) xs))
 
--- a node that is not bound stands at its number
-pub node_fault : {X : Type 0} (f : X → Tree) (xs : List X) (i which : ℕ) (x : X) (e : BindError)
-    → i < length xs → x ≡ get_or xs i x → which ≡ i → are_meant (map f (take i xs)) ≡ true → list_any is_empty_selector (map f (take i xs)) ≡ false
-    → IsNodeFault which (f x) e → (tree : Tree) → map f xs ≡ counted tree → IsBindFault tree e
-node_fault f xs i which x (bind.Pattern n) h is w meant none fault tree all =
-    let k : n ≡ i = fault.0 ∙ w in
-    subst (λ (m : ℕ). CanRefuse m tree) (sym k) (record {
-      meant = ap (λ ts. are_meant (take i ts)) (sym all) ∙ ap are_meant (take-map f i xs) ∙ meant;
-      before = ap (λ ts. list_any is_empty_selector (take i ts)) (sym all) ∙ ap (list_any is_empty_selector) (take-map f i xs) ∙ none;
-      node = f x;
-      there = ap (λ ts. at ts i) (sym all) ∙ at_map f xs i x h ∙ ap (λ y. Some (f y)) (sym is);
-      pattern = fault.1;
-    })
-node_fault f xs i which x (bind.Empty n) h is w meant none fault tree all =
-    let k : 0 + i ≡ n = sym (fault.0 ∙ w ∙ from_zero i) in
-    let m : i ≡ n = sym (fault.0 ∙ w) in
-    record {
-      meant =
-          ap (λ j. are_meant (take (j + 1) (counted tree))) (sym m) ∙ ap (λ ts. are_meant (take (i + 1) ts)) (sym all)
-          ∙ ap are_meant (take-map f (i + 1) xs) ∙ meant_step (map f (take i xs)) _ (f x) meant fault.1.0 (one_more f xs i x h is);
-      first =
-          ap (first_empty_from 0) (sym all)
-          ∙ first_at 0 i (map f xs) (f x) (ap (list_any is_empty_selector) (take-map f i xs) ∙ none)
-          (at_map f xs i x h ∙ ap (λ y. Some (f y)) (sym is)) fault.1.1
-          ∙ ap Some k;
-    }
-node_fault f xs i which x bind.OutOfMemory h is w meant none fault tree all = tt
+  by : (e : BindError) → IsNodeFate {T = Unit {0}} refs which (f x) (Err e) → IsBindFate {T = Unit {0}} refs tree (Err e)
+  by (bind.Pattern n) g =
+      whole ∙ ap (λ b. cond b (Some (refused_pattern i)) (cond (is_empty_selector (f x)) (Some (empty_selector i)) rest)) g.1
+      ∙ ap (λ k. Some (refused_pattern k)) (sym (g.0 ∙ w))
+  by (bind.Empty n) g =
+      whole ∙ ap (λ b. cond b (Some (refused_pattern i)) (cond (is_empty_selector (f x)) (Some (empty_selector i)) rest)) g.1.0
+      ∙ ap (λ b. cond b (Some (empty_selector i)) rest) g.1.1 ∙ ap (λ k. Some (empty_selector k)) (sym (g.0 ∙ w))
+  by bind.OutOfMemory g = tt
 
 -- ---- how many nodes are counted
 

@@ -1,7 +1,7 @@
 -- The counted nodes of a query, by its variants.
 use Rattle.std.proofs.Common.{◌≡◌, ◌∙◌, sym, ap, refl, arith, ℕ, ℤ, Result, Ok, Err, OnOk, ◌+◌, ◌<◌, ◌≤◌, Bool, true, false, true≢false, cond, Option, List, [], ◌∷◌, ◌++◌, drop, get_or, length, map, append-nil, append_assoc, suc}
 use Rattle.std.proofs.lemmas.List.Elements.{filter-append}
-use Rattle.std.specs.Prelude.{Box, Vec}
+use Rattle.std.specs.Prelude.{Box, Vec, ◌&&◌}
 use Rattle.pf_model.specs.declared.expr.BinaryOp.{BinaryOp}
 use Rattle.pf_model.specs.declared.expr.Expr.{Expr}
 use Rattle.pf_model.specs.declared.expr.Expr.TheVariants as expr
@@ -13,12 +13,14 @@ use Rattle.pf_model.specs.declared.functions.AggOp.{AggOp}
 use Rattle.pf_model.specs.declared.functions.InstantFn.TheVariants as function
 use Rattle.pf_model.specs.Binding.{fifth_text, matchers_in, pattern_of, patterns_in}
 use Rattle.pf_model.specs.Clauses.{Grouped, Matched}
-use Rattle.pf_match.specs.Meaning.{is_pattern}
-use Rattle.pf_model.specs.Queries.{counted, counted_in, is_counted, is_fifth_meant, is_label_replace, is_meant_node}
+use Rattle.pf_match.specs.Meaning.{is_pattern, is_refused}
+use Rattle.pf_model.specs.Queries.{counted, counted_in, has_refused, is_counted, is_fifth_meant, is_fifth_refused, is_label_replace, is_meant_node}
 use Rattle.pf_model.specs.Trees.{Tree, Trees, number, text, unary, binary, call, aggregate, select, subquery, more, none, preorder, all_preorder, size, tree_of, trees_of}
 use Rattle.pf_model.proofs.PreorderSizes.{preorder_size}
 use Rattle.pf_model.proofs.TreeOf.{number_tree, text_tree, unary_tree, binary_tree, call_tree, aggregate_tree, select_tree, subquery_tree}
-use Rattle.pf_types.specs.Counted.{all_counted, text_in}
+use Rattle.pf_types.specs.Counted.{IsCallFate, IsNodeFate, all_counted, text_in}
+use Rattle.pf_types.specs.declared.bound.BindError.{BindError}
+use Rattle.pf_types.specs.declared.bound.BindError.TheVariants as bind
 use Rattle.pf_types.proofs.Operands.{rest, rest_more, rest_none}
 
 -- ---- variants
@@ -248,3 +250,58 @@ no_fifth_meant f args e = meant_by (is_label_replace f) (is_fifth_meant args) (f
 
 pub other_meant : (f : Function) (args : Trees) → is_label_replace f ≡ false → is_meant_node (call f args) ≡ true
 other_meant f args h = ap (λ b. cond b (is_fifth_meant args) true) h
+
+-- ---- what becomes of it
+
+fifth_refused : (refs : List (List ℕ)) (args : Trees) (p : List ℕ) → fifth_text args ≡ p ∷ [] → is_fifth_refused refs args ≡ is_refused refs p
+fifth_refused refs none p h = cc
+fifth_refused refs (more a none) p h = cc
+fifth_refused refs (more a (more b none)) p h = cc
+fifth_refused refs (more a (more b (more c none))) p h = cc
+fifth_refused refs (more a (more b (more c (more d none)))) p h = cc
+fifth_refused refs (more a (more b (more c (more d (more (number v) ts))))) p h = cc
+fifth_refused refs (more a (more b (more c (more d (more (text s) ts))))) p h = let is : s ≡ p = cc in ap (is_refused refs) is
+fifth_refused refs (more a (more b (more c (more d (more (unary m e) ts))))) p h = cc
+fifth_refused refs (more a (more b (more c (more d (more (binary op m l r) ts))))) p h = cc
+fifth_refused refs (more a (more b (more c (more d (more (call f args) ts))))) p h = cc
+fifth_refused refs (more a (more b (more c (more d (more (aggregate op g args) ts))))) p h = cc
+fifth_refused refs (more a (more b (more c (more d (more (select ms range mods) ts))))) p h = cc
+fifth_refused refs (more a (more b (more c (more d (more (subquery e range resolution mods) ts))))) p h = cc
+
+no_fifth_refused : (refs : List (List ℕ)) (args : Trees) → fifth_text args ≡ [] → is_fifth_refused refs args ≡ false
+no_fifth_refused refs none h = refl
+no_fifth_refused refs (more a none) h = refl
+no_fifth_refused refs (more a (more b none)) h = refl
+no_fifth_refused refs (more a (more b (more c none))) h = refl
+no_fifth_refused refs (more a (more b (more c (more d none)))) h = refl
+no_fifth_refused refs (more a (more b (more c (more d (more (number v) ts))))) h = refl
+no_fifth_refused refs (more a (more b (more c (more d (more (text s) ts))))) h = cc
+no_fifth_refused refs (more a (more b (more c (more d (more (unary m e) ts))))) h = refl
+no_fifth_refused refs (more a (more b (more c (more d (more (binary op m l r) ts))))) h = refl
+no_fifth_refused refs (more a (more b (more c (more d (more (call f args) ts))))) h = refl
+no_fifth_refused refs (more a (more b (more c (more d (more (aggregate op g args) ts))))) h = refl
+no_fifth_refused refs (more a (more b (more c (more d (more (select ms range mods) ts))))) h = refl
+no_fifth_refused refs (more a (more b (more c (more d (more (subquery e range resolution mods) ts))))) h = refl
+
+-- of a call with a pattern
+pub call_fate : {T : Type 0} (refs : List (List ℕ)) (which : ℕ) (f : Function) (args : Trees) (p : List ℕ) (r : Result T BindError) → is_label_replace f ≡ true
+    → fifth_text args ≡ p ∷ [] → IsCallFate which (is_refused refs p) r → IsNodeFate refs which (call f args) r
+call_fate refs which f args p r replaces is = by r where
+  same : has_refused refs (call f args) ≡ is_refused refs p
+  same = ap (λ b. b && is_fifth_refused refs args) replaces ∙ fifth_refused refs args p is
+
+  by : {T : Type 0} (r : Result T BindError) → IsCallFate which (is_refused refs p) r → IsNodeFate refs which (call f args) r
+  by (Ok built) h = (same ∙ h, refl)
+  by (Err (bind.Pattern n)) h = (h.0, same ∙ h.1)
+  by (Err (bind.Empty n)) h = absurd h
+  by (Err bind.OutOfMemory) h = tt
+
+-- of one without, and of one that has none
+pub no_fifth_fate : (refs : List (List ℕ)) (f : Function) (args : Trees) → fifth_text args ≡ [] → has_refused refs (call f args) ≡ false
+no_fifth_fate refs f args is = ap (λ b. is_label_replace f && b) (no_fifth_refused refs args is) ∙ and_false (is_label_replace f) where
+  and_false : (b : Bool) → (b && false) ≡ false
+  and_false true = refl
+  and_false false = refl
+
+pub other_fate : (refs : List (List ℕ)) (f : Function) (args : Trees) → is_label_replace f ≡ false → has_refused refs (call f args) ≡ false
+other_fate refs f args h = ap (λ b. b && is_fifth_refused refs args) h

@@ -1,5 +1,5 @@
 -- When a query is asked, what is known of a bound query, and what its text asks: this project's own.
-use Rattle.std.specs.Prelude.{◌≡◌, ◌≤◌, ◌<◌, ℕ, Bool, true, false, List}
+use Rattle.std.specs.Prelude.{◌≡◌, ◌≤◌, ◌<◌, ℕ, Bool, true, false, List, Result, Ok, Err}
 use Rattle.pf_base.specs.GridLists.{GridData}
 use Rattle.pf_journal.specs.Asking.{Asked, asked_over}
 use Rattle.pf_model.specs.declared.expr.Kind.{Kind}
@@ -12,6 +12,8 @@ use Rattle.pf_model.specs.Typing.{admits, kind_of, scalar_or_instant}
 use Rattle.pf_print.specs.OwnTexts.{HasText}
 use Rattle.pf_resolve.specs.Bounds.{is_small}
 use Rattle.pf_resolve.specs.Settled.{is_settled}
+use Rattle.pf_types.specs.Errors.{IsFaultFor, query_fault}
+use Rattle.pf_types.specs.declared.query.QueryError.{QueryError}
 use Rattle.pf_types.specs.declared.asking.When.{When}
 use Rattle.pf_types.specs.declared.asking.When.TheVariants as when
 
@@ -51,6 +53,11 @@ pub record IsPutIn (tree : Tree) (matchers : List (List Matcher)) (patterns : Li
   pub selectors : matchers ≡ selectors_of tree
   pub replacements : patterns ≡ patterns_of tree
 
--- a text is read as a query without an empty selector, and this is that query over a grid
-abbrev pub IsAskedBy : List ℕ → (instant : Bool) → GridData → Asked → Type 0
-IsAskedBy text instant grid asked = (tree : Tree) × (IsReading text (lawful tree) × (asked ≡ asked_over instant grid tree))
+-- a text is read as a query, by the refused patterns, and this is that query over a grid
+abbrev pub IsAskedBy : (refused : List (List ℕ)) → List ℕ → (instant : Bool) → GridData → Asked → Type 0
+IsAskedBy refused text instant grid asked = (tree : Tree) × (IsReading refused text (lawful tree) × (asked ≡ asked_over instant grid tree))
+
+-- the same, or a text has this fault, where expressions that compile too big are refused
+abbrev pub IsAskedAs : (refused : List (List ℕ)) → List ℕ → (instant : Bool) → GridData → Result Asked QueryError → Type 0
+IsAskedAs refused text instant grid (Ok asked) = IsAskedBy refused text instant grid asked
+IsAskedAs refused text instant grid (Err e) = IsFaultFor refused text (query_fault e)

@@ -1,6 +1,7 @@
 -- The counted nodes of queries, and why a query is not bound: this project's own.
-use Rattle.std.specs.Prelude.{◌≡◌, ℕ, Bool, true, List, [], ◌∷◌}
-use Rattle.pf_model.specs.Queries.{CanRefuse, IsFirstEmpty, counted_in, is_empty_selector, is_meant_node, may_be_refused}
+use Rattle.std.specs.Prelude.{◌≡◌, ℕ, Bool, true, false, List, [], ◌∷◌, Option, Some, None, Result, Ok, Err}
+use Rattle.pf_model.specs.ErrorTexts.{refused_pattern, empty_selector}
+use Rattle.pf_model.specs.Queries.{bind_fault, counted_in, has_refused, is_empty_selector}
 use Rattle.pf_model.specs.Trees.{Tree, Trees, text, all_preorder}
 use Rattle.pf_types.specs.declared.bound.BindError.{BindError}
 use Rattle.pf_types.specs.declared.bound.BindError.TheVariants as bind
@@ -14,20 +15,23 @@ abbrev pub text_in : Tree → List (List ℕ)
 text_in (text bytes) = bytes ∷ []
 text_in tree = []
 
--- why the pattern of a call is not built, where the call has this number
-abbrev pub IsCallFault : ℕ → Bool → BindError → Type 0
-IsCallFault which has_pattern (bind.Pattern n) = (n ≡ which) × (has_pattern ≡ true)
-IsCallFault which has_pattern (bind.Empty n) = ⊥
-IsCallFault which has_pattern bind.OutOfMemory = Unit {0}
+-- how the pattern of a call is built, where the call has this number: not where it is refused, or memory ran out
+abbrev pub IsCallFate : {T : Type 0} → ℕ → (is_refused : Bool) → Result T BindError → Type 0
+IsCallFate which refused (Ok built) = refused ≡ false
+IsCallFate which refused (Err (bind.Pattern n)) = (n ≡ which) × (refused ≡ true)
+IsCallFate which refused (Err (bind.Empty n)) = ⊥
+IsCallFate which refused (Err bind.OutOfMemory) = Unit {0}
 
--- why the counted node of this number is not bound
-abbrev pub IsNodeFault : ℕ → Tree → BindError → Type 0
-IsNodeFault which node (bind.Pattern n) = (n ≡ which) × (may_be_refused node ≡ true)
-IsNodeFault which node (bind.Empty n) = (n ≡ which) × ((is_meant_node node ≡ true) × (is_empty_selector node ≡ true))
-IsNodeFault which node bind.OutOfMemory = Unit {0}
+-- how the counted node of this number is bound, by the refused patterns
+abbrev pub IsNodeFate : {T : Type 0} → (refused : List (List ℕ)) → ℕ → Tree → Result T BindError → Type 0
+IsNodeFate refused which node (Ok bound) = (has_refused refused node ≡ false) × (is_empty_selector node ≡ false)
+IsNodeFate refused which node (Err (bind.Pattern n)) = (n ≡ which) × (has_refused refused node ≡ true)
+IsNodeFate refused which node (Err (bind.Empty n)) = (n ≡ which) × ((has_refused refused node ≡ false) × (is_empty_selector node ≡ true))
+IsNodeFate refused which node (Err bind.OutOfMemory) = Unit {0}
 
--- why a query is not bound
-abbrev pub IsBindFault : Tree → BindError → Type 0
-IsBindFault tree (bind.Pattern which) = CanRefuse which tree
-IsBindFault tree (bind.Empty which) = IsFirstEmpty which tree
-IsBindFault tree bind.OutOfMemory = Unit {0}
+-- how a query is bound, by the refused patterns
+abbrev pub IsBindFate : {T : Type 0} → (refused : List (List ℕ)) → Tree → Result T BindError → Type 0
+IsBindFate refused tree (Ok bound) = bind_fault refused tree ≡ None
+IsBindFate refused tree (Err (bind.Pattern which)) = bind_fault refused tree ≡ Some (refused_pattern which)
+IsBindFate refused tree (Err (bind.Empty which)) = bind_fault refused tree ≡ Some (empty_selector which)
+IsBindFate refused tree (Err bind.OutOfMemory) = Unit {0}

@@ -33,10 +33,10 @@ query_fault (query.Pattern which) = Some (refused_pattern which)
 query_fault (query.Empty which) = Some (empty_selector which)
 query_fault query.OutOfMemory = None
 
--- a fault, where there is one, is that of the text
-abbrev pub IsFaultFor : List ℕ → Option QueryFault → Type 0
-IsFaultFor text None = Unit {0}
-IsFaultFor text (Some fault) = IsFaultOf text fault
+-- a fault, where there is one, is that of the text, by the refused patterns
+abbrev pub IsFaultFor : (refused : List (List ℕ)) → List ℕ → Option QueryFault → Type 0
+IsFaultFor refused text None = Unit {0}
+IsFaultFor refused text (Some fault) = IsFaultOf refused text fault
 
 -- a query of this tree is answered with it, unless memory ran out
 abbrev pub IsAnsweredWith : Tree → Result Expr QueryError → Type 0

@@ -1,20 +1,20 @@
 //! What is asked: queries over grids.
 
-ghost use Rattle.std.specs.Prelude.{◌≡◌, IfErr, IfOk, true};
+ghost use Rattle.std.specs.Prelude.{◌≡◌, ℕ, IfOk, List, true};
 ghost use Rattle.std.specs.Arc.{arc_value};
 ghost use Rattle.pf_journal.specs.Asking.{asked_over};
+ghost use Rattle.pf_match.specs.Tables.{Agrees, AreTooBig};
 ghost use Rattle.pf_model.specs.Built.{is_evaluated};
 ghost use Rattle.pf_model.specs.Canonical.{canonical};
 ghost use Rattle.pf_model.specs.Resolving.{resolved_over};
 ghost use Rattle.pf_model.specs.Trees.{tree_of};
-ghost use Rattle.pf_types.specs.Asking.{IsAskedBy, IsPutIn, IsWhen, grid_in, is_instant};
-ghost use Rattle.pf_types.specs.Errors.{IsFaultFor, query_fault};
+ghost use Rattle.pf_types.specs.Asking.{IsAskedAs, IsPutIn, IsWhen, grid_in, is_instant};
 
 use crate::bound::{BoundQuery, bind};
 use crate::query::{QueryError, read_query};
 use pf_asked::Asked;
 use pf_base::{Grid, OutOfMemory};
-use pf_match::Pattern;
+use pf_match::{Pattern, Patterns};
 use pf_model::{Expr, Kind, Matchers};
 use pf_print::{keep_texts, print};
 use pf_resolve::{resolve, resolved_over};
@@ -98,13 +98,16 @@ impl BoundQuery {
     }
 }
 
-/// What a text asks over a grid, whose first and last time stand for `start()` and `end()`. Prometheus, HTTP API: Instant
-/// queries, Range queries. Else the first error: that of `read_query`; then the first in preorder of a refused pattern and a
-/// selector that accepts the empty text, and of both at one node the pattern.
-pub fn read_asked(alloc: Global, text: &str, when: When) -> Result<Asked, QueryError>
+/// What a text asks over a grid, whose first and last time stand for `start()` and `end()`, where the patterns that were read
+/// before keep their fates.
+fn read_asked_with(
+    alloc: Global,
+    patterns: &mut Patterns,
+    text: &str,
+    when: When,
+) -> Result<Asked, QueryError>
     requires { IsWhen when }
-    ensures asked { IfOk result (λ a. IsAskedBy text.now (is_instant when) (grid_in when) a) }
-    ensures refused { IfErr result (λ e. IsFaultFor text.now (query_fault e)) }
+    ensures { (refused : List (List ℕ)) → Agrees patterns.new refused → IsAskedAs refused text.now (is_instant when) (grid_in when) result }
 {
     keep_texts();
     let expr = read_query(alloc, text)?;
@@ -113,8 +116,22 @@ pub fn read_asked(alloc: Global, text: &str, when: When) -> Result<Asked, QueryE
         matchers,
         patterns,
         kind,
-    } = bind(alloc, expr)?;
+    } = bind(alloc, patterns, expr)?;
     let expr = put_in(expr, &grid_in(&when));
     let asked = asked_with(alloc, expr, matchers, patterns, kind, &when)?;
     Ok(asked)
+}
+
+/// What a text asks over a grid, whose first and last time stand for `start()` and `end()`. Prometheus, HTTP API: Instant
+/// queries, Range queries. Else the first error: that of `read_query`; then the first in preorder of a refused pattern and a
+/// selector that accepts the empty text, and of both at one node the pattern.
+pub fn read_asked(alloc: Global, text: &str, when: When) -> Result<Asked, QueryError>
+    requires { IsWhen when }
+    ensures { (refused : List (List ℕ)) × (AreTooBig refused × IsAskedAs refused text.now (is_instant when) (grid_in when) result) }
+{
+    let mut patterns = Patterns::new(alloc);
+    let asked = read_asked_with(alloc, &mut patterns, text, when);
+    // What it says is all that is needed of it.
+    patterns.refused();
+    asked
 }

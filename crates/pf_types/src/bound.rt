@@ -1,19 +1,20 @@
 //! Queries with the matchers of their selectors and the patterns of their calls.
 
-ghost use Rattle.std.specs.Prelude.{◌≡◌, ◌++◌, ◌∷◌, ◌≤◌, [], IfErr, IfOk, MatchOption, OnOk, cond, false, length, map, true};
+ghost use Rattle.std.specs.Prelude.{◌≡◌, ◌++◌, ◌∷◌, ◌≤◌, ℕ, [], IfOk, List, MatchOption, OnOk, cond, false, length, map, true};
 ghost use Rattle.std.specs.List.{list_any};
 ghost use Rattle.pf_model.specs.Binding.{fifth_text, matchers_in, pattern_of, patterns_in, patterns_of, selectors_of};
-ghost use Rattle.pf_match.specs.Meaning.{is_pattern};
+ghost use Rattle.pf_match.specs.Meaning.{is_pattern, is_refused};
+ghost use Rattle.pf_match.specs.Tables.{Agrees, Stays};
 ghost use Rattle.pf_model.specs.Queries.{IsBindable, are_meant, counted, is_empty_selector, is_label_replace, is_meant_node};
 ghost use Rattle.pf_model.specs.Selection.{accepts_empty, all_meant};
 ghost use Rattle.pf_model.specs.Built.{is_evaluated};
 ghost use Rattle.pf_model.specs.Trees.{Tree, call, height, instant, size, tree_of, trees_of};
 ghost use Rattle.pf_print.specs.OwnTexts.{HasText};
-ghost use Rattle.pf_types.specs.Counted.{IsBindFault, IsCallFault, IsNodeFault, all_counted, text_in};
+ghost use Rattle.pf_types.specs.Counted.{IsBindFate, IsCallFate, IsNodeFate, all_counted, text_in};
 
 use crate::kinds::kind_of;
 use pf_base::{OutOfMemory, Text};
-use pf_match::{Pattern, PatternError};
+use pf_match::{Pattern, PatternError, Patterns};
 use pf_model::{Expr, Function, InstantFn, Kind, MatchError, Matchers, Selector};
 use std::alloc::{AllocError, AllocFailed, Global};
 use std::marker::Model;
@@ -161,6 +162,7 @@ fn counted(alloc: Global, expr: &Expr) -> Result<Vec<&Expr>, OutOfMemory>
 
 /// Adds the matchers of a selector, whose number this is.
 fn push_selector(
+    known: &mut Patterns,
     found: &mut Vec<Matchers>,
     which: u32,
     selector: &Selector,
@@ -168,9 +170,10 @@ fn push_selector(
     ensures added { OnOk result (found.new.items ≡ found.old.items ++ selector.now ∷ []) }
     ensures meant { OnOk result (all_meant selector.now ≡ true) }
     ensures selects { OnOk result (accepts_empty selector.now ≡ false) }
-    ensures fault { IfErr result (IsNodeFault which (instant selector.now)) }
+    ensures fate { (refused : List (List ℕ)) → Agrees known.new refused → IsNodeFate refused which (instant selector.now) result }
+    ensures still { Stays known.old known.new }
 {
-    match Matchers::build(selector) {
+    match Matchers::build_with(known, selector) {
         Ok(matchers) => {
             found.push(matchers)?;
             Ok(())
@@ -182,21 +185,23 @@ fn push_selector(
 }
 
 fn push_pattern(
-    alloc: Global,
+    known: &mut Patterns,
     found: &mut Vec<Pattern>,
     which: u32,
     text: &Text,
 ) -> Result<(), BindError>
     ensures added { OnOk result (found.new.items ≡ found.old.items ++ text.now ∷ []) }
     ensures read { OnOk result (is_pattern text.now ≡ true) }
-    ensures fault { IfErr result (IsCallFault which true) }
+    ensures fate { (refused : List (List ℕ)) → Agrees known.new refused → IsCallFate which (is_refused refused text.now) result }
+    ensures still { Stays known.old known.new }
 {
-    match Pattern::build(alloc, text.as_str()) {
+    match known.pattern(text.as_str()) {
         Ok(pattern) => {
             found.push(pattern)?;
             Ok(())
         }
         Err(PatternError::BadPattern) => Err(BindError::Pattern { which }),
+        Err(PatternError::TooBig) => Err(BindError::Pattern { which }),
         Err(PatternError::OutOfMemory) => Err(BindError::OutOfMemory),
     }
 }
@@ -224,9 +229,9 @@ fn fifth_text(args: &[Expr]) -> Option<&Text>
 }
 
 /// Adds the pattern of a call, whose number this is.
-#[tactic(auto, using(crate::proofs::CountedNodes::own_pattern, crate::proofs::CountedNodes::other_pattern, crate::proofs::CountedNodes::other_meant, crate::proofs::CountedNodes::fifth_meant, crate::proofs::CountedNodes::no_fifth_meant))]
+#[tactic(auto, using(crate::proofs::CountedNodes::own_pattern, crate::proofs::CountedNodes::other_pattern, crate::proofs::CountedNodes::other_meant, crate::proofs::CountedNodes::fifth_meant, crate::proofs::CountedNodes::no_fifth_meant, crate::proofs::CountedNodes::other_fate, crate::proofs::CountedNodes::no_fifth_fate))]
 fn push_pattern_of(
-    alloc: Global,
+    known: &mut Patterns,
     found: &mut Vec<Pattern>,
     which: u32,
     function: Function,
@@ -234,20 +239,21 @@ fn push_pattern_of(
 ) -> Result<(), BindError>
     ensures added { OnOk result (found.new.items ≡ found.old.items ++ pattern_of function (trees_of (map tree_of args.now))) }
     ensures meant { OnOk result (is_meant_node (call function (trees_of (map tree_of args.now))) ≡ true) }
-    ensures fault { IfErr result (IsCallFault which (is_label_replace function)) }
+    ensures fate { (refused : List (List ℕ)) → Agrees known.new refused → IsNodeFate refused which (call function (trees_of (map tree_of args.now))) result }
+    ensures still { Stays known.old known.new }
 {
     if !is_label_replace(function) {
         return Ok(());
     }
     match fifth_text(args) {
-        Some(text) => push_pattern(alloc, found, which, text),
+        Some(text) => push_pattern(known, found, which, text),
         None => Ok(()),
     }
 }
 
 /// Adds what a counted node has, its matchers or its pattern. Its number is this one.
 fn push_parts(
-    alloc: Global,
+    known: &mut Patterns,
     selectors: &mut Vec<Matchers>,
     patterns: &mut Vec<Pattern>,
     which: u32,
@@ -257,11 +263,12 @@ fn push_parts(
     ensures patterns { OnOk result (patterns.new.items ≡ patterns.old.items ++ patterns_in (tree_of node.now ∷ [])) }
     ensures meant { OnOk result (is_meant_node (tree_of node.now) ≡ true) }
     ensures selects { OnOk result (is_empty_selector (tree_of node.now) ≡ false) }
-    ensures fault { IfErr result (IsNodeFault which (tree_of node.now)) }
+    ensures fate { (refused : List (List ℕ)) → Agrees known.new refused → IsNodeFate refused which (tree_of node.now) result }
+    ensures still { Stays known.old known.new }
 {
     match node {
-        Expr::Select { selector, .. } => push_selector(selectors, which, selector),
-        Expr::Call { function, args } => push_pattern_of(alloc, patterns, which, *function, args),
+        Expr::Select { selector, .. } => push_selector(known, selectors, which, selector),
+        Expr::Call { function, args } => push_pattern_of(known, patterns, which, *function, args),
         _ => Ok(()),
     }
 }
@@ -274,18 +281,19 @@ struct Parts {
 }
 
 /// What counted nodes have, where none of them is an empty selector.
-fn parts_of(alloc: Global, nodes: &[&Expr]) -> Result<Parts, BindError>
+fn parts_of(alloc: Global, known: &mut Patterns, nodes: &[&Expr]) -> Result<Parts, BindError>
     requires { length nodes.now ≤ 4294967295 }
     ensures selectors { IfOk result (λ p. p.selectors.items ≡ matchers_in (map (λ e. tree_of e.now) nodes.now)) }
     ensures patterns { IfOk result (λ p. p.patterns.items ≡ patterns_in (map (λ e. tree_of e.now) nodes.now)) }
     ensures meant { OnOk result (are_meant (map (λ e. tree_of e.now) nodes.now) ≡ true) }
     ensures select { OnOk result (list_any is_empty_selector (map (λ e. tree_of e.now) nodes.now) ≡ false) }
-    ensures fault { IfErr result (λ e. (tree : Tree) → map (λ n. tree_of n.now) nodes.now ≡ counted tree → IsBindFault tree e) }
+    ensures fate { (refused : List (List ℕ)) → Agrees known.new refused → (tree : Tree) → map (λ e. tree_of e.now) nodes.now ≡ counted tree → IsBindFate refused tree result }
+    ensures still { Stays known.old known.new }
 {
     let mut selectors = Vec::new(alloc);
     let mut patterns = Vec::new(alloc);
     for i in 0..nodes.len() {
-        push_parts(alloc, &mut selectors, &mut patterns, i as u32, nodes[i])?;
+        push_parts(known, &mut selectors, &mut patterns, i as u32, nodes[i])?;
     }
     Ok(Parts {
         selectors,
@@ -295,34 +303,36 @@ fn parts_of(alloc: Global, nodes: &[&Expr]) -> Result<Parts, BindError>
 
 /// What the counted nodes of a query have.
 #[tactic(auto, using(crate::proofs::CountedNodes::counted_size, crate::proofs::CountedNodes::counted_matchers, crate::proofs::CountedNodes::counted_patterns, crate::proofs::BindSteps::bindable))]
-fn query_parts(alloc: Global, expr: &Expr) -> Result<Parts, BindError>
+fn query_parts(alloc: Global, known: &mut Patterns, expr: &Expr) -> Result<Parts, BindError>
     requires { size (tree_of expr.now) ≤ 4294967295 }
     ensures selectors { IfOk result (λ p. p.selectors.items ≡ selectors_of (tree_of expr.now)) }
     ensures patterns { IfOk result (λ p. p.patterns.items ≡ patterns_of (tree_of expr.now)) }
     ensures selects { OnOk result (IsBindable (tree_of expr.now)) }
-    ensures fault { IfErr result (IsBindFault (tree_of expr.now)) }
+    ensures fate { (refused : List (List ℕ)) → Agrees known.new refused → IsBindFate refused (tree_of expr.now) result }
+    ensures still { Stays known.old known.new }
 {
     let nodes = counted(alloc, expr)?;
-    parts_of(alloc, &nodes)
+    parts_of(alloc, known, &nodes)
 }
 
 /// A query with the matchers of its selectors and the patterns of its calls of `label_replace`, such as `read_query` gives. Of a
 /// refused pattern and an empty selector the first in preorder is told, and of both at one node the pattern. It calls itself as
-/// deep as the tree is high.
+/// deep as the tree is high. The patterns that were read before keep their fates.
 #[tactic(auto, using(crate::proofs::OverGrids::is_bound))]
-pub fn bind(alloc: Global, expr: Expr) -> Result<BoundQuery, BindError>
+pub fn bind(alloc: Global, patterns: &mut Patterns, expr: Expr) -> Result<BoundQuery, BindError>
     requires written { HasText (tree_of expr) }
     requires small { size (tree_of expr) ≤ 4294967295 }
     requires low { height (tree_of expr) ≤ 64 }
     requires evaluated { is_evaluated (tree_of expr) ≡ true }
     ensures bound { IfOk result (λ b. b ≡ tree_of expr) }
     ensures selects { OnOk result (IsBindable (tree_of expr)) }
-    ensures fault { IfErr result (IsBindFault (tree_of expr)) }
+    ensures fate { (refused : List (List ℕ)) → Agrees patterns.new refused → IsBindFate refused (tree_of expr) result }
+    ensures still { Stays patterns.old patterns.new }
 {
     let Parts {
         selectors,
         patterns,
-    } = query_parts(alloc, &expr)?;
+    } = query_parts(alloc, patterns, &expr)?;
     let kind = kind_of(&expr);
     let matchers = Arc::new(alloc, selectors)?;
     let patterns = Arc::new(alloc, patterns)?;

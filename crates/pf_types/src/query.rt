@@ -1,6 +1,6 @@
 //! Queries read from texts, with their kinds.
 
-ghost use Rattle.std.specs.Prelude.{◌≡◌, ◌≤◌, true, IfErr, IfOk};
+ghost use Rattle.std.specs.Prelude.{◌≡◌, ◌≤◌, ℕ, true, IfErr, IfOk, List};
 ghost use Rattle.pf_model.specs.Parsing.{most_bytes};
 ghost use Rattle.pf_model.specs.Built.{is_evaluated};
 ghost use Rattle.pf_model.specs.Queries.{IsQuery};
@@ -119,7 +119,7 @@ pub fn read_query(alloc: Global, text: &str) -> Result<Expr, QueryError>
     ensures small { IfOk result (λ e. size (tree_of e) ≤ most_bytes) }
     ensures low { IfOk result (λ e. height (tree_of e) ≤ 64) }
     ensures evaluated { IfOk result (λ e. is_evaluated (tree_of e) ≡ true) }
-    ensures refused { IfErr result (λ e. IsFaultFor text.now (query_fault e)) }
+    ensures refused { IfErr result (λ e. (refused : List (List ℕ)) → IsFaultFor refused text.now (query_fault e)) }
     ensures exact { (t : Tree) → IsQuery text.now t → IsAnsweredWith t result }
 {
     let expr = parse(alloc, text)?;
