@@ -30,7 +30,7 @@ use Rattle.pf_client.specs.Asks.{wanted_by}
 use Rattle.pf_client.specs.Clients.{IsFileRead}
 use Rattle.pf_client.specs.Replays.{Held}
 use Rattle.pf_client.specs.declared.client.FileRead.{FileRead}
-use Rattle.pf_client.specs.Queries.{AreReadAs, IsQueryRead, IsSelectorRead, Queries, query_reading, reading_in, readings_in}
+use Rattle.pf_client.specs.Queries.{AreReadAs, AreReadBy, IsQueryRead, IsSelectorRead, Queries, query_reading, reading_in, readings_in}
 use Rattle.pf_client.specs.declared.queries.QueryRead.TheVariants as query
 use Rattle.pf_client.specs.declared.queries.SelectorRead.TheVariants as chosen
 use Rattle.pf_client.specs.declared.queries.TextRead.{TextRead}
@@ -67,9 +67,9 @@ read_named files name given time r same h = subst (λ (n : List ℕ). IsFileRead
 
 -- ---- ranges and selectors
 
-pub no_range : (from to : ℕ) (selector : List ℕ) → (nat_lt to from || nat_lt greatest_time to) ≡ true → ToldOfDelete from to selector told.nothing
-no_range from to selector h = by (nat_lt to from) (nat_lt greatest_time to) refl refl h where
-  by : (a b : Bool) → nat_lt to from ≡ a → nat_lt greatest_time to ≡ b → (a || b) ≡ true → ToldOfDelete from to selector told.nothing
+pub no_range : (refs : List (List ℕ)) (from to : ℕ) (selector : List ℕ) → (nat_lt to from || nat_lt greatest_time to) ≡ true → ToldOfDelete refs from to selector told.nothing
+no_range refs from to selector h = by (nat_lt to from) (nat_lt greatest_time to) refl refl h where
+  by : (a b : Bool) → nat_lt to from ≡ a → nat_lt greatest_time to ≡ b → (a || b) ≡ true → ToldOfDelete refs from to selector told.nothing
   by true b e f h = inl (grind (arith, nat_tests, e))
   by false true e f h = inr (inl (grind (arith, nat_tests, f)))
   by false false e f h = cc
@@ -80,14 +80,14 @@ range_words from to h = rw h refl
 pub selector_words : (from to : ℕ) → (nat_lt to from || nat_lt greatest_time to) ≡ false → undeleted_words from to told.nothing ≡ codes "bad" ∷ codes "selector" ∷ []
 selector_words from to h = rw h refl
 
-pub selects_found : (kept : Queries) (text : List ℕ) (read : TextRead) (matchers : Arc Matchers Global) (ms : List Matcher) → AreReadAs kept → get_by_text kept text ≡ Some read
-    → read.selector ≡ chosen.Built matchers → ms ≡ arc_value matchers → IsSelector text ms
-selects_found kept text read matchers ms right there is same =
-    subst (IsSelector text) (sym same) (subst (IsSelectorRead text) is (right text read there).1)
+pub selects_found : (refs : List (List ℕ)) (kept : Queries) (text : List ℕ) (read : TextRead) (matchers : Arc Matchers Global) (ms : List Matcher) → AreReadBy refs kept → get_by_text kept text ≡ Some read
+    → read.selector ≡ chosen.Built matchers → ms ≡ arc_value matchers → IsSelector refs text ms
+selects_found refs kept text read matchers ms right there is same =
+    subst (IsSelector refs text) (sym same) (subst (IsSelectorRead refs text) is (right text read there).1)
 
-pub selects_refused : (kept : Queries) (text : List ℕ) (read : TextRead) → AreReadAs kept → get_by_text kept text ≡ Some read
-    → read.selector ≡ chosen.Refused → IsNoSelector text
-selects_refused kept text read right there is = subst (IsSelectorRead text) is (right text read there).1
+pub selects_refused : (refs : List (List ℕ)) (kept : Queries) (text : List ℕ) (read : TextRead) → AreReadBy refs kept → get_by_text kept text ≡ Some read
+    → read.selector ≡ chosen.Refused → IsNoSelector refs text
+selects_refused refs kept text read right there is = subst (IsSelectorRead refs text) is (right text read there).1
 
 -- ---- queries
 
@@ -110,7 +110,7 @@ pub asked_refused : (kept : Queries) (text : List ℕ) (read : TextRead) (e : Qu
     → known.readings ≡ readings_in kept → wanted_by known line ≡ asked_with instant (Ok grid) (known.readings text)
     → wanted_by known line ≡ Some (Err (words_of_error e))
 asked_refused kept text read e known line instant grid right there is readings wanted =
-    let faulty = subst (IsQueryRead text) is (right text read there).0 in
+    let faulty = subst (IsQueryRead right.refs text) is (right.right text read there).0 in
     let reading : known.readings text ≡ Some (refused faulty.0) =
     ap (λ (r : Readings). r text) readings ∙ reading_there kept text read there ∙ ap query_reading is ∙ ap (option_map refused) faulty.1.0 in
     wanted ∙ ap (asked_with instant (Ok grid)) reading ∙ ap (λ (f : Option QueryFault). Some (Err (option_map_or query_text f memory_text))) (sym faulty.1.0)

@@ -182,18 +182,18 @@ tried_so_far c lines told why stands counted few short = record {
 
 -- ---- readings
 
-read_as : (text : List ℕ) (q : QueryRead) (r : Reading) → IsQueryRead text q → query_reading q ≡ Some r → IsReading text r
-read_as text (query.Lawful q) r h e = let same = some_is _ r e in subst (IsReading text) same h
-read_as text (query.Refused x) r h e =
+read_as : (refs : List (List ℕ)) (text : List ℕ) (q : QueryRead) (r : Reading) → IsQueryRead refs text q → query_reading q ≡ Some r → IsReading refs text r
+read_as refs text (query.Lawful q) r h e = let same = some_is _ r e in subst (IsReading refs text) same h
+read_as refs text (query.Refused x) r h e =
     let there = h.1.0 in
     let made : Some (refused h.0) ≡ Some r = sym (ap (option_map refused) there) ∙ e in
-    subst (IsReading text) (some_is (refused h.0) r made) h.1.1
+    subst (IsReading refs text) (some_is (refused h.0) r made) h.1.1
 
-pub all_read : (kept : Queries) → AreReadAs kept → (text : List ℕ) (r : Reading) → readings_in kept text ≡ Some r → IsReading text r
-all_read kept right text r e = by (get_by_text kept text) refl e where
-  by : (found : Option TextRead) → get_by_text kept text ≡ found → option_and_then reading_in found ≡ Some r → IsReading text r
+pub all_read : (refs : List (List ℕ)) (kept : Queries) → AreReadBy refs kept → (text : List ℕ) (r : Reading) → readings_in kept text ≡ Some r → IsReading refs text r
+all_read refs kept right text r e = by (get_by_text kept text) refl e where
+  by : (found : Option TextRead) → get_by_text kept text ≡ found → option_and_then reading_in found ≡ Some r → IsReading refs text r
   by None f e = cc
-  by (Some q) f e = read_as text q.query r (right text q f).0 e
+  by (Some q) f e = read_as refs text q.query r (right text q f).0 e
 
 -- ---- the report
 
@@ -213,17 +213,17 @@ one_of x y zero h = (refl, some_is x y h)
 one_of x y (suc n) h = cc
 
 -- a core is known by its own limits and names
-pub itself : (c : CoreData) (held : Held) (loaded : Loaded) → IsKnown (record { limits = c.limits; names = c.names; files = held; readings = readings_in loaded.queries }) c
-itself c held loaded = record { limits = refl; more = []; names = sym (append-nil c.names) }
+pub itself : (c : CoreData) (held : Held) (refs : List (List ℕ)) (loaded : Loaded) → IsKnown (record { limits = c.limits; names = c.names; files = held; refused = refs; readings = readings_in loaded.queries }) c
+itself c held refs loaded = record { limits = refl; more = []; names = sym (append-nil c.names) }
 
 -- client 0, which stopped, is woven with its script into its journal
 pub woven_alone : (limits : Limits) (loaded : Loaded) (lines : List Numbered) (why : Why) (sent : List ℕ) (c : Client) (held : Held)
-    → c.client ≡ 0 → AreHeld held loaded.files → AreReadAs loaded.queries → length lines ≤ 18446744073709551615 → Stands c.core
-    → (has : HasRun (record { limits = c.core.limits; names = c.core.names; files = held; readings = readings_in loaded.queries }) limits lines why sent c)
-    → Weave (record { limits = c.core.limits; names = c.core.names; files = held; readings = readings_in loaded.queries }) c.core.journal (lines ∷ [])
+    → c.client ≡ 0 → AreHeld held loaded.files → (right : AreReadAs loaded.queries) → length lines ≤ 18446744073709551615 → Stands c.core
+    → (has : HasRun (record { limits = c.core.limits; names = c.core.names; files = held; refused = right.refs; readings = readings_in loaded.queries }) limits lines why sent c)
+    → Weave (record { limits = c.core.limits; names = c.core.names; files = held; refused = right.refs; readings = readings_in loaded.queries }) c.core.journal (lines ∷ [])
     (record { clients = record { told = has.told; why = why } ∷ []; failed = c.core.failed })
 woven_alone limits loaded lines why sent c held first are right short stands has =
-    let known : Known = record { limits = c.core.limits; names = c.core.names; files = held; readings = readings_in loaded.queries } in
+    let known : Known = record { limits = c.core.limits; names = c.core.names; files = held; refused = right.refs; readings = readings_in loaded.queries } in
     let one : ToldClient = record { told = has.told; why = why } in
     record {
       many = refl;
@@ -231,7 +231,8 @@ woven_alone limits loaded lines why sent c held first are right short stands has
           each_one known c lines one (subst (λ (i : ℕ). Woven known (own_of i c.core) lines one) first has.has_told.woven)
           (subst (λ (i : ℕ). RunsTo known.limits c.core.journal i why (drop (length has.told) lines) (ran_lines lines has.told)) first has.runs) client ls d at_ls at_d;
       nobody_else = each_so _ _ (λ (e : Entry) (h : e.client ≡ c.client). first_only e (h ∙ first)) c.core.journal has.has_told.alone;
-      read = λ words r e. all_read loaded.queries right words r e;
+      too_big = right.too_big;
+      read = λ words r e. all_read right.refs loaded.queries right.right words r e;
       tried = tried_so_far c lines has.told why stands has.has_told.tried has.has_told.woven.few short;
     } where
       first_only : (e : Entry) → e.client ≡ 0 → e.client < 1
@@ -249,11 +250,11 @@ woven_alone limits loaded lines why sent c held first are right short stands has
       each_one known c lines one woven runs (suc n) ls d at_ls at_d = cc
 
 pub reported : (limits : Limits) (loaded : Loaded) (lines : List Numbered) (run : LineRun) (sent : List ℕ) (c : Client) (held : Held)
-    → c.client ≡ 0 → AreHeld held loaded.files → AreReadAs loaded.queries → length lines ≤ 18446744073709551615 → Stands c.core → HasStopped loaded limits lines (why_of run) sent c
+    → c.client ≡ 0 → AreHeld held loaded.files → (right : AreReadAs loaded.queries) → length lines ≤ 18446744073709551615 → Stands c.core → HasStopped loaded limits lines (why_of run) sent c
     → (AreTries : List ℕ → Type 0) → AreTries c.core.failed → IsReport limits held lines AreTries (why_of run) (sent ++ left_text c)
 reported limits loaded lines run sent c held first are right short stands stopped AreTries tries =
-    let known : Known = record { limits = c.core.limits; names = c.core.names; files = held; readings = readings_in loaded.queries } in
-    let has = stopped known (record { held = are; readings = refl }) (itself c.core held loaded) in
+    let known : Known = record { limits = c.core.limits; names = c.core.names; files = held; refused = right.refs; readings = readings_in loaded.queries } in
+    let has = stopped known (record { held = are; readings = refl; right = right.right }) (itself c.core held right.refs loaded) in
     let rest : Rest = record { clients = record { told = has.told; why = why_of run } ∷ []; failed = c.core.failed } in
     let behind : List ℕ = journal_text c.core.names c.core.journal ++ actors_from 0 c.core.failed in
     let text_is : sent ++ left_text c ≡ report known c.core.journal (lines ∷ []) rest =
@@ -261,6 +262,7 @@ reported limits loaded lines run sent c held first are right short stands stoppe
     subst (λ (l : Limits). IsReport l held lines AreTries (why_of run) (sent ++ left_text c)) has.limited (record {
       journal = c.core.journal;
       names = c.core.names;
+      refused = right.refs;
       readings = readings_in loaded.queries;
       rest = rest;
       legal = stands.legal;
@@ -279,15 +281,16 @@ reported limits loaded lines run sent c held first are right short stands stoppe
 -- ---- the summary
 
 pub summarized : (limits : Limits) (loaded : Loaded) (lines : List Numbered) (full : Bool) (t : Tally) (sent : List ℕ) (c : Client) (held : Held)
-    → c.client ≡ 0 → AreHeld held loaded.files → AreReadAs loaded.queries → length lines ≤ 18446744073709551615 → Stands c.core → HasStopped loaded limits lines (why_by full) sent c
+    → c.client ≡ 0 → AreHeld held loaded.files → (right : AreReadAs loaded.queries) → length lines ≤ 18446744073709551615 → Stands c.core → HasStopped loaded limits lines (why_by full) sent c
     → IsCounted loaded t c → (AreTries : List ℕ → Type 0) → AreTries c.core.failed → IsSummary limits held lines AreTries full t
 summarized limits loaded lines full t sent c held first are right short stands stopped count AreTries tries =
-    let known : Known = record { limits = c.core.limits; names = c.core.names; files = held; readings = readings_in loaded.queries } in
-    let told : IsTold known loaded = record { held = are; readings = refl } in
-    let has = stopped known told (itself c.core held loaded) in
+    let known : Known = record { limits = c.core.limits; names = c.core.names; files = held; refused = right.refs; readings = readings_in loaded.queries } in
+    let told : IsTold known loaded = record { held = are; readings = refl; right = right.right } in
+    let has = stopped known told (itself c.core held right.refs loaded) in
     subst (λ (l : Limits). IsSummary l held lines AreTries full t) has.limited (record {
       journal = c.core.journal;
       names = c.core.names;
+      refused = right.refs;
       readings = readings_in loaded.queries;
       rest = record { clients = record { told = has.told; why = why_by full } ∷ []; failed = c.core.failed };
       legal = stands.legal;
@@ -295,7 +298,7 @@ summarized limits loaded lines full t sent c held first are right short stands s
       woven = woven_alone limits loaded lines (why_by full) sent c held first are right short stands has;
       ended = stopped_as (record { told = has.told; why = why_by full });
       tries = tries;
-      whole = sym (count known told (itself c.core held loaded));
+      whole = sym (count known told (itself c.core held right.refs loaded));
     })
 
 pub short_script : (script : Script) → length script.lines.items ≤ 18446744073709551615 → length (lines_of script) ≤ 18446744073709551615

@@ -16,7 +16,7 @@ use Rattle.pf_client.proofs.Lines.{each_drop, each_get, follows_at, found, insid
 use Rattle.pf_client.specs.Replays.{file_of}
 use Rattle.pf_client.specs.Files.{LetsGoOf, LineNames}
 use Rattle.pf_client.specs.Going.{HasStopped, IsGoing, IsReady}
-use Rattle.pf_client.specs.Queries.{AreReadAs, IsKeptFor, IsPart, Queries, readings_in}
+use Rattle.pf_client.specs.Queries.{AreReadAs, AreReadBy, IsKeptFor, IsPart, Queries, readings_in}
 use Rattle.pf_client.specs.declared.client.Client.{Client}
 use Rattle.pf_client.specs.declared.loaded.Loaded.{Loaded}
 
@@ -64,6 +64,7 @@ part_on first old new named number go same part known told =
     let t = part known told in record {
       held = λ name file g. t.held name file (part_kept old.files named number new.files go name file g);
       readings = t.readings ∙ ap readings_in (sym same);
+      right = subst (AreReadBy known.refused) (sym same) t.right;
     }
 
 drop_past : {X : Type 0} (xs : List X) → drop (length xs) xs ≡ []

@@ -141,11 +141,11 @@ module _ (limits : Limits) (loaded : Loaded) (lines : List Numbered) (held : Hel
   begun_short following IsCore tries number zeroth old new b =
       let c = b.client in
       let first : c.client ≡ 0 = b.numbered ∙ zeroth in
-      let known : Known = record { limits = c.core.limits; names = c.core.names; files = held; readings = readings_in loaded.queries } in
-      let g = b.going known (record { held = are; readings = refl }) (itself c.core held loaded) in
+      let known : Known = record { limits = c.core.limits; names = c.core.names; files = held; refused = right.refs; readings = readings_in loaded.queries } in
+      let g = b.going known (record { held = are; readings = refl; right = right.right }) (itself c.core held right.refs loaded) in
       let r = begins_report known c.core.journal lines g.told c.core.failed b.stands.legal b.stands.names (subst (λ (i : ℕ). Each (λ (e : Entry). e.client ≡ i) c.core.journal) first g.has_told.alone)
       (subst (λ (i : ℕ). Woven known (own_of i c.core) lines (record { told = g.told; why = at_end })) first g.has_told.woven) g.goes (numbers_rise lines following)
-      (λ text reading e. all_read loaded.queries right text reading e) (tried_so_far c lines g.told at_end b.stands g.has_told.tried g.has_told.woven.few short) in
+      right.too_big (λ text reading e. all_read right.refs loaded.queries right.right text reading e) (tried_so_far c lines g.told at_end b.stands g.has_told.tried g.has_told.woven.few short) in
       let rest : Rest = record { clients = r.client ∷ []; failed = c.core.failed } in
       let whole : (b.sent ++ c.out.items) ++ r.text ≡ report known r.whole (lines ∷ []) rest =
       ap (λ (bytes : List ℕ). bytes ++ r.text)
@@ -158,6 +158,7 @@ module _ (limits : Limits) (loaded : Loaded) (lines : List Numbered) (held : Hel
             subst (λ (l : Limits). IsReport l held lines AreTries r.client.why ((b.sent ++ c.out.items) ++ r.text)) g.limited (record {
               journal = r.whole;
               names = c.core.names;
+              refused = right.refs;
               readings = readings_in loaded.queries;
               rest = rest;
               legal = r.legal;

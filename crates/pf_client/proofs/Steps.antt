@@ -179,7 +179,7 @@ starved_delete old new number tenant from to selector (Err e) starved said same 
 
 pub starved_any : {E : Type 0} (old new : Client) (number : ℕ) (tenant : List ℕ) (from to : ℕ) (ms : List Matcher) (result : Result LineRun E) → IfOk result (λ r. r ≡ run.Starved)
     → OnOk result (new.out.items ≡ old.out.items ++ reply_line number (codes "delete") tenant memory_words) → new.core ≡ old.core → new.hands ≡ old.hands
-    → IfOk result (λ r. (known : Known) (selector : List ℕ) → IsSelector selector ms → Runs known old (record { number = number; line = script.delete tenant from to selector }) r new)
+    → IfOk result (λ r. (known : Known) (selector : List ℕ) → IsSelector known.refused selector ms → Runs known old (record { number = number; line = script.delete tenant from to selector }) r new)
 starved_any old new number tenant from to ms (Ok r) starved said same hands = λ known selector selects n k. step_starved_delete known n old new number tenant from to selector r starved same hands said
 starved_any old new number tenant from to ms (Err e) starved said same hands = tt
 
@@ -216,7 +216,7 @@ step_uningested known n old new by number tenant file time batch k room e client
 
 pub step_deleted : (known : Known) (n : Told → Naming) (old new : Client) (by : By) (number : ℕ) (tenant : List ℕ) (from to : ℕ) (selector : List ℕ) (ms : List Matcher) (d : Deleted)
     → IsKnown known new.core → IsDeleted old.core by tenant ms from to d new.core → by.client ≡ old.client → by.line ≡ number → AreSameWork old.core new.core → new.hands ≡ old.hands
-    → from ≤ to → to ≤ 4398046511103 → IsSelector selector ms
+    → from ≤ to → to ≤ 4398046511103 → IsSelector known.refused selector ms
     → new.out.items ≡ old.out.items ++ reply_line number (codes "delete") tenant (codes "generation" ∷ decimal d.generation ∷ codes "entry" ∷ decimal d.entry ∷ [])
     → IsStep known n old (record { number = number; line = script.delete tenant from to selector }) run.On new
 step_deleted known n old new by number tenant from to selector ms d k e client line same hands forward within selects said =
@@ -227,7 +227,7 @@ step_deleted known n old new by number tenant from to selector ms d k e client l
 
 pub step_undeleted : (known : Known) (n : Told → Naming) (old new : Client) (by : By) (number : ℕ) (tenant : List ℕ) (from to : ℕ) (selector : List ℕ) (ms : List Matcher)
     → IsKnown known new.core → HasRoomFor old.core 1 → Enters old.core by (no_tenant tenant) new.core → by.client ≡ old.client → by.line ≡ number → AreSameWork old.core new.core → new.hands ≡ old.hands
-    → from ≤ to → to ≤ 4398046511103 → IsSelector selector ms
+    → from ≤ to → to ≤ 4398046511103 → IsSelector known.refused selector ms
     → new.out.items ≡ old.out.items ++ reply_line number (codes "delete") tenant tenants_words
     → IsStep known n old (record { number = number; line = script.delete tenant from to selector }) run.On new
 step_undeleted known n old new by number tenant from to selector ms k room e client line same hands forward within selects said =
@@ -236,7 +236,7 @@ step_undeleted known n old new by number tenant from to selector ms k room e cli
 
 -- what is refused of a deletion
 pub step_bad_delete : (known : Known) (n : Told → Naming) (old new : Client) (number : ℕ) (tenant : List ℕ) (from to : ℕ) (selector : List ℕ) (words : List (List ℕ))
-    → new.core ≡ old.core → new.hands ≡ old.hands → undeleted_words from to nothing ≡ words → ToldOfDelete from to selector nothing
+    → new.core ≡ old.core → new.hands ≡ old.hands → undeleted_words from to nothing ≡ words → ToldOfDelete known.refused from to selector nothing
     → new.out.items ≡ old.out.items ++ reply_line number (codes "delete") tenant words
     → IsStep known n old (record { number = number; line = script.delete tenant from to selector }) run.On new
 step_bad_delete known n old new number tenant from to selector words same hands is unentered said =

@@ -24,10 +24,10 @@ use Rattle.pf_model.specs.Clauses.{Grouped, Matched}
 use Rattle.pf_model.proofs.TreeOf.{number_tree, text_tree, unary_tree, binary_tree, call_tree, aggregate_tree, select_tree, subquery_tree}
 use Rattle.pf_model.specs.declared.matchers.Matchers.{Matchers}
 use Rattle.pf_model.specs.ErrorTexts.{QueryFault, of_grammar, of_kinds, refused_pattern, empty_selector}
-use Rattle.pf_model.specs.Lists.{Each, at}
-use Rattle.pf_model.specs.Queries.{CanRefuse, first_empty, IsBindable, IsFaultOf, IsFirstEmpty, IsNoSelector, IsQuery, IsReading, is_plain_selector, is_unmodified, lawful, may_be_no_selector, may_be_refused, no_selector, selecting, selector}
+use Rattle.pf_model.specs.Lists.{Each}
+use Rattle.pf_model.specs.Queries.{bind_fault, IsFaultOf, IsNoSelector, IsQuery, IsReading, is_plain_selector, is_unmodified, lawful, no_selector, selecting, selector}
 use Rattle.pf_journal.specs.Scripts.{Numbered}
-use Rattle.pf_model.specs.Selection.{accepts_empty, all_compared, all_meant}
+use Rattle.pf_model.specs.Selection.{accepts_empty, any_refused}
 use Rattle.pf_model.specs.Trees.{Tree, number, text, unary, binary, call, aggregate, select, subquery, instant, no_mods, tree_of}
 use Rattle.pf_model.specs.Typing.{TypeFault, asked_fault}
 use Rattle.pf_script.specs.Lines.{numbered_of}
@@ -36,7 +36,7 @@ use Rattle.pf_types.specs.Errors.{IsFaultFor, query_fault}
 use Rattle.pf_types.specs.declared.query.QueryError.{QueryError}
 use Rattle.pf_types.specs.declared.query.QueryError.TheVariants as query_error
 use Rattle.pf_types.specs.declared.bound.BoundQuery.{BoundQuery}
-use Rattle.pf_client.specs.Queries.{AreReadAs, IsKept, IsKeptFor, IsLineRead, IsQueryRead, IsReadAs, IsSelectorRead, IsTextRead, Queries, SelectsAs, StayRead, text_in}
+use Rattle.pf_client.specs.Queries.{AreReadBy, IsKept, IsKeptFor, IsLineRead, IsQueryRead, IsReadAs, IsSelectorRead, IsTextRead, Queries, SelectsAs, StayRead, text_in}
 use Rattle.pf_client.specs.declared.queries.QueryRead.{QueryRead}
 use Rattle.pf_client.specs.declared.queries.QueryRead.TheVariants as query
 use Rattle.pf_client.specs.declared.queries.SelectorRead.{SelectorRead}
@@ -48,62 +48,47 @@ use Rattle.pf_client.proofs.Cases.{bool_cases}
 -- ---- trees as selectors
 
 -- a tree that is no instant selector without modifiers is no selector
-pub other_tree : (t : Tree) → is_plain_selector t ≡ false → selecting t ≡ no_selector
-other_tree (number v) h = refl
-other_tree (text b) h = refl
-other_tree (unary m e) h = refl
-other_tree (binary op m a b) h = refl
-other_tree (call f args) h = refl
-other_tree (aggregate op g args) h = refl
-other_tree (select ms None mods) h = rw h refl
-other_tree (select ms (Some range) mods) h = refl
-other_tree (subquery e range resolution mods) h = refl
+pub other_tree : (refs : List (List ℕ)) (t : Tree) → is_plain_selector t ≡ false → selecting refs t ≡ no_selector
+other_tree refs (number v) h = refl
+other_tree refs (text b) h = refl
+other_tree refs (unary m e) h = refl
+other_tree refs (binary op m a b) h = refl
+other_tree refs (call f args) h = refl
+other_tree refs (aggregate op g args) h = refl
+other_tree refs (select ms None mods) h = rw h refl
+other_tree refs (select ms (Some range) mods) h = refl
+other_tree refs (subquery e range resolution mods) h = refl
 
 -- a tree whose kinds are wrong is no selector
-ill_typed : (t : Tree) (f : TypeFault) → asked_fault t ≡ Some f → selecting t ≡ no_selector
-ill_typed (number v) f h = refl
-ill_typed (text b) f h = refl
-ill_typed (unary m e) f h = refl
-ill_typed (binary op m a b) f h = refl
-ill_typed (call f args) g h = refl
-ill_typed (aggregate op g args) f h = refl
-ill_typed (select ms None mods) f h = absurd (none_is f h) where
+ill_typed : (refs : List (List ℕ)) (t : Tree) (f : TypeFault) → asked_fault t ≡ Some f → selecting refs t ≡ no_selector
+ill_typed refs (number v) f h = refl
+ill_typed refs (text b) f h = refl
+ill_typed refs (unary m e) f h = refl
+ill_typed refs (binary op m a b) f h = refl
+ill_typed refs (call f args) g h = refl
+ill_typed refs (aggregate op g args) f h = refl
+ill_typed refs (select ms None mods) f h = absurd (none_is f h) where
   none_is : (g : TypeFault) → None ≡ Some g → ⊥
   none_is g e = cc
-ill_typed (select ms (Some range) mods) f h = refl
-ill_typed (subquery e range resolution mods) f h = refl
+ill_typed refs (select ms (Some range) mods) f h = refl
+ill_typed refs (subquery e range resolution mods) f h = refl
 
--- one whose first counted node is an empty selector neither
-empty_tree : (t : Tree) (n : ℕ) → first_empty t ≡ Some n → selecting t ≡ no_selector
-empty_tree (number v) n h = refl
-empty_tree (text b) n h = refl
-empty_tree (unary m e) n h = refl
-empty_tree (binary op m a b) n h = refl
-empty_tree (call f args) n h = refl
-empty_tree (aggregate op g args) n h = refl
-empty_tree (select ms None mods) n h = by (is_unmodified mods) (all_meant ms) (accepts_empty ms) h where
-  by : (u m e : Bool) → cond e (Some 0) None ≡ Some n → cond (u && (m && not e)) (selector ms) no_selector ≡ no_selector
-  by u m true g = ap (λ b. cond (u && b) (selector ms) no_selector) (and-false m) ∙ ap (λ b. cond b (selector ms) no_selector) (and-false u)
-  by u m false g = cc
-empty_tree (select ms (Some range) mods) n h = refl
-empty_tree (subquery e range resolution mods) n h = refl
-
--- the pattern of an instant selector is refused where a pattern of its tree is
-own_pattern : (t : Tree) (n : ℕ) → is_plain_selector t ≡ true → CanRefuse n t → may_be_refused t ≡ true
-own_pattern (number v) n h c = absurd (true≢false (sym h))
-own_pattern (text b) n h c = absurd (true≢false (sym h))
-own_pattern (unary m e) n h c = absurd (true≢false (sym h))
-own_pattern (binary op m a b) n h c = absurd (true≢false (sym h))
-own_pattern (call f args) n h c = absurd (true≢false (sym h))
-own_pattern (aggregate op g args) n h c = absurd (true≢false (sym h))
-own_pattern (select ms None mods) n h c = by n c.node c.there c.pattern where
-  by : (k : ℕ) (node : Tree) → at (select ms None mods ∷ []) k ≡ Some node → may_be_refused node ≡ true → may_be_refused (select ms None mods) ≡ true
-  by zero node is p = ap may_be_refused (some_is (select ms None mods) node is) ∙ p
-  by (suc k) node is p = absurd (none_is is) where
-    none_is : None ≡ Some node → ⊥
-    none_is g = cc
-own_pattern (select ms (Some range) mods) n h c = absurd (true≢false (sym h))
-own_pattern (subquery e range resolution mods) n h c = absurd (true≢false (sym h))
+-- one with a refused pattern or an empty selector neither
+unbound_tree : (refs : List (List ℕ)) (t : Tree) (f : QueryFault) → bind_fault refs t ≡ Some f → selecting refs t ≡ no_selector
+unbound_tree refs (number v) f h = refl
+unbound_tree refs (text b) f h = refl
+unbound_tree refs (unary m e) f h = refl
+unbound_tree refs (binary op m a b) f h = refl
+unbound_tree refs (call g args) f h = refl
+unbound_tree refs (aggregate op g args) f h = refl
+unbound_tree refs (select ms None mods) f h = by (is_unmodified mods) (any_refused refs ms) (accepts_empty ms) h where
+  by : (u r e : Bool) → cond {A = Option QueryFault} r (Some (refused_pattern 0)) (cond e (Some (empty_selector 0)) None) ≡ Some f
+      → cond (u && (not r && not e)) (selector ms) no_selector ≡ no_selector
+  by u true e g = ap (λ b. cond b (selector ms) no_selector) (and-false u)
+  by u false true g = ap (λ b. cond b (selector ms) no_selector) (and-false u)
+  by u false false g = cc
+unbound_tree refs (select ms (Some range) mods) f h = refl
+unbound_tree refs (subquery e range resolution mods) f h = refl
 
 -- ---- instant selectors among trees, by their variants
 
@@ -152,82 +137,77 @@ select_plain e s range mods is h = (ap tree_of is ∙ select_tree s range mods) 
 -- ---- what a text is read as
 
 -- a query that is lawful
-pub lawful_right : (words : List ℕ) (t : Tree) (q : Arc BoundQuery Global) → arc_value q ≡ t → IsBindable t → IsQuery words t
-    → IsQueryRead words (query.Lawful q)
-lawful_right words t q is selects h = subst (λ (u : Tree). IsReading words (lawful u)) (sym is) (h, selects)
+pub lawful_right : (refs : List (List ℕ)) (words : List ℕ) (t : Tree) (q : Arc BoundQuery Global) → arc_value q ≡ t → bind_fault refs t ≡ None → IsQuery words t
+    → IsQueryRead refs words (query.Lawful q)
+lawful_right refs words t q is selects h = subst (λ (u : Tree). IsReading refs words (lawful u)) (sym is) (h, selects)
 
 -- a query that was bound
-pub bound_right : (words : List ℕ) (t u : Tree) (q : QueryRead) → u ≡ t → ((w : List ℕ) → IsQuery w u → IsQueryRead w q) → IsQuery words t → IsQueryRead words q
-bound_right words t u q is h g = h words (subst (IsQuery words) (sym is) g)
+pub bound_right : (refs : List (List ℕ)) (words : List ℕ) (t u : Tree) (q : QueryRead) → u ≡ t → ((rs : List (List ℕ)) → bind_fault rs u ≡ None → (w : List ℕ) → IsQuery w u → IsQueryRead rs w q)
+    → bind_fault refs t ≡ None → IsQuery words t → IsQueryRead refs words q
+bound_right refs words t u q is h selects g = h refs (ap (bind_fault refs) is ∙ selects) words (subst (IsQuery words) (sym is) g)
 
 -- a refused pattern, and an empty selector
-pub refused_pattern_right : (words : List ℕ) (t : Tree) (n : ℕ) → CanRefuse n t → IsQuery words t → IsQueryRead words (query.Refused (query_error.Pattern n))
-refused_pattern_right words t n c q = (refused_pattern n, (refl, (t, (q, c))))
+pub refused_pattern_right : (refs : List (List ℕ)) (words : List ℕ) (t : Tree) (n : ℕ) → bind_fault refs t ≡ Some (refused_pattern n) → IsQuery words t
+    → IsQueryRead refs words (query.Refused (query_error.Pattern n))
+refused_pattern_right refs words t n c q = (refused_pattern n, (refl, (t, (q, c))))
 
-pub empty_selector_right : (words : List ℕ) (t : Tree) (n : ℕ) → IsFirstEmpty n t → IsQuery words t → IsQueryRead words (query.Refused (query_error.Empty n))
-empty_selector_right words t n some q = (empty_selector n, (refl, (t, (q, some))))
+pub empty_selector_right : (refs : List (List ℕ)) (words : List ℕ) (t : Tree) (n : ℕ) → bind_fault refs t ≡ Some (empty_selector n) → IsQuery words t
+    → IsQueryRead refs words (query.Refused (query_error.Empty n))
+empty_selector_right refs words t n some q = (empty_selector n, (refl, (t, (q, some))))
 
 -- what trees say as selectors
-pub other_refused : (t : Tree) → is_plain_selector t ≡ false → SelectsAs t chosen.Refused
-other_refused t h = inl (other_tree t h)
+pub other_refused : (refs : List (List ℕ)) (t : Tree) → is_plain_selector t ≡ false → SelectsAs refs t chosen.Refused
+other_refused refs t h = other_tree refs t h
 
-pub plain_selects : (t : Tree) (s : List Matcher) (m : Arc Matchers Global) → t ≡ instant s → arc_value m ≡ s → all_meant s ≡ true → accepts_empty s ≡ false
-    → SelectsAs t (chosen.Built m)
-plain_selects t s m is same meant some =
-    ap selecting is ∙ ap (λ b. cond (b && not (accepts_empty s)) (selector s) no_selector) meant
+pub plain_selects : (refs : List (List ℕ)) (t : Tree) (s : List Matcher) (m : Arc Matchers Global) → t ≡ instant s → arc_value m ≡ s → any_refused refs s ≡ false
+    → accepts_empty s ≡ false → SelectsAs refs t (chosen.Built m)
+plain_selects refs t s m is same taken some =
+    ap (selecting refs) is ∙ ap (λ b. cond (not b && not (accepts_empty s)) (selector s) no_selector) taken
     ∙ ap (λ b. cond (not b) (selector s) no_selector) some ∙ ap selector (sym same)
 
-pub pattern_refused : (t : Tree) (s : List Matcher) → t ≡ instant s → all_compared s ≡ false → SelectsAs t chosen.Refused
-pattern_refused t s is bad = inr (ap may_be_no_selector is ∙ ap not bad)
+pub pattern_refused : (refs : List (List ℕ)) (t : Tree) (s : List Matcher) → t ≡ instant s → any_refused refs s ≡ true → SelectsAs refs t chosen.Refused
+pattern_refused refs t s is bad = ap (selecting refs) is ∙ ap (λ b. cond (not b && not (accepts_empty s)) (selector s) no_selector) bad
 
-pub empty_refused : (t : Tree) (s : List Matcher) → t ≡ instant s → accepts_empty s ≡ true → SelectsAs t chosen.Refused
-empty_refused t s is none =
-    inl (ap selecting is ∙ ap (λ b. cond (all_meant s && not b) (selector s) no_selector) none
-    ∙ ap (λ b. cond b (selector s) no_selector) (and-false (all_meant s)))
+pub empty_refused : (refs : List (List ℕ)) (t : Tree) (s : List Matcher) → t ≡ instant s → accepts_empty s ≡ true → SelectsAs refs t chosen.Refused
+empty_refused refs t s is none =
+    ap (selecting refs) is ∙ ap (λ b. cond (not (any_refused refs s) && not b) (selector s) no_selector) none
+    ∙ ap (λ b. cond b (selector s) no_selector) (and-false (not (any_refused refs s)))
 
-selector_read : (words : List ℕ) (t : Tree) (s : SelectorRead) → SelectsAs t s → IsQuery words t → IsSelectorRead words s
-selector_read words t (chosen.Built ms) h q = (t, (q.parses, h))
-selector_read words t chosen.Refused (inl h) q = inr (inl (t, (q.parses, h)))
-selector_read words t chosen.Refused (inr h) q = inr (inr (t, (q.parses, h)))
+selector_read : (refs : List (List ℕ)) (words : List ℕ) (t : Tree) (s : SelectorRead) → SelectsAs refs t s → IsQuery words t → IsSelectorRead refs words s
+selector_read refs words t (chosen.Built ms) h q = (t, (q.parses, h))
+selector_read refs words t chosen.Refused h q = inr (t, (q.parses, h))
 
 -- both together
-pub lawful_read : (words : List ℕ) (t : Tree) (q : QueryRead) (s : SelectorRead) → ((w : List ℕ) → IsQuery w t → IsQueryRead w q) → SelectsAs t s
-    → IsQuery words t → IsReadAs words (record { query = q; selector = s })
-lawful_read words t q s h g is = (h words is, selector_read words t s g is)
+pub lawful_read : (refs : List (List ℕ)) (words : List ℕ) (t : Tree) (q : QueryRead) (s : SelectorRead) → ((w : List ℕ) → IsQuery w t → IsQueryRead refs w q) → SelectsAs refs t s
+    → IsQuery words t → IsReadAs refs words (record { query = q; selector = s })
+lawful_read refs words t q s h g is = (h words is, selector_read refs words t s g is)
 
 -- what is no query is no selector
-pub fault_selects_none : (words : List ℕ) (fault : QueryFault) → IsFaultOf words fault → IsNoSelector words
-fault_selects_none words (of_grammar refusal) h = inl (refusal, h)
-fault_selects_none words (of_kinds f) h = inr (inl (h.0, (h.1.0, ill_typed h.0 f h.1.1)))
-fault_selects_none words (refused_pattern n) h = elim (bool_cases (is_plain_selector h.0)) [
-  | inl p ↦ inr (inr (h.0, (h.1.0.parses, ap (λ b. b && may_be_refused h.0) p ∙ own_pattern h.0 n p h.1.1)))
-  | inr p ↦ inr (inl (h.0, (h.1.0.parses, other_tree h.0 p)))
-]
-fault_selects_none words (empty_selector n) h = inr (inl (h.0, (h.1.0.parses, empty_tree h.0 n h.1.1.first)))
+pub fault_selects_none : (refs : List (List ℕ)) (words : List ℕ) (fault : QueryFault) → IsFaultOf refs words fault → IsNoSelector refs words
+fault_selects_none refs words (of_grammar refusal) h = inl (refusal, h)
+fault_selects_none refs words (of_kinds f) h = inr (h.0, (h.1.0, ill_typed refs h.0 f h.1.1))
+fault_selects_none refs words (refused_pattern n) h = inr (h.0, (h.1.0.parses, unbound_tree refs h.0 (refused_pattern n) h.1.1))
+fault_selects_none refs words (empty_selector n) h = inr (h.0, (h.1.0.parses, unbound_tree refs h.0 (empty_selector n) h.1.1))
 
-pub refused_right : (words : List ℕ) (e : QueryError) → is_some (query_fault e) ≡ true → IsFaultFor words (query_fault e)
-    → IsReadAs words (record { query = query.Refused e; selector = chosen.Refused })
-refused_right words e some h = by_fault (query_fault e) refl some h where
-  by_fault : (o : Option QueryFault) → query_fault e ≡ o → is_some o ≡ true → IsFaultFor words o
-      → IsReadAs words (record { query = query.Refused e; selector = chosen.Refused })
+pub refused_right : (refs : List (List ℕ)) (words : List ℕ) (e : QueryError) → is_some (query_fault e) ≡ true → IsFaultFor refs words (query_fault e)
+    → IsReadAs refs words (record { query = query.Refused e; selector = chosen.Refused })
+refused_right refs words e some h = by_fault (query_fault e) refl some h where
+  by_fault : (o : Option QueryFault) → query_fault e ≡ o → is_some o ≡ true → IsFaultFor refs words o
+      → IsReadAs refs words (record { query = query.Refused e; selector = chosen.Refused })
   by_fault None is s f = absurd (true≢false (sym s))
-  by_fault (Some fault) is s f = ((fault, (is, f)), fault_selects_none words fault f)
+  by_fault (Some fault) is s f = ((fault, (is, f)), fault_selects_none refs words fault f)
 
 -- ---- readings
 
 -- ---- texts that are read one by one
 
+apart : (words other : List ℕ) → bytes_eq other words ≡ false → other ≢ words
+apart words other t same = let u = (bytes_eq-Decides other words).1 same in true≢false (sym u ∙ t)
+
 -- a further text
-pub read_new : (old new : Queries) (words : List ℕ) (q : TextRead) → AreReadAs old → IsReadAs words q → get_by_text old words ≡ None → get_by_text new words ≡ Some q
+pub read_new : (old new : Queries) (words : List ℕ) (q : TextRead) → get_by_text old words ≡ None → get_by_text new words ≡ Some q
     → ((other : List ℕ) → other ≢ words → get_by_text new other ≡ get_by_text old other) → IsTextRead old words new
-read_new old new words q right is absent there others = record {
-  right = λ other p g. elim (bool_cases (bytes_eq other words)) [
-    | inl t ↦
-        let same : other ≡ words = (bytes_eq-Decides other words).0 t in
-        let here : get_by_text new other ≡ Some q = subst (λ n. get_by_text new n ≡ Some q) (sym same) there in
-        subst (IsReadAs other) (some_is q p (sym here ∙ g)) (subst (λ n. IsReadAs n q) (sym same) is)
-    | inr t ↦ right other p (sym (others other (apart other t)) ∙ g)
-  ];
+read_new old new words q absent there others = record {
   read = q;
   there = there;
   still = λ other p g. elim (bool_cases (bytes_eq other words)) [
@@ -236,14 +216,22 @@ read_new old new words q right is absent there others = record {
         let none : get_by_text old other ≡ None = subst (λ n. get_by_text old n ≡ None) (sym same) absent in
         let wrong : Some p ≡ None = sym g ∙ none in
         cc
-    | inr t ↦ others other (apart other t) ∙ g
+    | inr t ↦ others other (apart words other t) ∙ g
   ];
-} where
-  apart : (other : List ℕ) → bytes_eq other words ≡ false → other ≢ words
-  apart other t same = let u = (bytes_eq-Decides other words).1 same in true≢false (sym u ∙ t)
+}
 
-pub read_before : (kept : Queries) (words : List ℕ) (q : TextRead) → AreReadAs kept → get_by_text kept words ≡ Some q → IsTextRead kept words kept
-read_before kept words q right there = record { right = right; read = q; there = there; still = λ other p g. g }
+pub right_new : (refs : List (List ℕ)) (old new : Queries) (words : List ℕ) (q : TextRead) → AreReadBy refs old → IsReadAs refs words q → get_by_text new words ≡ Some q
+    → ((other : List ℕ) → other ≢ words → get_by_text new other ≡ get_by_text old other) → AreReadBy refs new
+right_new refs old new words q right is there others other p g = elim (bool_cases (bytes_eq other words)) [
+  | inl t ↦
+      let same : other ≡ words = (bytes_eq-Decides other words).0 t in
+      let here : get_by_text new other ≡ Some q = subst (λ n. get_by_text new n ≡ Some q) (sym same) there in
+      subst (IsReadAs refs other) (some_is q p (sym here ∙ g)) (subst (λ n. IsReadAs refs n q) (sym same) is)
+  | inr t ↦ right other p (sym (others other (apart words other t)) ∙ g)
+]
+
+pub read_before : (kept : Queries) (words : List ℕ) (q : TextRead) → get_by_text kept words ≡ Some q → IsTextRead kept words kept
+read_before kept words q there = record { read = q; there = there; still = λ other p g. g }
 
 kept_still : (old new : Queries) → StayRead old new → (words : Option (List ℕ)) → IsKept old words → IsKept new words
 kept_still old new still None k = tt

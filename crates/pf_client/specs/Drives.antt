@@ -42,14 +42,15 @@ why_of Starved = at_memory
 pub record IsReport (limits : Limits) (held : Held) (lines : List Numbered) (AreTries : List ℕ → Type 0) (why : Why) (text : List ℕ) : Type 0 where
   pub journal : List Entry
   pub names : List (List ℕ)
+  pub refused : List (List ℕ)
   pub readings : Readings
   pub rest : Rest
   pub legal : Legal limits names journal
   pub named : AreNames names journal
-  pub woven : Weave (record { limits = limits; names = names; files = held; readings = readings }) journal (lines ∷ []) rest
+  pub woven : Weave (record { limits = limits; names = names; files = held; refused = refused; readings = readings }) journal (lines ∷ []) rest
   pub stopped : HaveStopped why rest.clients
   pub tries : AreTries rest.failed
-  pub whole : text ≡ report (record { limits = limits; names = names; files = held; readings = readings }) journal (lines ∷ []) rest
+  pub whole : text ≡ report (record { limits = limits; names = names; files = held; refused = refused; readings = readings }) journal (lines ∷ []) rest
 
 -- the same for any cause
 abbrev pub IsAnyReport : Limits → Held → List Numbered → (AreTries : List ℕ → Type 0) → (text : List ℕ) → Type 0

@@ -1,11 +1,12 @@
 -- Queries and selectors that were read: this project's own.
 use Rattle.std.specs.Arc.{arc_value}
 use Rattle.std.specs.BTreeMap.{BTreeMap, get_by_text}
-use Rattle.std.specs.Prelude.{◌≡◌, ℕ, ◌⊎◌, true, Option, Some, None, option_and_then, option_map, List}
+use Rattle.std.specs.Prelude.{◌≡◌, ℕ, Option, Some, None, option_and_then, option_map, List}
 use Rattle.std.specs.declared.alloc.Global.{Global}
 use Rattle.std.specs.declared.string.String.{String}
 use Rattle.pf_model.specs.ErrorTexts.{QueryFault}
-use Rattle.pf_model.specs.Queries.{IsFaultOf, IsNoSelector, IsReading, IsSelector, Reading, Readings, lawful, may_be_no_selector, no_selector, refused, selecting, selector}
+use Rattle.pf_match.specs.Tables.{AreTooBig}
+use Rattle.pf_model.specs.Queries.{IsFaultOf, IsNoSelector, IsReading, IsSelector, Reading, Readings, lawful, no_selector, refused, selecting, selector}
 use Rattle.pf_model.specs.Trees.{Tree}
 use Rattle.pf_journal.specs.Rest.{Known}
 use Rattle.pf_journal.specs.Scripts.{Line, delete, ask, instant}
@@ -22,26 +23,32 @@ use Rattle.pf_client.specs.declared.queries.TextRead.{TextRead}
 abbrev pub Queries : Type 0
 Queries = BTreeMap (String Global) TextRead
 
--- what a text is read as where a query stands is right
-abbrev pub IsQueryRead : List ℕ → QueryRead → Type 0
-IsQueryRead text (query.Lawful q) = IsReading text (lawful (arc_value q))
-IsQueryRead text (query.Refused e) = (fault : QueryFault) × ((query_fault e ≡ Some fault) × IsFaultOf text fault)
+-- what a text is read as where a query stands is right, by the refused patterns
+abbrev pub IsQueryRead : (refs : List (List ℕ)) → List ℕ → QueryRead → Type 0
+IsQueryRead refs text (query.Lawful q) = IsReading refs text (lawful (arc_value q))
+IsQueryRead refs text (query.Refused e) = (fault : QueryFault) × ((query_fault e ≡ Some fault) × IsFaultOf refs text fault)
 
--- what a tree is read as, as a deletion's selector, where a pattern may be refused
-abbrev pub SelectsAs : Tree → SelectorRead → Type 0
-SelectsAs tree (chosen.Built ms) = selecting tree ≡ selector (arc_value ms)
-SelectsAs tree chosen.Refused = (selecting tree ≡ no_selector) ⊎ (may_be_no_selector tree ≡ true)
+-- what a tree is read as, as a deletion's selector
+abbrev pub SelectsAs : (refs : List (List ℕ)) → Tree → SelectorRead → Type 0
+SelectsAs refs tree (chosen.Built ms) = selecting refs tree ≡ selector (arc_value ms)
+SelectsAs refs tree chosen.Refused = selecting refs tree ≡ no_selector
 
 -- what a text is read as where a deletion's selector stands is right
-abbrev pub IsSelectorRead : List ℕ → SelectorRead → Type 0
-IsSelectorRead text (chosen.Built ms) = IsSelector text (arc_value ms)
-IsSelectorRead text chosen.Refused = IsNoSelector text
+abbrev pub IsSelectorRead : (refs : List (List ℕ)) → List ℕ → SelectorRead → Type 0
+IsSelectorRead refs text (chosen.Built ms) = IsSelector refs text (arc_value ms)
+IsSelectorRead refs text chosen.Refused = IsNoSelector refs text
 
-abbrev pub IsReadAs : List ℕ → TextRead → Type 0
-IsReadAs text read = IsQueryRead text read.query × IsSelectorRead text read.selector
+abbrev pub IsReadAs : (refs : List (List ℕ)) → List ℕ → TextRead → Type 0
+IsReadAs refs text read = IsQueryRead refs text read.query × IsSelectorRead refs text read.selector
 
-abbrev pub AreReadAs : Queries → Type 0
-AreReadAs kept = (text : List ℕ) (q : TextRead) → get_by_text kept text ≡ Some q → IsReadAs text q
+abbrev pub AreReadBy : (refs : List (List ℕ)) → Queries → Type 0
+AreReadBy refs kept = (text : List ℕ) (q : TextRead) → get_by_text kept text ≡ Some q → IsReadAs refs text q
+
+-- the same for one list of refused patterns, which compile too big
+pub record AreReadAs (kept : Queries) : Type 0 where
+  pub refs : List (List ℕ)
+  pub too_big : AreTooBig refs
+  pub right : AreReadBy refs kept
 
 -- how a query is read
 abbrev pub query_reading : QueryRead → Option Reading
@@ -80,14 +87,12 @@ StayRead old new = (text : List ℕ) (q : TextRead) → get_by_text old text ≡
 
 -- a text was read, if it was not before
 pub record IsTextRead (old : Queries) (text : List ℕ) (new : Queries) : Type 0 where
-  pub right : AreReadAs new
   pub read : TextRead
   pub there : get_by_text new text ≡ Some read
   pub still : StayRead old new
 
 -- the text of a line was read
 pub record IsLineRead (old : Queries) (line : Line) (new : Queries) : Type 0 where
-  pub right : AreReadAs new
   pub kept : IsKeptFor new line
   pub still : StayRead old new
 
@@ -95,6 +100,7 @@ pub record IsLineRead (old : Queries) (line : Line) (new : Queries) : Type 0 whe
 pub record IsTold (known : Known) (loaded : Loaded) : Type 0 where
   pub held : AreHeld known.files loaded.files
   pub readings : known.readings ≡ readings_in loaded.queries
+  pub right : AreReadBy known.refused loaded.queries
 
 -- what was loaded first is told of what is left of it
 abbrev pub IsPart : Loaded → Loaded → Type 0

@@ -14,11 +14,12 @@ use Rattle.pf_client.specs.Replays.{HaveStopped, Held, why_by}
 pub record IsSummary (limits : Limits) (held : Held) (lines : List Numbered) (AreTries : List ℕ → Type 0) (full : Bool) (t : Tally) : Type 0 where
   pub journal : List Entry
   pub names : List (List ℕ)
+  pub refused : List (List ℕ)
   pub readings : Readings
   pub rest : Rest
   pub legal : Legal limits names journal
   pub named : AreNames names journal
-  pub woven : Weave (record { limits = limits; names = names; files = held; readings = readings }) journal (lines ∷ []) rest
+  pub woven : Weave (record { limits = limits; names = names; files = held; refused = refused; readings = readings }) journal (lines ∷ []) rest
   pub ended : HaveStopped (why_by full) rest.clients
   pub tries : AreTries rest.failed
   pub whole : t ≡ tally_of limits (moments journal)

@@ -26,7 +26,7 @@ ghost use Rattle.pf_client.specs.Replays.{file_of};
 ghost use Rattle.pf_client.specs.Files.{AreHeld, HoldsContent, IsKept, IsShort, LetsGo, LetsGoOf};
 ghost use Rattle.pf_client.specs.Going.{GoesOnWith, IsReady, own_of};
 ghost use Rattle.pf_client.specs.Hands.{HoldsJobs};
-ghost use Rattle.pf_client.specs.Queries.{AreReadAs, IsTextKept, readings_in};
+ghost use Rattle.pf_client.specs.Queries.{AreReadAs, AreReadBy, IsTextKept, readings_in};
 ghost use Rattle.pf_client.specs.Tallies.{CountsNothing};
 ghost use Rattle.pf_types.specs.Asking.{IsWhen, grid_in, is_instant};
 ghost use Rattle.pf_client.specs.declared.client.LineRun.TheVariants.{On, Starved};
@@ -289,7 +289,7 @@ impl Client {
     ) -> Result<LineRun, OutOfMemory>
         requires range { from ≤ to }
         requires within { to ≤ greatest_time }
-        ensures runs { IfOk result (λ r. (known : Known) (selector : List ℕ) → IsSelector selector (arc_value matchers) → Runs known self.old (record { number = number; line = script.delete tenant.now from to selector }) r self.new) }
+        ensures runs { IfOk result (λ r. (known : Known) (selector : List ℕ) → IsSelector known.refused selector (arc_value matchers) → Runs known self.old (record { number = number; line = script.delete tenant.now from to selector }) r self.new) }
         ensures grows { OnOk result (Grows 0 0 self.old.core self.new.core) }
         ensures slots { OnOk result (self.new.slots ≡ self.old.slots) }
         ensures hands { OnOk result (self.new.hands ≡ self.old.hands) }
@@ -328,9 +328,8 @@ impl Client {
         to: u64,
         selector: &Text,
     ) -> Result<LineRun, OutOfMemory>
-        requires right { AreReadAs queries.now }
         requires kept { IsTextKept queries.now selector.now }
-        ensures runs { IfOk result (λ r. (known : Known) → Runs known self.old (record { number = number; line = script.delete tenant.now from to selector.now }) r self.new) }
+        ensures runs { IfOk result (λ r. (known : Known) → AreReadBy known.refused queries.now → Runs known self.old (record { number = number; line = script.delete tenant.now from to selector.now }) r self.new) }
         ensures grows { OnOk result (Grows 0 0 self.old.core self.new.core) }
         ensures slots { OnOk result (self.new.slots ≡ self.old.slots) }
         ensures hands { OnOk result (self.new.hands ≡ self.old.hands) }

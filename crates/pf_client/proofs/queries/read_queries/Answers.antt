@@ -4,7 +4,9 @@ use Rattle.pf_client.proofs.queries.read_queries.Goals as goal
 
 pub loop-line-preserved : goal.loop-line-preserved
 loop-line-preserved c = record {
-  right = search rules;
+  right = λ refs agrees.
+      let read = c.in_ok-read_line.ensures in
+      read.right refs agrees (c.loop-line.invariant.right refs (read.still refs agrees));
   kept = read_more c.args.script.now.lines.items c.loop-line.line-index c.line-item.result c.loop-line.queries c.read_line.new.queries
       (search rules) (search rules) c.loop-line.invariant.kept (search rules);
 }

@@ -26,7 +26,7 @@ pub returns-in-Delete-clause-runs : goal.returns-in-Delete-clause-runs
 returns-in-Delete-clause-runs g c =
     subst (λ (l : Line). IfOk c.delete.result (λ (r : LineRun). GoesOnWith c.args.loaded.now c.args.self.now (numbered c.args.line.now.number l) r c.delete.new.self)) (sym c.in-Delete.is)
     (plain_goes_if c.args.loaded.now c.args.self.now c.delete.new.self _ c.delete.result c.delete.ensures.client tt (λ id a. a)
-    (if_ok_map _ _ c.delete.result (λ r h known told. h known) c.delete.ensures.runs) c.delete.ensures.slots)
+    (if_ok_map _ _ c.delete.result (λ r h known told. h known told.right) c.delete.ensures.runs) c.delete.ensures.slots)
 
 pub returns-in-Ask-clause-runs : goal.returns-in-Ask-clause-runs
 returns-in-Ask-clause-runs g c =
@@ -115,7 +115,7 @@ pub returns-in-Delete-clause-counted : goal.returns-in-Delete-clause-counted
 returns-in-Delete-clause-counted g c =
     subst (λ (l : Line). OnOk c.delete.result (CountsNothing c.args.loaded.now c.args.self.now (numbered c.args.line.now.number l) c.delete.new.self)) (sym c.in-Delete.is)
     (plain_counts_if c.args.loaded.now c.args.self.now c.delete.new.self _ c.delete.result
-    (if_ok_map _ _ c.delete.result (λ r h known told. h known) c.delete.ensures.runs))
+    (if_ok_map _ _ c.delete.result (λ r h known told. h known told.right) c.delete.ensures.runs))
 
 pub returns-in-Ask-clause-counted : goal.returns-in-Ask-clause-counted
 returns-in-Ask-clause-counted g c =
