@@ -39,7 +39,8 @@ use Rattle.pf_client.specs.Tallies.{IsCounted}
 use Rattle.pf_client.specs.Going.{AreCounted, HasRun, HasStopped, IsGoing, hands_last, own_of}
 use Rattle.pf_client.specs.Hands.{HaveHands, HoldsJobs, held_by, is_job_of}
 use Rattle.pf_client.specs.declared.client.LineRun.{LineRun}
-use Rattle.pf_client.specs.Queries.{AreReadAs, IsQueryRead, IsTold, Queries, query_reading, reading_in, readings_in}
+use Rattle.pf_client.specs.Queries.{AreReadAs, IsQueryRead, IsTold, Queries, query_reading, reading_in, readings_in, AreReadBy}
+use Rattle.pf_client.specs.declared.client.LineRun.TheVariants as run
 use Rattle.pf_client.specs.declared.client.Client.{Client}
 use Rattle.pf_client.specs.declared.loaded.Loaded.{Loaded}
 use Rattle.pf_client.specs.declared.queries.QueryRead.{QueryRead}

@@ -1,5 +1,5 @@
 -- Queries and selectors that were read.
-use Rattle.std.proofs.Common.{◌≡◌, ◌≢◌, ℕ, ℤ, zero, suc, ◌+◌, ◌<◌, pos, inl, inr, Bool, true, false, Option, Some, None, cond, get_or, map, take, List, [], ◌∷◌, ◌++◌, length, refl, sym, ap, ◌∙◌, subst, is_some, true≢false}
+use Rattle.std.proofs.Common.{◌≡◌, ◌≢◌, ℕ, ℤ, zero, suc, ◌+◌, ◌<◌, pos, inl, inr, Bool, true, false, Option, Some, None, cond, get_or, map, take, List, [], ◌∷◌, ◌++◌, length, refl, sym, ap, ◌∙◌, subst, is_some, true≢false, arith, Err}
 use Rattle.std.specs.BTreeMap.{get_by_text}
 use Rattle.std.specs.Prelude.{◌&&◌, not, Box, Vec}
 use Rattle.std.specs.Option.{is_none}
@@ -10,7 +10,7 @@ use Rattle.std.specs.Str.{bytes_eq}
 use Rattle.std.specs.declared.alloc.Global.{Global}
 use Rattle.std.specs.Arc.{arc_value}
 use Rattle.std.specs.declared.sync.Arc.{Arc}
-use Rattle.std.proofs.lemmas.List.{take_more}
+use Rattle.std.proofs.lemmas.List.{take_all, take_more}
 use Rattle.std.proofs.lemmas.Slice.Eq.{bytes_eq-Decides}
 use Rattle.pf_model.specs.declared.expr.Matcher.{Matcher}
 use Rattle.pf_model.specs.declared.expr.Mods.{Mods}
@@ -32,6 +32,9 @@ use Rattle.pf_model.specs.Trees.{Tree, number, text, unary, binary, call, aggreg
 use Rattle.pf_model.specs.Typing.{TypeFault, asked_fault}
 use Rattle.pf_script.specs.Lines.{numbered_of}
 use Rattle.pf_script.specs.declared.script.NumberedLine.{NumberedLine}
+use Rattle.pf_types.specs.Counted.{IsBindFate}
+use Rattle.pf_types.specs.declared.bound.BindError.{BindError}
+use Rattle.pf_types.specs.declared.bound.BindError.TheVariants as bind
 use Rattle.pf_types.specs.Errors.{IsFaultFor, query_fault}
 use Rattle.pf_types.specs.declared.query.QueryError.{QueryError}
 use Rattle.pf_types.specs.declared.query.QueryError.TheVariants as query_error
@@ -155,6 +158,15 @@ pub empty_selector_right : (refs : List (List ℕ)) (words : List ℕ) (t : Tree
     → IsQueryRead refs words (query.Refused (query_error.Empty n))
 empty_selector_right refs words t n some q = (empty_selector n, (refl, (t, (q, some))))
 
+-- of a query that was not bound
+pub pattern_fate : (T : Type 0) (refs : List (List ℕ)) (t : Tree) (e : BindError) (n : ℕ) → e ≡ bind.Pattern n → IsBindFate {T = T} refs t (Err e)
+    → bind_fault refs t ≡ Some (refused_pattern n)
+pattern_fate T refs t e n is h = subst (λ (x : BindError). IsBindFate {T = T} refs t (Err x)) is h
+
+pub empty_fate : (T : Type 0) (refs : List (List ℕ)) (t : Tree) (e : BindError) (n : ℕ) → e ≡ bind.Empty n → IsBindFate {T = T} refs t (Err e)
+    → bind_fault refs t ≡ Some (empty_selector n)
+empty_fate T refs t e n is h = subst (λ (x : BindError). IsBindFate {T = T} refs t (Err x)) is h
+
 -- what trees say as selectors
 pub other_refused : (refs : List (List ℕ)) (t : Tree) → is_plain_selector t ≡ false → SelectsAs refs t chosen.Refused
 other_refused refs t h = other_tree refs t h
@@ -252,3 +264,8 @@ read_more ls i l old new p is h r =
     subst (Each (λ (x : Numbered). IsKeptFor new x.line)) (sym more)
     (each_push (λ (x : Numbered). IsKeptFor new x.line) (map numbered_of (take i ls)) (numbered_of l)
     (lines_still old new r.still (map numbered_of (take i ls)) h) r.kept)
+
+-- the texts of all lines
+pub all_kept : (ls : List NumberedLine) (i : ℕ) (kept : Queries) → (i < length ls → ⊥) → Each (λ x. IsKeptFor kept x.line) (map numbered_of (take i ls))
+    → Each (λ x. IsKeptFor kept x.line) (map numbered_of ls)
+all_kept ls i kept h = subst (λ (xs : List NumberedLine). Each (λ x. IsKeptFor kept x.line) (map numbered_of xs)) (take_all i ls (omega (arith, h)))

@@ -121,11 +121,7 @@ fn read_bound(alloc: Global, query: BoundQuery) -> Result<QueryRead, OutOfMemory
 
 /// What a query whose kinds are lawful is read as.
 #[tactic(auto, using(crate::proofs::TextReads::bound_right, crate::proofs::TextReads::refused_pattern_right, crate::proofs::TextReads::empty_selector_right))]
-fn read_lawful(
-    alloc: Global,
-    patterns: &mut Patterns,
-    expr: Expr,
-) -> Result<QueryRead, OutOfMemory>
+fn read_lawful(alloc: Global, patterns: &mut Patterns, expr: Expr) -> Result<QueryRead, OutOfMemory>
     requires written { HasText (tree_of expr) }
     requires small { size (tree_of expr) ≤ most_bytes }
     requires low { height (tree_of expr) ≤ 64 }
@@ -145,11 +141,7 @@ fn read_lawful(
 
 /// What a tree whose kinds are lawful is read as, as a query and as a deletion's selector.
 #[tactic(auto, using(crate::proofs::TextReads::lawful_read))]
-fn read_tree(
-    alloc: Global,
-    patterns: &mut Patterns,
-    expr: Expr,
-) -> Result<TextRead, OutOfMemory>
+fn read_tree(alloc: Global, patterns: &mut Patterns, expr: Expr) -> Result<TextRead, OutOfMemory>
     requires written { HasText (tree_of expr) }
     requires small { size (tree_of expr) ≤ most_bytes }
     requires low { height (tree_of expr) ≤ 64 }
