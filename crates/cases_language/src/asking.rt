@@ -12,6 +12,7 @@ use cases_rows::base::grid_of;
 use cases_rows::output::{Output, cut};
 use pf_asked::Asked;
 use pf_base::Grid;
+use pf_match::Patterns;
 use pf_model::Expr;
 use pf_resolve::{lowest, reach};
 use pf_types::{BoundQuery, QueryError, When, bind, grid_text, read_asked, read_query};
@@ -66,7 +67,8 @@ fn push_tree(out: &mut Output, when: When, tree: Expr)
     requires low { height (tree_of tree) ≤ 64 }
     requires evaluated { is_evaluated (tree_of tree) ≡ true }
 {
-    match &bind(out.alloc(), tree) {
+    let mut patterns = Patterns::new(out.alloc());
+    match &bind(out.alloc(), &mut patterns, tree) {
         Ok(query) => push_over(out, query, when),
         Err(error) => push_refusal(out, &QueryError::from(*error)),
     }

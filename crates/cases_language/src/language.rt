@@ -9,6 +9,7 @@ ghost use Rattle.pf_print.specs.OwnTexts.{HasText};
 
 use cases_rows::output::Output;
 use pf_lex::{LexError, Token, TokenSort, string_value, token_text, tokens};
+use pf_match::Patterns;
 use pf_model::{Expr, Kind};
 use pf_parse::{ParseError, parse};
 use pf_print::print;
@@ -151,7 +152,8 @@ fn push_bound(out: &mut Output, tree: Expr)
     requires low { height (tree_of tree) ≤ 64 }
     requires evaluated { is_evaluated (tree_of tree) ≡ true }
 {
-    match &bind(out.alloc(), tree) {
+    let mut patterns = Patterns::new(out.alloc());
+    match &bind(out.alloc(), &mut patterns, tree) {
         Ok(_) => out.text("lawful"),
         Err(error) => push_refusal(out, &QueryError::from(*error)),
     }

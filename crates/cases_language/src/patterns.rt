@@ -9,7 +9,7 @@ fn pattern_of(out: &mut Output, setting: &Setting) -> Option<Pattern> {
     let text = setting.words(out, "pattern");
     match Pattern::build(out.alloc(), text) {
         Ok(pattern) => Some(pattern),
-        Err(PatternError::BadPattern) => {
+        Err(PatternError::BadPattern | PatternError::TooBig) => {
             out.text("bad pattern");
             None
         }

@@ -124,6 +124,7 @@ reported : (limits : Limits) (hops : HopsSeen) (after : ℕ) (held : Held) (line
 reported limits hops after held lines why text r = record {
   journal = r.journal;
   names = r.names;
+  refused = r.refused;
   readings = r.readings;
   rest = r.rest;
   legal = r.legal;

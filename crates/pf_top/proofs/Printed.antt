@@ -10,6 +10,7 @@ use Rattle.pf_base.specs.GridLists.{GridData}
 use Rattle.pf_base.specs.Grids.{grid_of}
 use Rattle.pf_base.specs.declared.grid.GridError.{GridError}
 use Rattle.pf_base.specs.declared.plain.Row.{Row}
+use Rattle.pf_match.specs.Tables.{AreTooBig}
 use Rattle.pf_model.specs.Direct.{direct}
 use Rattle.pf_model.specs.ErrorTexts.{QueryFault, grid_text, memory_text, query_text}
 use Rattle.pf_model.specs.Log.{batch_samples}
@@ -43,34 +44,40 @@ body_printed samples wanted asked b text same is coded told =
     ∙ ap (λ (x : Asked). evaluated_text samples (Some (Ok x))) same
 
 -- a lawful query, and one that is refused, over a grid
-pub query_printed : (batch : BatchData) (words : List ℕ) (start end step : ℕ) (grid : GridData) (q : Arc BoundQuery Global) (text : List ℕ)
+pub query_printed : (refs : List (List ℕ)) (batch : BatchData) (words : List ℕ) (start end step : ℕ) (grid : GridData) (q : Arc BoundQuery Global) (text : List ℕ)
     → text ≡ evaluated_text (batch_samples batch.rows) (Some (Ok (asked_over false grid (arc_value q))))
-    → IsQueryRead words (query.Lawful q) → grid_of start end step ≡ Ok grid → IsText batch words start end step text
-query_printed batch words start end step grid q text told h gridded =
+    → AreTooBig refs → IsQueryRead refs words (query.Lawful q) → grid_of start end step ≡ Ok grid → IsText batch words start end step text
+query_printed refs batch words start end step grid q text told big h gridded =
     let reading : Reading = lawful (arc_value q) in
-    (reading, (h, told ∙ ap (λ (g : Result GridData GridError). evaluated_text (batch_samples batch.rows) (asked_with false g (Some reading))) (sym gridded)))
+    (refs, (big, (reading, (h, told ∙ ap (λ (g : Result GridData GridError). evaluated_text (batch_samples batch.rows) (asked_with false g (Some reading))) (sym gridded)))))
 
-pub refusal_printed : (batch : BatchData) (words : List ℕ) (start end step : ℕ) (grid : GridData) (e : QueryError) (text : List ℕ)
+pub refusal_printed : (refs : List (List ℕ)) (batch : BatchData) (words : List ℕ) (start end step : ℕ) (grid : GridData) (e : QueryError) (text : List ℕ)
     → text ≡ evaluation_text (codes "400") (refused_body (words_of_error e))
-    → IsQueryRead words (query.Refused e) → grid_of start end step ≡ Ok grid → IsText batch words start end step text
-refusal_printed batch words start end step grid e text told h gridded =
+    → AreTooBig refs → IsQueryRead refs words (query.Refused e) → grid_of start end step ≡ Ok grid → IsText batch words start end step text
+refusal_printed refs batch words start end step grid e text told big h gridded =
     let reading : Reading = refused h.0 in (
-      reading,
+      refs,
       (
-        h.1.1,
-        told
-            ∙ ap (λ (o : Option QueryFault). evaluation_text (codes "400") (refused_body (option_map_or query_text o memory_text))) h.1.0
-            ∙ ap (λ (g : Result GridData GridError). evaluated_text (batch_samples batch.rows) (asked_with false g (Some reading))) (sym gridded),
+        big,
+        (
+          reading,
+          (
+            h.1.1,
+            told
+                ∙ ap (λ (o : Option QueryFault). evaluation_text (codes "400") (refused_body (option_map_or query_text o memory_text))) h.1.0
+                ∙ ap (λ (g : Result GridData GridError). evaluated_text (batch_samples batch.rows) (asked_with false g (Some reading))) (sym gridded),
+          ),
+        ),
       ),
     )
 
 -- where the times are refused, however the query is read
-pub times_printed : (batch : BatchData) (words : List ℕ) (start end step : ℕ) (error : GridError) (q : QueryRead) (text : List ℕ)
+pub times_printed : (refs : List (List ℕ)) (batch : BatchData) (words : List ℕ) (start end step : ℕ) (error : GridError) (q : QueryRead) (text : List ℕ)
     → text ≡ evaluation_text (codes "400") (refused_body (grid_text error))
-    → IsQueryRead words q → grid_of start end step ≡ Err error → IsText batch words start end step text
-times_printed batch words start end step error (query.Lawful q) text told h gridded =
+    → AreTooBig refs → IsQueryRead refs words q → grid_of start end step ≡ Err error → IsText batch words start end step text
+times_printed refs batch words start end step error (query.Lawful q) text told big h gridded =
     let reading : Reading = lawful (arc_value q) in
-    (reading, (h, told ∙ ap (λ (g : Result GridData GridError). evaluated_text (batch_samples batch.rows) (asked_with false g (Some reading))) (sym gridded)))
-times_printed batch words start end step error (query.Refused e) text told h gridded =
+    (refs, (big, (reading, (h, told ∙ ap (λ (g : Result GridData GridError). evaluated_text (batch_samples batch.rows) (asked_with false g (Some reading))) (sym gridded)))))
+times_printed refs batch words start end step error (query.Refused e) text told big h gridded =
     let reading : Reading = refused h.0 in
-    (reading, (h.1.1, told ∙ ap (λ (g : Result GridData GridError). evaluated_text (batch_samples batch.rows) (asked_with false g (Some reading))) (sym gridded)))
+    (refs, (big, (reading, (h.1.1, told ∙ ap (λ (g : Result GridData GridError). evaluated_text (batch_samples batch.rows) (asked_with false g (Some reading))) (sym gridded)))))

@@ -50,6 +50,7 @@ spared : (limits : Limits) (hops : HopsSeen) (after : ℕ) (held : Held) (lines 
 spared limits hops after held lines full t s = record {
   journal = s.journal;
   names = s.names;
+  refused = s.refused;
   readings = s.readings;
   rest = s.rest;
   legal = s.legal;

@@ -6,6 +6,7 @@ use Rattle.pf_base.specs.Batches.{BatchData}
 use Rattle.pf_base.specs.Grids.{grid_of}
 use Rattle.pf_base.specs.declared.plain.Limits.{Limits}
 use Rattle.pf_gen.specs.Sessions.{session}
+use Rattle.pf_match.specs.Tables.{AreTooBig}
 use Rattle.pf_model.specs.Log.{batch_samples}
 use Rattle.pf_model.specs.Queries.{IsReading, Reading, Readings}
 use Rattle.pf_journal.specs.Asking.{asked_with}
@@ -64,14 +65,15 @@ needed held (Some (load seed)) = []
 pub record Reported (limits : Limits) (hops : HopsSeen) (held : Held) (scripts : List (List Numbered)) (why : Why) (text : List ℕ) : Type 0 where
   pub journal : List Entry
   pub names : List (List ℕ)
+  pub refused : List (List ℕ)
   pub readings : Readings
   pub rest : Rest
   pub legal : Legal limits names journal
   pub named : AreNames names journal
-  pub woven : Weave (record { limits = limits; names = names; files = held; readings = readings }) journal scripts rest
+  pub woven : Weave (record { limits = limits; names = names; files = held; refused = refused; readings = readings }) journal scripts rest
   pub stopped : HaveStopped why rest.clients
   pub spared : AreSpared hops.most hops.before rest.failed
-  pub whole : text ≡ report (record { limits = limits; names = names; files = held; readings = readings }) journal scripts rest
+  pub whole : text ≡ report (record { limits = limits; names = names; files = held; refused = refused; readings = readings }) journal scripts rest
 
 -- 0: each client ran its whole script; 8: one met the full journal; 6, of which only a front need be written: any cause
 abbrev pub IsReported : Limits → HopsSeen → Held → List (List Numbered) → ℕ → List ℕ → Type 0
@@ -87,11 +89,11 @@ ReplayTells limits hops held r status text =
     ((lines : List Numbered) × ((script_of true (held r.script) ≡ Ok lines) × IsReported (limits_with limits r) hops held (lines ∷ []) status text))
     ⊎ ((status ≡ 3) × ((line : ℕ) × ((script_of true (held r.script) ≡ Err line) × (text ≡ refused_script 0 line))))
 
--- what is printed of a query over times, and the samples of a batch
+-- what is printed of a query over times, and the samples of a batch, with some patterns that compile too big
 abbrev pub IsText : BatchData → (query : List ℕ) → (start end step : ℕ) → List ℕ → Type 0
 IsText batch query start end step text =
-    (reading : Reading) × (IsReading query reading
-    × (text ≡ evaluated_text (batch_samples batch.rows) (asked_with false (grid_of start end step) (Some reading))))
+    (refused : List (List ℕ)) × (AreTooBig refused × ((reading : Reading) × (IsReading refused query reading
+    × (text ≡ evaluated_text (batch_samples batch.rows) (asked_with false (grid_of start end step) (Some reading))))))
 
 abbrev pub IsEvaluationText : BatchData → Evaluation → List ℕ → Type 0
 IsEvaluationText batch e text = IsText batch e.query e.start e.end e.step text

@@ -14,6 +14,7 @@ ghost use Rattle.pf_store.specs.Standing.{StandsFor};
 ghost use Rattle.pf_top.specs.Commands.{IsEvaluationText, IsText};
 ghost use Rattle.pf_top.specs.WordSteps.{evaluation_in};
 ghost use Rattle.pf_client.specs.Queries.{IsQueryRead};
+ghost use Rattle.pf_match.specs.Tables.{AreTooBig};
 ghost use Rattle.pf_types.specs.Errors.{words_of_error};
 
 use crate::evaluate::evaluate;
@@ -98,7 +99,7 @@ fn text_over(
 ) -> Result<Vec<u8>, OutOfMemory>
     requires timed { are_timed batch.now.rows ≡ true }
     requires step { 0 < grid.step }
-    ensures { IfOk result (λ t. (query : List ℕ) (start end step : ℕ) → IsQueryRead query read.now → grid_of start end step ≡ Ok grid → IsText batch.now query start end step t.items) }
+    ensures { IfOk result (λ t. (refs : List (List ℕ)) (query : List ℕ) (start end step : ℕ) → AreTooBig refs → IsQueryRead refs query read.now → grid_of start end step ≡ Ok grid → IsText batch.now query start end step t.items) }
 {
     match read {
         QueryRead::Lawful(query) => {
