@@ -77,6 +77,6 @@ seed_summed limits hops seed g given lines status text is same read sum = (
   (
     sym (ap (script_of false) (same ∙ ap (λ (s : Session). s.script) is)) ∙ read,
     subst (λ (n : ℕ). IsSummed limits hops (page_in (session seed).files) seed n lines status text) (generated_asks seed g given lines is same read)
-    (subst (λ (s : Session). IsSummed limits hops (page_in s.files) seed (asks lines) lines status text) is sum),
+        (subst (λ (s : Session). IsSummed limits hops (page_in s.files) seed (asks lines) lines status text) is sum),
   ),
 )
