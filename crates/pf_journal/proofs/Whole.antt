@@ -5,6 +5,7 @@ use Rattle.std.proofs.lemmas.Bool.Decides.{nat_tests}
 use Rattle.std.proofs.lemmas.Option.{none-some, slice_get_within}
 use Rattle.pf_base.specs.declared.plain.Limits.{Limits}
 use Rattle.pf_model.specs.Lists.{Each}
+use Rattle.pf_match.specs.Tables.{AreTooBig}
 use Rattle.pf_model.specs.Queries.{IsReading, Reading}
 use Rattle.pf_journal.proofs.Found.{cancels_front, stands}
 use Rattle.pf_journal.proofs.Histories.{journal_append, journal_length, named_front}
@@ -262,19 +263,20 @@ module _ {K : Type 0} (own : K → List ℕ) (seen : K → List Named) where
         → length ks ≡ length scripts → length rest.clients ≡ length scripts
         → ((client : ℕ) (k : K) (lines : List Numbered) (c : Client) → slice_get ks client ≡ Some k → slice_get scripts client ≡ Some lines
         → slice_get rest.clients client ≡ Some c → WovenBy known client (own k) (seen k) lines c)
-        → ((text : List ℕ) (r : Reading) → known.readings text ≡ Some r → IsReading text r) → AreTried (journal_of last) rest
+        → AreTooBig known.refused → ((text : List ℕ) (r : Reading) → known.readings text ≡ Some r → IsReading known.refused text r) → AreTried (journal_of last) rest
         → Weave known (journal_of last) scripts rest
-    woven_all known scripts rest names many told by read tried = record {
+    woven_all known scripts rest names many told by too_big read tried = record {
       many = told;
       each = λ client lines c a b.
           let low = slice_get_within scripts client lines a in
           let k = get_exists ks client (omega (arith, low, many)) in
           woven_client known client k.0 lines c names k.1 (by client k.0 lines c k.1 a b);
       nobody_else = subst (λ n. Each (λ e. e.client < n) (journal_of last)) many nobody_else;
+      too_big = too_big;
       read = read;
       tried = tried;
     }
 
 pub shared_weave : SharedWeave
-shared_weave known parts last scripts rest share names many told by read tried =
-    woven_all (λ p. p.own) (λ p. p.seen) parts last share known scripts rest names many told by read tried
+shared_weave known parts last scripts rest share names many told by too_big read tried =
+    woven_all (λ p. p.own) (λ p. p.seen) parts last share known scripts rest names many told by too_big read tried

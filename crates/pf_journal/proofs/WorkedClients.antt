@@ -102,7 +102,7 @@ two_share = record {
 }
 
 -- so both are woven into the journal, where queries are read as they are said to be
-two_are_woven : ((text : List ℕ) (r : Reading) → usual.readings text ≡ Some r → IsReading text r) → Weave usual two_journal two_scripts two_rest
+two_are_woven : ((text : List ℕ) (r : Reading) → usual.readings text ≡ Some r → IsReading [] text r) → Weave usual two_journal two_scripts two_rest
 two_are_woven read =
     shared_weave usual two_parts shared two_scripts two_rest two_share (history_named usual.names two_journal) refl refl
     (λ client p lines c is_p is_lines is_c.
@@ -112,7 +112,7 @@ two_are_woven read =
     (λ a b. subst (λ ls. WovenBy usual 1 second.own second.seen ls c) (Some_inj _ _ a)
     (subst (WovenBy usual 1 second.own second.seen second_lines) (Some_inj _ _ b) second_woven))
     client p is_p is_lines is_c)
-    read two_is_a_session.1.1
+    refl read two_is_a_session.1.1
 
 -- ---- wrong weaves
 

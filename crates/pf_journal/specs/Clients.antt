@@ -2,6 +2,7 @@
 -- project's own.
 use Rattle.std.specs.Prelude.{◌≡◌, ℕ, Some, List, [], ◌∷◌, ◌++◌, length, slice_get}
 use mathlib.Core.List.{IsPrefix}
+use Rattle.pf_match.specs.Tables.{AreTooBig}
 use Rattle.pf_model.specs.Queries.{IsReading, Reading}
 use Rattle.pf_journal.specs.Named.{AreNamedBy, Named, journal_of}
 use Rattle.pf_journal.specs.Owned.{AreCancelsOwn, Holds, OwnsEach, own_of}
@@ -41,5 +42,5 @@ SharedWeave =
     → length parts ≡ length scripts → length rest.clients ≡ length scripts
     → ((client : ℕ) (p : Part) (lines : List Numbered) (c : Client) → slice_get parts client ≡ Some p → slice_get scripts client ≡ Some lines
     → slice_get rest.clients client ≡ Some c → WovenBy known client p.own p.seen lines c)
-    → ((text : List ℕ) (r : Reading) → known.readings text ≡ Some r → IsReading text r) → AreTried (journal_of last) rest
+    → AreTooBig known.refused → ((text : List ℕ) (r : Reading) → known.readings text ≡ Some r → IsReading known.refused text r) → AreTried (journal_of last) rest
     → Weave known (journal_of last) scripts rest
