@@ -9,14 +9,14 @@ returns-in-Ok-put_all-clause-claim g c =
     let o = g.O.Sink in
     let p = c.in-Ok.ensures.output in
     written (search rules)
-    (p.0, (p.1.0, whole_on (o.told c.args.out.now) (o.told c.run_words.new.out) (o.told c.put_all.new.out) p.0 c.in-Ok.output.text.items p.1.1 (search rules)))
+    (p.0, (search (rules, p), whole_on (o.told c.args.out.now) (o.told c.run_words.new.out) (o.told c.put_all.new.out) p.0 c.in-Ok.output.text.items p.1.1 (search rules)))
 
 pub returns-in-Err-clause-claim : goal.returns-in-Err-clause-claim
 returns-in-Err-clause-claim g c =
     let o = g.O.Sink in
     let p = c.in-Ok.ensures.output in
     unwritten refl (search rules)
-    (p.0, ((c.in-Ok.output.status, p.1.0), front_on (o.told c.args.out.now) (o.told c.run_words.new.out) (o.told c.put_all.new.out) p.0 c.in-Ok.output.text.items p.1.1 (search rules)))
+    (p.0, ((c.in-Ok.output.status, search (rules, p)), front_on (o.told c.args.out.now) (o.told c.run_words.new.out) (o.told c.put_all.new.out) p.0 c.in-Ok.output.text.items p.1.1 (search rules)))
 
 pub returns-in-Err-WriteFault-clause-claim : goal.returns-in-Err-WriteFault-clause-claim
 returns-in-Err-WriteFault-clause-claim g c =
