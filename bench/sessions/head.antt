@@ -30,7 +30,7 @@ use Rattle.pf_journal.specs.Scripts.{Numbered}
 use Rattle.pf_journal.specs.Scripts as script
 use Rattle.pf_journal.specs.Steps.{again, busy, by_cancel, by_tries, empty, exhausted, gone, keep_failed, keep_refused, keep_stopped, keep_waits, kept, none_waits, not_held, outdated, plan_refused, plan_stopped, planned, planned_before, stored, took, unplanned}
 
-x_selects : IsSelector (codes "x") (equal (codes "__name__") (codes "x") ∷ [])
+x_selects : IsSelector [] (codes "x") (equal (codes "__name__") (codes "x") ∷ [])
 unfolding encode_utf8 clamp
 x_selects = (
   tree.instant (equal (codes "__name__") (codes "x") ∷ []),

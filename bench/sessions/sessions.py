@@ -353,7 +353,7 @@ class Session:
             out.append("%s_gives_%d : Gives (%s) 0 (%s)\nunfolding clamp encode_utf8\n%s_gives_%d = %s\n" % (name, n, quoted(page.text()), page.batch(), name, n, page.gives()))
         files = listed("(%s, %s)" % (quoted(name), quoted(page.text())) for name, page in sorted(self.pages.items()))
         limits = "record { outstanding = %d; window = 600000; interval = 86400000; shards = 4; extents = 256; journal = %d }" % (self.outstanding, self.journal)
-        say("known", "Known", "record { limits = %s; names = %s; files = files_of %s; readings = with_any }" % (limits, listed(quoted(it) for it in self.names), files))
+        say("known", "Known", "record { limits = %s; names = %s; files = files_of %s; refused = []; readings = with_any }" % (limits, listed(quoted(it) for it in self.names), files))
         say("journal", "List Entry", listed("(%s)" % it for it in entries))
         say("scripts", "List (List Numbered)", listed(listed("line %d (%s)" % (number, self.line(client, dict(line=w))) for number, w in client.script.lines) for client in self.clients))
         failed = [self.core.failed.get(i, 0) for i in range(32)]
