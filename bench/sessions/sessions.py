@@ -334,7 +334,7 @@ class Session:
             front = client.done[-1]["front"]
             behind = ["λ e. differ (nat_eq %d) _ _ refl refl e" % c for c, _, _ in self.core.entries[front:]]
             runs = "(refl, refl, record { front = %d; has_all = %s; over = lit< tt })" % (front, chained(behind))
-        return "(record { few = lit≤ tt; rising = %s; lined = %s; each = %s }, %s)" % (
+        return "record { woven = record { few = lit≤ tt; rising = %s; lined = %s; each = %s }; runs = %s }" % (
             chained(["lit< tt"] * len(own)), chained(lined), chained(each), runs)
 
     def lemmas(self, change=None):
