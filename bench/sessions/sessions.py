@@ -369,7 +369,7 @@ class Session:
         return "\n".join(out)
 
 
-HEAD = open(os.path.join(os.path.dirname(os.path.abspath(__file__)), "head.antt")).read()
+HEAD = open(os.path.join(os.path.dirname(os.path.abspath(__file__)), "head.txt")).read()
 
 
 def changed(rng):
