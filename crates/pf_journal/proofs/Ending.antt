@@ -1,5 +1,5 @@
 -- A run of a script's first lines can be ended: the lines behind get replies that are allowed, with at most some cancels.
-use Rattle.std.proofs.Common.{◌≡◌, ℕ, zero, suc, ◌+◌, ◌*◌, ◌<◌, ◌≤◌, ◌⊎◌, inl, inr, Bool, true, false, Option, Some, None, List, [], ◌∷◌, ◌++◌, drop, length, slice_get, take, nat_eq, refl, sym, ap, ◌∙◌, subst, append-nil, append_assoc, arith, sum}
+use Rattle.std.proofs.Common.{◌≡◌, ℕ, zero, suc, ◌+◌, ◌*◌, ◌<◌, ◌≤◌, ◌⊎◌, inl, inr, Bool, true, false, Option, Some, None, List, [], ◌∷◌, ◌++◌, drop, length, option_map, slice_get, take, nat_eq, refl, sym, ap, ◌∙◌, subst, append-nil, append_assoc, arith, sum}
 use Rattle.std.proofs.lemmas.Bool.{le-ltb, ne_eqb}
 use Rattle.std.proofs.lemmas.Bool.Decides.{nat_tests}
 use Rattle.std.proofs.lemmas.List.Elements.{filter-append}
@@ -12,10 +12,11 @@ use Rattle.pf_model.specs.Queries.{IsReading, Reading}
 use Rattle.pf_journal.proofs.Going.{NeverStops, going, ran-snoc, runs_to_end, runs_to_stop, text_grows, text_stays, turn_behind, woven_enters, woven_stays, one_more}
 use Rattle.pf_journal.proofs.Growing.{hands_behind, moments-snoc}
 use Rattle.pf_journal.proofs.Named.{all_named}
-use Rattle.pf_journal.proofs.Opened.{IsAmong, all_above, all_own, asked_at, found_among, opened}
-use Rattle.pf_journal.specs.Entered.{IsOfAsk, what_of}
+use Rattle.pf_journal.proofs.Opened.{IsAmong, all_above, all_own, asked_at, cancelled_by, found_among, opened}
+use Rattle.pf_journal.specs.Asking.{Asked}
+use Rattle.pf_journal.specs.Entered.{Fits, IsOfAsk, room_of, what_of}
 use Rattle.pf_journal.specs.Legal.{AreNames, IsLawful, Legal, Moment, machine_after, moments, moments_from}
-use Rattle.pf_journal.specs.Machine.{CancelsOpen, Entry, HasRoom, Machine, Open, What, append, delete, ask, full, no_tenant, cancel, answer, cancelled_at, next, open_at, reserved, started}
+use Rattle.pf_journal.specs.Machine.{AnswersOpen, CanBeUnplanned, CancelsOpen, Entry, HasRoom, IsCode, Machine, Open, What, append, delete, ask, full, no_tenant, cancel, answer, cancelled_at, closed, next, open_at, reserved, room_kept, started}
 use Rattle.pf_journal.specs.Replies.{reply_of}
 use Rattle.pf_journal.specs.Report.{actors_from, client_text, journal_text, report}
 use Rattle.pf_journal.specs.Rest.{Client, Known, Told, nothing, no_memory, of_plan, of_take, of_done, of_keep, Why, at_end, at_full, at_memory}
@@ -23,8 +24,8 @@ use Rattle.pf_journal.specs.Scripts as script
 use Rattle.pf_journal.specs.Scripts.{Line, Numbered}
 use Rattle.pf_journal.specs.Steps.{plan_refused, planned_before, busy, none_waits, empty, lacked, keep_refused, unplanned}
 use Rattle.pf_journal.specs.Turns.{Turn, answer_of, asker_of, cancel_of, entered_above, holds, moment_of, own_moments, place_of, ran_lines}
-use Rattle.pf_journal.specs.Unentered.{HasNoQuery, HasQuery, IsOpen, IsUncancelled, Unentered}
-use Rattle.pf_journal.specs.Weave.{AreTried, FoundRoom, IsLineOf, IsMatched, RunsTo, Weave, Woven, WovenClient, failed_answers, failed_in, failed_told, is_500, stops_at}
+use Rattle.pf_journal.specs.Unentered.{HasNoQuery, HasNoneToAnswer, HasQuery, IsOpen, IsUncancelled, Unentered}
+use Rattle.pf_journal.specs.Weave.{AreTried, FoundRoom, IsLineOf, IsMatched, RunsTo, ToldBeside, Weave, Woven, WovenClient, failed_answers, failed_in, failed_told, is_500, stops_at}
 
 -- ---- lists
 
@@ -102,6 +103,34 @@ reserved_cancelled at place (q ∷ qs) o g n = elim (bool_cases (nat_eq q.place 
       rw t (omega (arith, more))
 ]
 
+-- an answer leaves room that its ask kept for it
+reserved_closed : (place : ℕ) (qs : List Open) (o : Open) → open_at place qs ≡ Some o → reserved (closed place qs) + 1 ≤ reserved qs
+reserved_closed place [] o g = cc
+reserved_closed place (q ∷ qs) o g = elim (bool_cases (nat_eq q.place place)) [
+  | inl t ↦
+      let some = some_kept q.cancelled in
+      let fewer = reserved_others place qs in
+      rw t (omega (arith, some, fewer))
+  | inr t ↦
+      let there : open_at place qs ≡ Some o = rw t at g in
+      let more = reserved_closed place qs o there in
+      rw t (omega (arith, more))
+] where
+  some_kept : (c : Option ℕ) → 1 ≤ room_kept c
+  some_kept None = omega arith
+  some_kept (Some at) = omega arith
+
+  reserved_others : (place : ℕ) (qs : List Open) → reserved (closed place qs) ≤ reserved qs
+  reserved_others place [] = omega arith
+  reserved_others place (q ∷ qs) = elim (bool_cases (nat_eq q.place place)) [
+    | inl t ↦
+        let more = reserved_others place qs in
+        rw t (omega (arith, more))
+    | inr t ↦
+        let more = reserved_others place qs in
+        rw t (omega (arith, more))
+  ]
+
 room_after : (l : Limits) (names : List (List ℕ)) (m : Machine) (es : List Entry) → HasRoom l m → Each (IsLawful l names) (moments_from m es) → HasRoom l (machine_after m es)
 room_after l names m [] r h = r
 room_after l names m (e ∷ es) r h = room_after l names (next m e.what) es h.0.room h.1
@@ -130,20 +159,73 @@ told-snoc : (told : List Told) (t : Told) → failed_in t ≡ 0 → failed_told 
 told-snoc [] t h = rw h refl
 told-snoc (x ∷ told) t h = ap (λ n. failed_in x + n) (told-snoc told t h)
 
--- a query that was neither answered nor cancelled is open
-free_query : (l : Limits) (names : List (List ℕ)) (journal : List Entry) (a : Moment) → Legal l names journal → IsAmong a (moments journal)
-    → HasQuery (what_of (Some a)) → cancel_of (Some a) (moments journal) ≡ None → answer_of (Some a) (moments journal) ≡ None
-    → (o : Open) × (open_at (place_of a) (machine_after started journal).queries ≡ Some o) × (o.cancelled ≡ None)
-free_query l names journal a legal among query uncancelled unanswered = by a.entry.what refl query where
-  by : (w : What) → a.entry.what ≡ w → HasQuery (Some w) → (o : Open) × (open_at (place_of a) (machine_after started journal).queries ≡ Some o) × (o.cancelled ≡ None)
+-- a query that was not answered is open, cancelled where its cancel stands
+open_query : (l : Limits) (names : List (List ℕ)) (journal : List Entry) (a : Moment) → Legal l names journal → IsAmong a (moments journal)
+    → HasQuery (what_of (Some a)) → answer_of (Some a) (moments journal) ≡ None
+    → (o : Open) × (open_at (place_of a) (machine_after started journal).queries ≡ Some o) × (o.cancelled ≡ option_map place_of (cancel_of (Some a) (moments journal)))
+open_query l names journal a legal among query unanswered = by a.entry.what refl query where
+  cancelled_where : (u : ℕ) (asked : Asked) (c : Option Moment) → (cancelled_by (asked_at a u asked) None c).cancelled ≡ option_map place_of c
+  cancelled_where u asked None = refl
+  cancelled_where u asked (Some y) = refl
+
+  by : (w : What) → a.entry.what ≡ w → HasQuery (Some w)
+      → (o : Open) × (open_at (place_of a) (machine_after started journal).queries ≡ Some o) × (o.cancelled ≡ option_map place_of (cancel_of (Some a) (moments journal)))
   by (append u batch vs entry) is q = absurd q
   by (delete u ms from to generation entry) is q = absurd q
-  by (ask u asked pin generation floor) is q =
-      (asked_at a u asked, opened l names journal a legal among u asked pin generation floor is ∙ rw uncancelled (rw unanswered refl), refl)
+  by (ask u asked pin generation floor) is q = (
+    cancelled_by (asked_at a u asked) None (cancel_of (Some a) (moments journal)),
+    opened l names journal a legal among u asked pin generation floor is ∙ rw unanswered refl,
+    cancelled_where u asked (cancel_of (Some a) (moments journal)),
+  )
   by (full u outstanding) is q = absurd q
   by (no_tenant name) is q = absurd q
   by (cancel query) is q = absurd q
   by (answer query code cached evaluated) is q = absurd q
+
+-- the code of an answer for which there was no memory: a cancelled query's is 503
+abbrev code_without_memory : Option ℕ → ℕ
+code_without_memory None = 507
+code_without_memory (Some place) = 503
+
+not_500 : (query : ℕ) (c : Option ℕ) → is_500 (answer query (code_without_memory c) 0 0) ≡ 0
+not_500 query None = refl
+not_500 query (Some place) = refl
+
+not_500_told : (query : ℕ) (c : Option ℕ) → ToldBeside (answer query (code_without_memory c) 0 0) nothing
+not_500_told query None = refl
+not_500_told query (Some place) = refl
+
+answers_open : (l : Limits) (o : Open) (s : Option Open) → s ≡ Some o → AnswersOpen l s (code_without_memory o.cancelled) 0 0
+answers_open l o s e = subst (λ (x : Option Open). AnswersOpen l x (code_without_memory o.cancelled) 0 0) (sym e) (record {
+  coded = coded o.cancelled;
+  stepped = inr (refl, unplanned_by o.cancelled);
+}) where
+  coded : (c : Option ℕ) → IsCode l o c (code_without_memory c)
+  coded None = inr (inr refl)
+  coded (Some place) = refl
+
+  unplanned_by : (c : Option ℕ) → CanBeUnplanned (code_without_memory c)
+  unplanned_by None = inr refl
+  unplanned_by (Some place) = inl refl
+
+legal_answer : (l : Limits) (names : List (List ℕ)) (journal : List Entry) (client n query : ℕ) (o : Open) → Legal l names journal
+    → length (machine_after started journal).logs ≤ length names
+    → open_at query (machine_after started journal).queries ≡ Some o
+    → Legal l names (journal ++ record { client = client; line = n; what = answer query (code_without_memory o.cancelled) 0 0 } ∷ [])
+legal_answer l names journal client n query o legal named there =
+    let m = machine_after started journal in
+    let room = legal_room l names journal legal in
+    let fewer = reserved_closed query m.queries o there in
+    subst (Each (IsLawful l names))
+    (sym (moments-snoc started journal (record { client = client; line = n; what = answer query (code_without_memory o.cancelled) 0 0 })))
+    (each_append (IsLawful l names) (moments journal) _ legal (
+      record {
+        allowed = answers_open l o (open_at query m.queries) there;
+        room = omega (arith, room, fewer);
+        named = named;
+      },
+      tt,
+    ))
 
 cancels_open : (o : Open) (s : Option Open) → s ≡ Some o → o.cancelled ≡ None → CancelsOpen s
 cancels_open o s e n = subst CancelsOpen (sym e) n
@@ -206,6 +288,15 @@ cancel_cases t tenant = elim (query_cases (what_of t.asked)) [
         | inl same ↦ inl (record { query = query; unanswered = unanswered; uncancelled = uncancelled }, same)
       ]
     ]
+  ]
+]
+
+answer_cases : (t : Turn) → (HasQuery (what_of t.asked) × (t.answered ≡ None)) ⊎ HasNoneToAnswer t
+answer_cases t = elim (query_cases (what_of t.asked)) [
+  | inr refused ↦ inr (inl refused)
+  | inl query ↦ elim (none_cases t.answered) [
+    | inr differs ↦ inr (inr differs)
+    | inl unanswered ↦ inl (query, unanswered)
   ]
 ]
 
@@ -275,6 +366,78 @@ module _ (known : Known) (client : ℕ) (journal : List Entry) (lines : List Num
         ends = ends;
       }
 
+  -- a line with an entry
+  module _ (l : Numbered) (what : What) (there : slice_get lines (length told) ≡ Some l) where
+    abbrev entry : Entry
+    entry = record { client = client; line = l.number; what = what }
+
+    abbrev with_own : List Moment
+    with_own = own ++ record { before = machine_after started journal; entry = entry } ∷ []
+
+    abbrev turned : Turn
+    turned = turn_behind with_own (ran_lines lines told) (record { line = l; told = nothing })
+
+    -- an ask that stood above still does
+    asked_still : (line : ℕ) (a : Moment) → moment_of line (entered_above l.number own) ≡ Some a → moment_of line (entered_above l.number with_own) ≡ Some a
+    asked_still line a asked =
+        let x : Moment = record { before = machine_after started journal; entry = entry } in
+        let above_it : entered_above l.number with_own ≡ entered_above l.number own =
+        filter-append _ own (x ∷ []) ∙ rw (le-ltb l.number l.number (omega arith)) (append-nil _) in
+        ap (moment_of line) above_it ∙ asked
+
+    enters : Legal known.limits known.names (journal ++ entry ∷ [])
+        → length (next (machine_after started journal) what).logs ≡ length (machine_after started journal).logs
+        → Fits known (asker_of turned.asking) turned.asked l.line what × ToldBeside what nothing → room_of l.line ≡ 0 → is_500 what ≡ 0 → stops_at l.line nothing ≡ None
+        → HasStepped known client journal lines told l
+    enters legal logs fits none_wanted not_500 goes =
+        let x : Moment = record { before = machine_after started journal; entry = entry } in
+        let low = own_low l there in
+        let below = ran_below lines told l.number (rise (length told) l there).1 in
+        let room = legal_room known.limits known.names journal begun.legal in
+        let made : moment_of l.number with_own ≡ Some x = last_with _ own x (apart own l.number low) (grind (arith, nat_tests)) in
+        let same_own = own-snoc client journal l.number what in
+        record {
+          last = journal ++ entry ∷ [];
+          entries = entry ∷ [];
+          reply = nothing;
+          grown = refl;
+          legal = legal;
+          logs = ap (λ (z : Machine). length z.logs) (machine-snoc started journal entry) ∙ logs;
+          mine = (refl, tt);
+          woven = subst (λ (xs : List Moment). Woven known xs lines (going told nothing at_end)) (sym same_own)
+              (woven_enters known own x lines told at_end l nothing begun.woven there (rise (length told) l there).0 refl low below (record {
+                matched = subst (IsMatched known turned) (sym made) fits;
+                roomy = subst (FoundRoom known.limits l.line) (sym made) (omega (arith, room, none_wanted));
+              }));
+          answers = answers-snoc journal entry not_500;
+          tries = refl;
+          text = reply_of known turned;
+          said = ap (λ (xs : List Moment). client_text known xs client lines (going told nothing at_end)) same_own
+              ∙ text_grows known with_own client lines told at_end l nothing there
+              ∙ ap (λ (bytes : List ℕ). bytes ++ reply_of known turned) (text_stays known own x client lines (record { told = told; why = at_end }) below);
+          ends = inl goes;
+        }
+
+  -- the ask of a line above is among the journal's moments, and no line above answers its query
+  all_above_line : (l : Numbered) → slice_get lines (length told) ≡ Some l → entered_above l.number own ≡ moments journal
+  all_above_line l there = all_above l.number own (own_low l there) ∙ all_own client started journal begun.alone
+
+  among_all : (l : Numbered) → slice_get lines (length told) ≡ Some l → (line : ℕ) (a : Moment) → moment_of line (entered_above l.number own) ≡ Some a
+      → IsAmong a (moments journal)
+  among_all l there line a asked = found_among _ (moments journal) a (sym (ap (moment_of line) (all_above_line l there)) ∙ asked)
+
+  unanswered_in : (l : Numbered) → slice_get lines (length told) ≡ Some l → (line : ℕ) (a : Moment) → moment_of line (entered_above l.number own) ≡ Some a
+      → answer_of (moment_of line (entered_above l.number own)) (entered_above l.number own) ≡ None → answer_of (Some a) (moments journal) ≡ None
+  unanswered_in l there line a asked none =
+      subst (λ (xs : List Moment). answer_of (Some a) xs ≡ None) (all_above_line l there)
+      (subst (λ (s : Option Moment). answer_of s (entered_above l.number own) ≡ None) asked none)
+
+  uncancelled_in : (l : Numbered) → slice_get lines (length told) ≡ Some l → (line : ℕ) (a : Moment) → moment_of line (entered_above l.number own) ≡ Some a
+      → cancel_of (moment_of line (entered_above l.number own)) (entered_above l.number own) ≡ None → cancel_of (Some a) (moments journal) ≡ None
+  uncancelled_in l there line a asked none =
+      subst (λ (xs : List Moment). cancel_of (Some a) xs ≡ None) (all_above_line l there)
+      (subst (λ (s : Option Moment). cancel_of s (entered_above l.number own) ≡ None) asked none)
+
   -- a line that cancels a query
   cancels : (n : ℕ) (id : List ℕ) (line : ℕ) (tenant : List ℕ)
       → slice_get lines (length told) ≡ Some (record { number = n; line = script.cancel id line tenant })
@@ -285,56 +448,36 @@ module _ (known : Known) (client : ℕ) (journal : List Entry) (lines : List Num
     l : Numbered
     l = record { number = n; line = script.cancel id line tenant }
 
-    all : entered_above n own ≡ moments journal
-    all = all_above n own (own_low l there) ∙ all_own client started journal begun.alone
+    by : (s : Option Moment) → moment_of line (entered_above n own) ≡ s → HasQuery (what_of s) → HasStepped known client journal lines told l
+    by None e query = absurd query
+    by (Some a) e query =
+        let found = open_query known.limits known.names journal a begun.legal (among_all l there line a e) query
+        (unanswered_in l there line a e is_open.unanswered) in
+        let free : found.0.cancelled ≡ None = found.2 ∙ ap (option_map place_of) (uncancelled_in l there line a e is_open.uncancelled) in
+        enters l (cancel (place_of a)) there
+        (legal_cancel known.limits known.names journal client n (place_of a) found.0 begun.legal begun.named found.1 free) refl
+        ((subst (λ (s : Option Moment). IsOfAsk s (place_of a)) (sym (asked_still l (cancel (place_of a)) there line a e)) refl, same), refl) refl refl refl
 
-    enters : (a : Moment) → moment_of line (entered_above n own) ≡ Some a → HasQuery (what_of (Some a)) → HasStepped known client journal lines told l
-    enters a asked query =
-        let m = machine_after started journal in
-        let e : Entry = record { client = client; line = n; what = cancel (place_of a) } in
-        let x : Moment = record { before = m; entry = e } in
-        let low = own_low l there in
-        let below = ran_below lines told n (rise (length told) l there).1 in
-        let among : IsAmong a (moments journal) = found_among _ (moments journal) a (sym (ap (moment_of line) all) ∙ asked) in
-        let uncancelled : cancel_of (Some a) (moments journal) ≡ None =
-        subst (λ (xs : List Moment). cancel_of (Some a) xs ≡ None) all
-        (subst (λ (s : Option Moment). cancel_of s (entered_above n own) ≡ None) asked is_open.uncancelled) in
-        let unanswered : answer_of (Some a) (moments journal) ≡ None =
-        subst (λ (xs : List Moment). answer_of (Some a) xs ≡ None) all
-        (subst (λ (s : Option Moment). answer_of s (entered_above n own) ≡ None) asked is_open.unanswered) in
-        let free = free_query known.limits known.names journal a begun.legal among query uncancelled unanswered in
-        let room = legal_room known.limits known.names journal begun.legal in
-        let above_it : entered_above n (own ++ x ∷ []) ≡ entered_above n own =
-        filter-append _ own (x ∷ []) ∙ rw (le-ltb n n (omega arith)) (append-nil _) in
-        let made : moment_of n (own ++ x ∷ []) ≡ Some x = last_with _ own x (apart own n low) (grind (arith, nat_tests)) in
-        let turned : Turn = turn_behind (own ++ x ∷ []) (ran_lines lines told) (record { line = l; told = nothing }) in
-        let named : moment_of line (entered_above n (own ++ x ∷ [])) ≡ Some a = ap (moment_of line) above_it ∙ asked in
-        let same_own = own-snoc client journal n (cancel (place_of a)) in
-        record {
-          last = journal ++ e ∷ [];
-          entries = e ∷ [];
-          reply = nothing;
-          grown = refl;
-          legal = legal_cancel known.limits known.names journal client n (place_of a) free.0 begun.legal begun.named free.1 free.2;
-          logs = ap (λ (z : Machine). length z.logs) (machine-snoc started journal e);
-          mine = (refl, tt);
-          woven = subst (λ (xs : List Moment). Woven known xs lines (going told nothing at_end)) (sym same_own)
-              (woven_enters known own x lines told at_end l nothing begun.woven there (rise (length told) l there).0 refl low below (record {
-                matched = subst (IsMatched known turned) (sym made) ((subst (λ (s : Option Moment). IsOfAsk s (place_of a)) (sym named) refl, same), refl);
-                roomy = subst (FoundRoom known.limits l.line) (sym made) (omega (arith, room));
-              }));
-          answers = answers-snoc journal e refl;
-          tries = refl;
-          text = reply_of known turned;
-          said = ap (λ (xs : List Moment). client_text known xs client lines (going told nothing at_end)) same_own
-              ∙ text_grows known (own ++ x ∷ []) client lines told at_end l nothing there
-              ∙ ap (λ (bytes : List ℕ). bytes ++ reply_of known turned) (text_stays known own x client lines (record { told = told; why = at_end }) below);
-          ends = inl refl;
-        }
+  -- a line that answers a query, for which there is no memory
+  answers : (n : ℕ) (id : List ℕ) (line : ℕ) → slice_get lines (length told) ≡ Some (record { number = n; line = script.answer id line })
+      → HasQuery (what_of (moment_of line (entered_above n own)))
+      → answer_of (moment_of line (entered_above n own)) (entered_above n own) ≡ None
+      → HasStepped known client journal lines told (record { number = n; line = script.answer id line })
+  answers n id line there query unanswered = by (moment_of line (entered_above n own)) refl query where
+    l : Numbered
+    l = record { number = n; line = script.answer id line }
 
     by : (s : Option Moment) → moment_of line (entered_above n own) ≡ s → HasQuery (what_of s) → HasStepped known client journal lines told l
     by None e query = absurd query
-    by (Some a) e query = enters a e query
+    by (Some a) e query =
+        let found = open_query known.limits known.names journal a begun.legal (among_all l there line a e) query
+        (unanswered_in l there line a e unanswered) in
+        let code = code_without_memory found.0.cancelled in
+        let what = answer (place_of a) code 0 0 in
+        enters l what there
+        (legal_answer known.limits known.names journal client n (place_of a) found.0 begun.legal begun.named found.1) refl
+        (subst (λ (s : Option Moment). IsOfAsk s (place_of a)) (sym (asked_still l what there line a e)) refl, not_500_told (place_of a) found.0.cancelled)
+        refl (not_500 (place_of a) found.0.cancelled) refl
 
   -- any line
   steps : (n : ℕ) (line : Line) → slice_get lines (length told) ≡ Some (record { number = n; line = line })
@@ -347,7 +490,10 @@ module _ (known : Known) (client : ℕ) (journal : List Entry) (lines : List Num
     | inl h ↦ cancels n id line tenant there h.0 h.1
     | inr shut ↦ stays _ nothing there shut refl (inl refl)
   ]
-  steps n (script.answer id line) there = stays _ no_memory there tt refl (inl refl)
+  steps n (script.answer id line) there = elim (answer_cases (turn (record { number = n; line = script.answer id line }) nothing)) [
+    | inl h ↦ answers n id line there h.0 h.1
+    | inr shut ↦ stays _ no_memory there shut refl (inl refl)
+  ]
   steps n (script.plan id line) there = elim (query_cases (what_of (moment_of line (entered_above n own)))) [
     | inl asked ↦ stays _ (of_plan planned_before) there asked refl (inl refl)
     | inr refused ↦ stays _ (of_plan plan_refused) there refused refl (inl refl)

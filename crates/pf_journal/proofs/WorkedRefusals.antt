@@ -10,7 +10,7 @@ use Rattle.pf_journal.proofs.Sessions.{ask_up, asked_up, failed_journal, ingeste
 use Rattle.pf_journal.specs.Entered.{Fits}
 use Rattle.pf_journal.specs.Legal.{Moment, machine_after}
 use Rattle.pf_journal.specs.Machine.{AreSteps, IsCode, Open, answer, no_tenant, reserved, started}
-use Rattle.pf_journal.specs.Rest.{Told, at_end, at_full, failed_five, journal_full, nothing, of_keep, of_plan, of_take, waiting}
+use Rattle.pf_journal.specs.Rest.{Told, at_end, at_full, failed_five, journal_full, no_memory, nothing, of_keep, of_plan, of_take, waiting}
 use Rattle.pf_journal.specs.Scripts as script
 use Rattle.pf_journal.specs.Steps.{busy, keep_refused, none_waits, plan_refused, took}
 use Rattle.pf_journal.specs.Turns.{Hand, Turn}
@@ -73,6 +73,11 @@ plan_of_a_query h = h
 
 keep_of_a_query : Unentered usual (turn [] None) (script.keep (codes "q") 2) (of_keep keep_refused) → ⊥
 keep_of_a_query h = h
+
+-- nor does its answer lack an entry for want of memory, whether it was cancelled or not
+no_entry_for_an_open_query : (cancelled : Option Moment) → Unentered usual (turn [] cancelled) answer_q no_memory → ⊥
+no_entry_for_an_open_query cancelled (inl h) = h
+no_entry_for_an_open_query cancelled (inr h) = h refl
 
 -- a query that is open is not cancelled by its own tenant
 cancel_of_an_open_query : Unentered usual (turn [] None) (script.cancel (codes "q") 2 (codes "acme")) nothing → ⊥

@@ -73,11 +73,15 @@ pub record Waits (t : Turn) (jobs : ℕ) : Type 0 where
   pub counted : jobs ≡ hands_of t.asked t.hands
   pub some : 0 < jobs
 
--- the ask was refused; or the answer waits
+-- the ask was refused, or its query was answered in a line above
+abbrev pub HasNoneToAnswer : Turn → Type 0
+HasNoneToAnswer t = HasNoQuery (what_of t.asked) ⊎ (t.answered ≡ None → ⊥)
+
+-- the ask was refused; or the answer waits. An open query's answer that lacks memory has its entry
 abbrev pub ToldOfAnswer : Turn → Told → Type 0
 ToldOfAnswer t nothing = HasNoQuery (what_of t.asked)
 ToldOfAnswer t (waiting jobs) = Waits t jobs
-ToldOfAnswer t no_memory = Unit {0}
+ToldOfAnswer t no_memory = HasNoneToAnswer t
 ToldOfAnswer t _ = ⊥
 
 -- a step line is refused exactly where the ask was
