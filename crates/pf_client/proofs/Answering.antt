@@ -314,6 +314,15 @@ module _ (known : Known) (above : List Ran) (hands : List Hand) (old new : Clien
         closes = λ x. refl;
       }
 
+  -- it opened no query
+  no_query : (x : Slot) → SlotRight known above (own_of old.client old.core) k (Some x) → ((q : ℕ) → x ≡ slot.Asked q → ⊥) → HasNoQuery (what_of (moment_of k (own_of old.client old.core)))
+  no_query (slot.Asked q) r n = absurd (n q refl)
+  no_query (slot.BadGrid e) r n = subst (λ (m : Option Moment). HasNoQuery (what_of m)) (sym r.none) tt
+  no_query (slot.BadQuery e) r n = subst (λ (m : Option Moment). HasNoQuery (what_of m)) (sym r.none) tt
+  no_query slot.Full r n = no_query_full (what_of (moment_of k (own_of old.client old.core))) r
+  no_query slot.TooManyTenants r n = no_query_stranger (what_of (moment_of k (own_of old.client old.core))) r
+  no_query slot.NoMemory r n = subst (λ (m : Option Moment). HasNoQuery (what_of m)) (sym r.none) tt
+
   -- the answer of an ask that was refused
   pub step_unanswered : (s : Slot) (b : Body) → new.core ≡ old.core → SlotRight known above (own_of old.client old.core) k (Some s)
       → ((q : ℕ) → s ≡ slot.Asked q → ⊥) → IsRefusedBody s b
@@ -326,14 +335,6 @@ module _ (known : Known) (above : List Ran) (hands : List Hand) (old new : Clien
         (no_query s right shut) (keeps_same old new (ap (λ v. v.items) held) same)
         (said ∙ ap (λ (bytes : List ℕ). old.out.items ++ bytes) (sym (reply_is s b right shut is)));
   } where
-    no_query : (x : Slot) → SlotRight known above (own_of old.client old.core) k (Some x) → ((q : ℕ) → x ≡ slot.Asked q → ⊥) → HasNoQuery (what_of (moment_of k (own_of old.client old.core)))
-    no_query (slot.Asked q) r n = absurd (n q refl)
-    no_query (slot.BadGrid e) r n = subst (λ (m : Option Moment). HasNoQuery (what_of m)) (sym r.none) tt
-    no_query (slot.BadQuery e) r n = subst (λ (m : Option Moment). HasNoQuery (what_of m)) (sym r.none) tt
-    no_query slot.Full r n = no_query_full (what_of (moment_of k (own_of old.client old.core))) r
-    no_query slot.TooManyTenants r n = no_query_stranger (what_of (moment_of k (own_of old.client old.core))) r
-    no_query slot.NoMemory r n = subst (λ (m : Option Moment). HasNoQuery (what_of m)) (sym r.none) tt
-
     reply_is : (x : Slot) (c : Body) → SlotRight known above (own_of old.client old.core) k (Some x) → ((q : ℕ) → x ≡ slot.Asked q → ⊥) → IsRefusedBody x c
         → refused_reply known number id (ran_at k above) (what_of (moment_of k (own_of old.client old.core))) ≡ unanswered number id (decimal (code_in c)) (text_of_body c)
     reply_is (slot.Asked q) c r n i = absurd (n q refl)
@@ -355,14 +356,15 @@ module _ (known : Known) (above : List Ran) (hands : List Hand) (old new : Clien
         ∙ sym (said_as number id c 507 (codes "507") memory_body i.0 code_507 i.1)
 
   -- and where there is no memory for it
-  pub step_unanswered_starved : new.core ≡ old.core
+  pub step_unanswered_starved : (s : Slot) → new.core ≡ old.core → SlotRight known above (own_of old.client old.core) k (Some s)
+      → ((q : ℕ) → s ≡ slot.Asked q → ⊥)
       → new.out.items ≡ old.out.items ++ unanswered number id (decimal 507) memory_body
       → IsUnanswered known (naming (own_of old.client old.core) above hands (script.answer id k)) old (record { number = number; line = script.answer id k }) new
-  step_unanswered_starved same said = record {
+  step_unanswered_starved s same right shut said = record {
     none = refl;
     step =
         step_stayed known (naming (own_of old.client old.core) above hands (script.answer id k)) old new (record { number = number; line = script.answer id k }) no_memory same refl refl
-        tt (keeps_same old new (ap (λ v. v.items) held) same)
+        (inl (no_query s right shut)) (keeps_same old new (ap (λ v. v.items) held) same)
         (said ∙ ap (λ (x : List ℕ). old.out.items ++ unanswered number id x memory_body) code_507);
   }
 

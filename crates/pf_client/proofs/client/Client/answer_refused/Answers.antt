@@ -14,5 +14,5 @@ pub returns-in-Err-clause-step : goal.returns-in-Err-clause-step
 returns-in-Err-clause-step c =
     on_ok_map _ _ c.push_unanswered-in-Err.result
     (λ said known above hands line right shut.
-    step_unanswered_starved known above hands c.args.self.now c.push_unanswered-in-Err.new.self (search rules) c.args.number c.args.id.now line (search rules) said)
+    step_unanswered_starved known above hands c.args.self.now c.push_unanswered-in-Err.new.self (search rules) c.args.number c.args.id.now line c.args.slot (search rules) right shut said)
     c.push_unanswered-in-Err.ensures.said
