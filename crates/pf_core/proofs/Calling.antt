@@ -13,7 +13,7 @@ use Rattle.pf_block.specs.Snaps.{SnapData}
 use Rattle.pf_extent.specs.Done.{steps_in}
 use Rattle.pf_extent.specs.declared.done.DoneCells.{DoneCells}
 use Rattle.pf_journal.specs.Legal.{machine_after}
-use Rattle.pf_journal.specs.Machine.{Entry, Open, open_at, started}
+use Rattle.pf_journal.specs.Machine.{CanBeCached, Entry, Open, open_at, started}
 use Rattle.pf_journal.specs.Weave.{failed_answers}
 use Rattle.pf_model.specs.Legs.{LegsData}
 use Rattle.pf_model.specs.Lists.{Each}
@@ -414,6 +414,7 @@ work_filled l o w job part h inside fits new = record {
   runs = h.runs;
   divided = h.divided;
   few = h.few;
+  reused = h.reused;
   once = h.once;
   fits = λ i p g. elim (filled_at w.slots job i part p inside g) [
     | inl both ↦ subst (λ (x : Part). FitsNodes w.legs.nodes x) both.1 fits
@@ -671,14 +672,15 @@ lacked_some old new query hands told h k f t s same o e =
 -- ---- a query is planned
 
 work_planned : (l : Limits) (o : Open) (legs : ResolvedLegs) (snap : SnapData) (cached : List DoneCells) (rs : List GridData) (offered : Bool) → IsLegsOf l o legs snap
-    → AreDivided l o cached rs → steps_in cached ≤ length (points o.asked.query.grid) → (o.asked.instant ≡ true → offered ≡ true)
+    → AreDivided l o cached rs → steps_in cached ≤ length (points o.asked.query.grid) → CanBeCached l o (steps_in cached) → (o.asked.instant ≡ true → offered ≡ true)
     → IsWorkOf l o (planned_work legs rs cached offered)
-work_planned l o legs snap cached rs offered h divided few once = record {
+work_planned l o legs snap cached rs offered h divided few reused once = record {
   legs_are = h.legs_are;
   evaluable = record { evaluated = h.bound.resolved.evaluated; low = h.bound.resolved.low; patterns = h.bound.resolved.patterns };
   runs = record { others = cached; woven = divided.woven; each = divided.each; alone = λ e. (divided.alone e).1 };
   divided = λ _. divided;
   few = few;
+  reused = reused;
   once = once;
   fits = λ i part g. absurd (empty_unfilled (length rs * legs_in legs) i part g);
   values = λ i run part there g. absurd (empty_unfilled (length rs * legs_in legs) i part g);
@@ -694,9 +696,9 @@ planned_progress old new query count legs rs cached offered snap k p =
 pub planned_state : (old new : State) (query count : ℕ) (legs : ResolvedLegs) (cached : List DoneCells) (rs : List GridData) (offered : Bool) (snap : SnapData) (o : Open)
     → IsState old → KeepsHistory old new
     → KeepsFailures old new → IsTable new.table → open_at query (machine_in old).queries ≡ Some o → IsLegsOf old.limits o legs snap
-    → AreDivided old.limits o cached rs → steps_in cached ≤ length (points o.asked.query.grid) → (o.asked.instant ≡ true → offered ≡ true)
+    → AreDivided old.limits o cached rs → steps_in cached ≤ length (points o.asked.query.grid) → CanBeCached old.limits o (steps_in cached) → (o.asked.instant ≡ true → offered ≡ true)
     → table.IsPlannedOver old.table query legs rs cached offered snap count new.table → IsState new
-planned_state old new query count legs cached rs offered snap o h k f t there is divided few once p =
+planned_state old new query count legs cached rs offered snap o h k f t there is divided few reused once p =
     let l = old.limits in
     let a = ask_of old query _ h p.was in
     let both : Some a.opened ≡ Some o = sym a.there ∙ there in
@@ -705,7 +707,7 @@ planned_state old new query count legs cached rs offered snap o h k f t there is
     let J = map entry_of old.journal.items in
     state_beside old new h k f.results t (counts_as old new f h.counts)
     (outstanding_set l query (machine_in old).queries o _ (entry_in old.table) (entry_in new.table) h.jobs.outstanding there
-    (record { tenant = entry.tenant; stop = entry.stop; stopped_when = tt; work = work_planned l o legs snap cached rs offered is divided few once }) p.entries)
+    (record { tenant = entry.tenant; stop = entry.stop; stopped_when = tt; work = work_planned l o legs snap cached rs offered is divided few reused once }) p.entries)
     (jobs_with J l p.tenant (waiting_of old.table) (waiting_of new.table) _ h.jobs.waiting_for p.queues.waiting
     (each_front _ (waiting_of old.table p.tenant) p.jobs (h.jobs.waiting_for p.tenant)
     (jobs_planned J l p.tenant query (as_opened o) legs rs snap 0 p.jobs (asked_open J query o there) (sym entry.tenant)

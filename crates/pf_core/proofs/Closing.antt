@@ -5,7 +5,7 @@ use Rattle.std.specs.Prelude.{IfSome}
 use Rattle.pf_base.specs.Grids.{points}
 use Rattle.pf_base.specs.declared.plain.Limits.{Limits}
 use Rattle.pf_journal.specs.Asking.{Asked}
-use Rattle.pf_journal.specs.Machine.{AnswersOpen, AreSteps, IsCode, Open, open_at}
+use Rattle.pf_journal.specs.Machine.{AnswersOpen, AreSteps, CanBeCached, IsCode, Open, open_at}
 use Rattle.pf_query.specs.Entries.{cached_steps_of, is_given_out, is_planned}
 use Rattle.pf_query.specs.Tables.{EntryData, entry_in, tried_of}
 use Rattle.pf_query.specs.Works.{WorkData}
@@ -79,6 +79,20 @@ few_cached s query o h there =
     subst (λ (x : Option EntryData). (far_of query x (tried_of s.table query)).cached ≤ length (points o.asked.query.grid)) (sym e.there)
     (few_by s.limits query o e.kept (tried_of s.table query) e.is)
 
+-- and no more than may be
+reused_by : (l : Limits) (query : ℕ) (o : Open) (d : EntryData) (n : ℕ) → IsEntryOf l o d → CanBeCached l o (far_of query (Some d) n).cached
+reused_by l query o d n h = by d.work h.work where
+  by : (w : Option WorkData) → IfSome w (IsWorkOf l o) → CanBeCached l o (cached_steps_of w)
+  by None k = record { at_once = λ _. refl; frozen = omega arith }
+  by (Some w) k = k.reused
+
+reused_so : (s : State) (query : ℕ) (o : Open) → IsState s → open_at query (machine_in s).queries ≡ Some o
+    → CanBeCached s.limits o (far_of query (entry_in s.table query) (tried_of s.table query)).cached
+reused_so s query o h there =
+    let e = entry_there s.limits (open_at query (machine_in s).queries) (entry_in s.table query) o (h.jobs.outstanding query) there in
+    subst (λ (x : Option EntryData). CanBeCached s.limits o (far_of query x (tried_of s.table query)).cached) (sym e.there)
+    (reused_by s.limits query o e.kept (tried_of s.table query) e.is)
+
 -- how far an open query is, by the table
 pub far_kept : (s : State) (query : ℕ) (o : Open) (far : QueryProgress) → open_at query (machine_in s).queries ≡ Some o
     → progress_at query (core_of s).progress ≡ Some far → far ≡ far_of query (entry_in s.table query) (tried_of s.table query)
@@ -119,8 +133,10 @@ answers_right s query code evaluated o h may is e =
     steps_by s.limits m.opened m.far.given m.far.planned may.stop code (length (points m.opened.asked.query.grid)) m.far.cached evaluated may.coded goes
     (subst (λ (x : QueryProgress). x.given ≡ true → x.planned ≡ true) (sym kept) (given_planned query (entry_in s.table query) (tried_of s.table query)))
     (subst (λ (x : QueryProgress). x.planned ≡ false → x.cached ≡ 0) (sym kept) (unplanned_none query (entry_in s.table query) (tried_of s.table query)))
-    (subst (λ (x : QueryProgress). x.cached ≤ length (points m.opened.asked.query.grid)) (sym kept) (few_cached s query m.opened h m.is_open)) all in (
+    (subst (λ (x : QueryProgress). x.cached ≤ length (points m.opened.asked.query.grid)) (sym kept) (few_cached s query m.opened h m.is_open)) all in
+    let reused : CanBeCached s.limits m.opened m.far.cached =
+    subst (λ (x : QueryProgress). CanBeCached s.limits m.opened x.cached) (sym kept) (reused_so s query m.opened h m.is_open) in (
       (cached ∙ sym (ap cached_by m.is_far), all ∙ sym (λ i. evaluated_by (m.is_open i) (m.is_far i))),
       subst (λ n. AnswersOpen s.limits (open_at query (machine_in s).queries) code n evaluated) (sym cached)
-          (subst (λ (x : Option Open). AnswersOpen s.limits x code m.far.cached evaluated) (sym m.is_open) (record { coded = coded; stepped = stepped })),
+          (subst (λ (x : Option Open). AnswersOpen s.limits x code m.far.cached evaluated) (sym m.is_open) (record { coded = coded; stepped = stepped; reused = reused })),
     )

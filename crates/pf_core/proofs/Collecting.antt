@@ -79,6 +79,7 @@ work_handed l o w h = record {
   runs = h.runs;
   divided = λ g. cc;
   few = h.few;
+  reused = h.reused;
   once = h.once;
   fits = λ i part g. absurd (handed_unfilled w.slots i part g);
   values = λ i run part there g. absurd (handed_unfilled w.slots i part g);

@@ -1,31 +1,30 @@
 -- A query's steps are divided among the cells that were cached and the runs of the others.
-use Rattle.std.proofs.Common.{◌≡◌, ℕ, suc, ◌+◌, ◌-◌, ◌/◌, ◌≤◌, inl, inr, Bool, true, false, cond, nat_eq, Option, Some, None, List, [], ◌∷◌, ◌++◌, length, refl, sym, ap, ◌∙◌, arith, subst}
+use Rattle.std.proofs.Common.{◌≡◌, ℕ, ◌+◌, ◌-◌, ◌/◌, ◌≤◌, inl, inr, Bool, true, false, cond, nat_eq, Option, Some, None, List, [], ◌∷◌, ◌++◌, filter, length, refl, sym, ap, ◌∙◌, arith, subst}
 use Rattle.std.specs.Arc.{arc_value}
 use Rattle.std.specs.Option.{is_some}
 use Rattle.std.specs.Prelude.{Contains, ◌==◌, not, pos}
 use Rattle.std.proofs.lemmas.Bool.Decides.{nat_tests}
-use Rattle.std.proofs.lemmas.List.{length-append}
 use Rattle.std.proofs.lemmas.List.Elements.{Contains-append_left, Contains-append_right}
 use Rattle.pf_base.proofs.GridTimes.{length-times_from, times_from-append}
 use Rattle.pf_base.specs.GridLists.{GridData, IsGrid, times_from}
 use Rattle.pf_base.specs.Grids.{points}
 use Rattle.pf_base.specs.declared.plain.Limits.{Limits}
-use Rattle.pf_columns.specs.Columns.{timed}
 use Rattle.pf_extent.specs.Done.{AreWhole, steps_in}
 use Rattle.pf_extent.specs.declared.done.DoneCells.{DoneCells}
 use Rattle.pf_extent.specs.declared.extent.Asker.{Asker}
 use Rattle.pf_extent.specs.declared.key.Key.{Key}
 use Rattle.pf_journal.specs.Asking.{Asked}
-use Rattle.pf_journal.specs.Machine.{Open, log_of}
+use Rattle.pf_journal.specs.Machine.{Open, frozen_steps, log_of}
 use Rattle.pf_model.specs.Canonical.{canonical}
 use Rattle.pf_model.specs.Direct.{Step}
 use Rattle.pf_model.specs.Evaluation.{eval}
 use Rattle.pf_model.specs.Lists.{Each}
 use Rattle.pf_model.specs.Log.{Change, Rules, rules_of, store_of}
 use Rattle.pf_model.specs.Trees.{Tree}
-use Rattle.pf_model.specs.declared.cell.Element.{Element}
 use Rattle.pf_model.specs.declared.cell.StepCell.TheVariants.{Good}
 use Rattle.pf_print.specs.OwnTexts.{HasText}
+use Rattle.pf_results.specs.Keeping.{is_fixed}
+use Rattle.pf_results.proofs.Pieced.{steps_many}
 use Rattle.pf_results.specs.Pieces.{AreOfOneQuery, key_at, missing_over, served_over, touched_over}
 use Rattle.pf_results.specs.Entries.{touched}
 use Rattle.pf_results.specs.Runs.{lengths}
@@ -112,22 +111,6 @@ module _ (grid : GridData) where
   few_runs [] h = omega arith
   few_runs (r ∷ rs) h = let rest = few_runs rs h.1 in let some = h.0.lawful.some in omega (arith, rest, some)
 
--- ---- how many steps cells are of
-
-timed_many : (ts : List ℕ) (cells : List (List Element)) → length cells ≡ length ts → length (timed ts cells) ≡ length ts
-timed_many [] cells h = refl
-timed_many (t ∷ ts) [] h = absurd (omega (arith, h))
-timed_many (t ∷ ts) (c ∷ cells) h = ap suc (timed_many ts cells (omega (arith, h)))
-
-pub steps_many : (ds : List DoneCells) → AreWhole ds → length (steps_of ds) ≡ steps_in ds
-steps_many [] h = refl
-steps_many (d ∷ ds) h =
-    let own = length-times_from d.run.start d.run.step d.run.len in
-    let here = timed_many (points d.run) d.cells (h.0 ∙ sym own) in
-    let rest = steps_many ds h.1 in
-    let all = length-append (timed (points d.run) d.cells) (steps_of ds) in
-    omega (arith, own, here, rest, all)
-
 -- ---- keys
 
 touched_alike : (a b : Key) (ps : List Piece) (kept : KeptData) → AreOfOneQuery a b → touched_over b ps kept ≡ touched_over a ps kept
@@ -177,8 +160,10 @@ pub divides_range : (kept : KeptData) (interval : ℕ) (q : Query) (a : Asked) (
     → steps_in found.cached.items + lengths found.runs.items ≡ grid.len
     → ((rules : Rules) (logs : Logs) → AreTrue rules interval logs kept.entries → IsAsker rules (logs first.tenant) asker → HasText tree → canonical tree ≡ first.text
     → Each (IsValue rules (logs first.tenant) asker tree) (steps_of found.cached.items))
+    → ((rules : Rules) (logs : Logs) → AreTrue rules interval logs kept.entries → IsAsker rules (logs first.tenant) asker → HasText tree → canonical tree ≡ first.text
+    → steps_in found.cached.items ≤ length (filter (is_fixed tree asker) (points grid)))
     → Divides kept interval q (record { found = found; key = Some key; grid = grid })
-divides_range kept interval q a found first key grid asker tree ea eg et ef ek g instant ranged written text all one woven whole cached runs count values = record {
+divides_range kept interval q a found first key grid asker tree ea eg et ef ek g instant ranged written text all one woven whole cached runs count values few = record {
   grid = grid_is;
   lawful = g;
   instant_is = subst (λ (x : Asked). x.instant ≡ nat_eq x.query.grid.step 0) ea instant;
@@ -199,6 +184,14 @@ divides_range kept interval q a found first key grid asker tree ea eg et ef ek g
           (subst (λ (k : Key). IsAsker rules (logs k.tenant) asker → HasText tree → canonical tree ≡ k.text
           → Each (IsValue rules (logs k.tenant) asker tree) (steps_of found.cached.items)) ef (values rules logs stands)) asks))
           (subst (λ (x : Asked). HasText x.query.tree) ea written) (subst (λ (x : Asked). canonical x.query.tree ≡ x.text) ea text);
+      few = λ rules logs stands asks.
+          (subst (λ (x : GridData). steps_in found.cached.items ≤ length (filter (is_fixed (arc_value q.asked).query.tree (asker_by q.pin)) (points x))) grid_is
+          ((subst (λ (t : Tree). HasText t → canonical t ≡ (key_by q).text → steps_in found.cached.items ≤ length (filter (is_fixed t (asker_by q.pin)) (points grid))) tree_is
+          (subst (λ (x : Asker). IsAsker rules (logs q.tenant) x → HasText tree → canonical tree ≡ (key_by q).text
+          → steps_in found.cached.items ≤ length (filter (is_fixed tree x) (points grid))) ek
+          (subst (λ (k : Key). IsAsker rules (logs k.tenant) asker → HasText tree → canonical tree ≡ k.text
+          → steps_in found.cached.items ≤ length (filter (is_fixed tree asker) (points grid))) ef (few rules logs stands)) asks))
+          (subst (λ (x : Asked). HasText x.query.tree) ea written) (subst (λ (x : Asked). canonical x.query.tree ≡ x.text) ea text)));
     },
   );
 } where
@@ -243,6 +236,7 @@ module _ (l : Limits) (kept : KeptData) (o : Open) where
         cached = ap steps_in none ∙ sym (ap (λ (b : Bool). length (cond b [] (served_over kept (key_in o 0) o.asked.query.tree (asker_of (rules_of l) o) (pieces_in l o)))) once);
         runs = one ∙ sym (ap (λ (b : Bool). cond b (grid_in ∷ []) (missing_over kept (key_in o 0) o.asked.query.tree (asker_of (rules_of l) o) (pieces_in l o))) once);
         few_cached = let zero_steps = ap steps_in none in omega (arith, zero_steps);
+        reused = record { at_once = λ _. ap steps_in none; frozen = let zero_steps = ap steps_in none in omega (arith, zero_steps) };
         few_runs = let runs = ap (λ (rs : List GridData). length rs) one in omega (arith, runs);
         most = let most = g.most in omega (arith, many, most);
         instant_is = sym once;
@@ -253,9 +247,9 @@ module _ (l : Limits) (kept : KeptData) (o : Open) where
       → steps_of found.cached.items ≡ served_over kept (key_in o 0) o.asked.query.tree (asker_of (rules_of l) o) (pieces_in l o)
       → found.runs.items ≡ missing_over kept (key_in o 0) o.asked.query.tree (asker_of (rules_of l) o) (pieces_in l o)
       → steps_in found.cached.items + lengths found.runs.items ≡ grid_in.len
-      → Each (IsValueAt l o) (steps_of found.cached.items)
+      → Each (IsValueAt l o) (steps_of found.cached.items) → steps_in found.cached.items ≤ frozen_steps l o
       → IsDivisionFor l kept o found false
-  of_range found ranged g all woven whole cached runs count values =
+  of_range found ranged g all woven whole cached runs count values frozen =
       let each = woven_runs grid_in (pieces_in l o) found.cached.items found.runs.items woven
       (stepped_pieces l.interval grid_in.step (points grid_in)) (λ t c. subst (λ (ts : List ℕ). Contains ts t) all c) in
       let few = few_runs grid_in found.runs.items each in
@@ -267,6 +261,7 @@ module _ (l : Limits) (kept : KeptData) (o : Open) where
             ∙ sym (ap (λ (b : Bool). length (cond b [] (served_over kept (key_in o 0) o.asked.query.tree (asker_of (rules_of l) o) (pieces_in l o)))) ranged);
         runs = runs ∙ sym (ap (λ (b : Bool). cond b (grid_in ∷ []) (missing_over kept (key_in o 0) o.asked.query.tree (asker_of (rules_of l) o) (pieces_in l o))) ranged);
         few_cached = omega (arith, count, many);
+        reused = record { at_once = λ once. let no : true ≡ false = sym once ∙ ranged in cc; frozen = frozen };
         few_runs = omega (arith, count, few, most);
         most = omega (arith, many, most);
         instant_is = sym ranged;
@@ -308,6 +303,9 @@ division l kept logs q o d h front true_so v = by d.key v.parts where
       (subst (λ (a : Asked). Each (IsValue (rules_of l) (log_of logs o.tenant) (asker_by q.pin) a.query.tree) (steps_of d.found.cached.items)) back
       (subst (λ u. Each (IsValue (rules_of l) (log_of logs u) (asker_by q.pin) (arc_value q.asked).query.tree) (steps_of d.found.cached.items)) (sym h.tenant)
       (p.1.values (rules_of l) (log_of logs) true_so asks)))))
+      (subst (λ (a : Asker). steps_in d.found.cached.items ≤ length (filter (is_fixed o.asked.query.tree a) (points o.asked.query.grid))) (asker_same (rules_of l) q o h)
+      (subst (λ (a : Asked). steps_in d.found.cached.items ≤ length (filter (is_fixed a.query.tree (asker_by q.pin)) (points a.query.grid))) back
+      (p.1.few (rules_of l) (log_of logs) true_so asks)))
 
 -- ---- what is kept once the keys are used
 

@@ -179,6 +179,7 @@ work_offered l o (Some w) h = record {
   runs = h.runs;
   divided = h.divided;
   few = h.few;
+  reused = h.reused;
   once = λ _. refl;
   fits = h.fits;
   values = h.values;

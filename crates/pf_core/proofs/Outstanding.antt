@@ -131,6 +131,7 @@ work_as l place o (Some d) h = record {
   runs = record { others = h.runs.others; woven = h.runs.woven; each = h.runs.each; alone = h.runs.alone };
   divided = λ g. record { woven = (h.divided g).woven; each = (h.divided g).each; values = (h.divided g).values; alone = (h.divided g).alone };
   few = h.few;
+  reused = record { at_once = h.reused.at_once; frozen = h.reused.frozen };
   once = h.once;
   fits = h.fits;
   values = h.values;

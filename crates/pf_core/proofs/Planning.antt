@@ -93,7 +93,7 @@ pub plans_state : (old new : State) (query : ℕ) (legs : ResolvedLegs) (snap : 
 plans_state old new query legs snap found instant offered (Ok p) h k f t binds divided once ok err =
     let b = bound old.limits (open_at query (machine_in old).queries) legs snap binds in
     let d = divided b.opened b.there in
-    planned_state old new query p.jobs legs found.cached.items found.runs.items offered snap b.opened h k f t b.there b.is d.divided d.few_cached
+    planned_state old new query p.jobs legs found.cached.items found.runs.items offered snap b.opened h k f t b.there b.is d.divided d.few_cached d.reused
     (λ alone. once ∙ ap (λ (b : Bool). b || is_empty found.runs.items) (d.instant_is ∙ alone)) ok
 plans_state old new query legs snap found instant offered (Err e) h k f t binds divided once ok err = state_same old new h k f t err.1
 

@@ -55,8 +55,8 @@ progress_by : (l : Limits) (o : Open) (e : Option EntryData) (n : ℕ) → IsOut
 progress_by l o None n h = absurd h
 progress_by l o (Some d) n h = by d.work h.work h.stopped_when where
   by : (w : Option WorkData) → IfSome w (IsWorkOf l o) → GoesWithPlan d.stop (is_planned w) → IsProgressOf l o (far_of o.place (Some (record d { work = w })) n)
-  by None k g = record { place = refl; stop = h.stop; stopped_when = g; few = omega arith; none = λ p. refl; runs = λ p. cc; alone = λ p once. cc }
-  by (Some w) k g = record { place = refl; stop = h.stop; stopped_when = g; few = k.few; none = λ p. cc; runs = λ p. k.runs; alone = λ p once. k.once once }
+  by None k g = record { place = refl; stop = h.stop; stopped_when = g; few = omega arith; reused = record { at_once = λ _. refl; frozen = omega arith }; none = λ p. refl; runs = λ p. cc; alone = λ p once. cc }
+  by (Some w) k g = record { place = refl; stop = h.stop; stopped_when = g; few = k.few; reused = k.reused; none = λ p. cc; runs = λ p. k.runs; alone = λ p once. k.once once }
 
 goes_by : (l : Limits) (qs : List Open) (entries : ℕ → Option EntryData) (tries : ℕ → ℕ) → Each (λ o. IsOutstanding l (Some o) (entries o.place)) qs
     → GoesWith l qs (progress_of qs entries tries)

@@ -1,6 +1,6 @@
 -- How a plan divides the steps of a query that is kept, and what a keep asks of it: this project's own.
 use Rattle.std.specs.Arc.{arc_value}
-use Rattle.std.specs.Prelude.{◌≡◌, ◌≤◌, ℕ, ◌+◌, ◌*◌, Bool, true, false, cond, Option, Some, None, List, [], ◌∷◌, ◌++◌, length, nat_eq}
+use Rattle.std.specs.Prelude.{◌≡◌, ◌≤◌, ℕ, ◌+◌, ◌*◌, Bool, true, false, cond, Option, Some, None, List, [], ◌∷◌, ◌++◌, filter, length, nat_eq}
 use Rattle.pf_base.specs.GridLists.{GridData, IsGrid}
 use Rattle.pf_base.specs.Grids.{points}
 use Rattle.pf_base.specs.Limits.{most_steps}
@@ -9,10 +9,11 @@ use Rattle.pf_extent.specs.Done.{AreWhole, steps_in}
 use Rattle.pf_extent.specs.declared.extent.Asker.{Asker}
 use Rattle.pf_extent.specs.declared.key.Key.{Key}
 use Rattle.pf_extent.specs.declared.done.DoneCells.{DoneCells}
-use Rattle.pf_journal.specs.Machine.{Open, open_at}
+use Rattle.pf_journal.specs.Machine.{CanBeCached, Open, open_at}
 use Rattle.pf_model.specs.Lists.{Each}
 use Rattle.pf_model.specs.Log.{Rules, rules_of}
 use Rattle.pf_query.specs.declared.answers.Planned.{Planned}
+use Rattle.pf_results.specs.Keeping.{is_fixed}
 use Rattle.pf_results.specs.Pieces.{AreOfOneQuery, missing_over, served_over, touched_over}
 use Rattle.pf_results.specs.Runs.{lengths}
 use Rattle.pf_results.specs.Serving.{steps_of}
@@ -58,6 +59,8 @@ pub record IsFoundBy (kept : KeptData) (interval : ℕ) (q : Query) (found : Fou
   pub all : steps_in found.cached.items + lengths found.runs.items ≡ (arc_value q.asked).query.grid.len
   pub values : (rules : Rules) (logs : Logs) → AreTrue rules interval logs kept.entries → IsAsker rules (logs q.tenant) (asker_by q.pin)
       → Each (IsValue rules (logs q.tenant) (asker_by q.pin) (arc_value q.asked).query.tree) (steps_of found.cached.items)
+  pub few : (rules : Rules) (logs : Logs) → AreTrue rules interval logs kept.entries → IsAsker rules (logs q.tenant) (asker_by q.pin)
+      → steps_in found.cached.items ≤ length (filter (is_fixed (arc_value q.asked).query.tree (asker_by q.pin)) (points (arc_value q.asked).query.grid))
 
 abbrev pub IsDividedBy : KeptData → (interval : ℕ) → Query → Found → Option Key → Type 0
 IsDividedBy kept interval q found None = ((arc_value q.asked).instant ≡ true) × (found.cached.items ≡ []) × (found.runs.items ≡ (arc_value q.asked).query.grid ∷ [])
@@ -78,6 +81,7 @@ pub record IsDivisionFor (l : Limits) (kept : KeptData) (o : Open) (found : Foun
   pub cached : steps_in found.cached.items ≡ length (cached_steps l kept o)
   pub runs : found.runs.items ≡ wanted_runs l kept o
   pub few_cached : steps_in found.cached.items ≤ length (points o.asked.query.grid)
+  pub reused : CanBeCached l o (steps_in found.cached.items)
   pub few_runs : length found.runs.items ≤ most_steps + 1
   pub most : length (points o.asked.query.grid) ≤ most_steps + 1
   pub instant_is : instant ≡ o.asked.instant

@@ -4,7 +4,7 @@ use Rattle.std.specs.List.{sum_by}
 use Rattle.pf_base.specs.GridLists.{GridData}
 use Rattle.pf_base.specs.Grids.{points}
 use Rattle.pf_base.specs.declared.plain.Limits.{Limits}
-use Rattle.pf_journal.specs.Machine.{Open}
+use Rattle.pf_journal.specs.Machine.{CanBeCached, Open}
 use Rattle.pf_query.specs.Entries.{one_more, stop_after}
 use Rattle.pf_query.specs.declared.stop.Stop.{Stop}
 use Rattle.pf_query.specs.declared.stop.Stop.TheVariants.{Cancelled, Exhausted, Starved}
@@ -75,13 +75,14 @@ GoesWithPlan (Some Starved) planned = Unit {0}
 GoesWithPlan None planned = Unit {0}
 
 -- it is that of an open query: it is stopped by a cancel exactly where that was cancelled, and by a job only once it is planned; at
--- most all steps were cached, none before its plan, the runs of its jobs are of its other steps, and an instant query is offered by
--- its plan
+-- most all steps were cached, and no more than may be, none before its plan, the runs of its jobs are of its other steps, and an
+-- instant query is offered by its plan
 pub record IsProgressOf (l : Limits) (o : Open) (p : QueryProgress) : Type 0 where
   pub place : p.query ≡ o.place
   pub stop : cancel_in p.stop ≡ o.cancelled
   pub stopped_when : GoesWithPlan p.stop p.planned
   pub few : p.cached ≤ length (points o.asked.query.grid)
+  pub reused : CanBeCached l o p.cached
   pub none : p.planned ≡ false → p.cached ≡ 0
   pub runs : p.planned ≡ true → AreRunsOf l o p.runs
   pub alone : p.planned ≡ true → o.asked.instant ≡ true → p.offered ≡ true

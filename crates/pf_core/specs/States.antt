@@ -11,7 +11,7 @@ use Rattle.pf_journal.specs.Asking.{Asked}
 use Rattle.pf_journal.specs.Legal.{AreNames, Legal, machine_after}
 use Rattle.pf_journal.specs.Machine as machine
 use Rattle.pf_journal.specs.Weave.{failed_answers}
-use Rattle.pf_journal.specs.Machine.{Machine, Open, What, append, ask, cancel, delete, log_of, open_at, open_of, reserved, started}
+use Rattle.pf_journal.specs.Machine.{CanBeCached, Machine, Open, What, append, ask, cancel, delete, log_of, open_at, open_of, reserved, started}
 use Rattle.pf_model.specs.Lists.{Each}
 use Rattle.pf_model.specs.Log.{Change, Rules, log_with, log_without, rules_of, store_of, verdicts_of}
 use Rattle.pf_model.specs.declared.expr.Matcher.{Matcher}
@@ -157,14 +157,15 @@ pub record HasHistory (s : State) : Type 0 where
 -- ---- jobs
 
 -- what is kept of a planned query: its legs are those of what was asked; its runs are its steps but those of some cells, which are
--- the cached ones while the parts aren't handed out; these are at most all steps; an instant query is offered; and each part that is
--- stored is of the legs' kind, and the value of its leg over its run
+-- the cached ones while the parts aren't handed out; these are at most all steps, and no more than may be cached; an instant query is
+-- offered; and each part that is stored is of the legs' kind, and the value of its leg over its run
 pub record IsWorkOf (l : Limits) (o : Open) (w : WorkData) : Type 0 where
   pub legs_are : legs_data w.legs ≡ legs_asked l.shards o
   pub evaluable : AreEvaluable w.legs.resolved
   pub runs : AreRunsOf l o w.runs
   pub divided : w.given ≡ false → AreDivided l o w.cached w.runs
   pub few : w.cached_steps ≤ length (points o.asked.query.grid)
+  pub reused : CanBeCached l o w.cached_steps
   pub once : o.asked.instant ≡ true → w.offered ≡ true
   pub fits : (i : ℕ) (part : Part) → slice_get w.slots i ≡ Some (Filled part) → FitsNodes w.legs.nodes part
   pub values : (i : ℕ) (run : GridData) (part : Part) → slice_get w.runs (i / legs_in w.legs) ≡ Some run → slice_get w.slots i ≡ Some (Filled part)

@@ -199,6 +199,7 @@ answers_open : (l : Limits) (o : Open) (s : Option Open) → s ≡ Some o → An
 answers_open l o s e = subst (λ (x : Option Open). AnswersOpen l x (code_without_memory o.cancelled) 0 0) (sym e) (record {
   coded = coded o.cancelled;
   stepped = inr (refl, unplanned_by o.cancelled);
+  reused = record { at_once = λ h. refl; frozen = omega arith };
 }) where
   coded : (c : Option ℕ) → IsCode l o c (code_without_memory c)
   coded None = inr (inr refl)

@@ -1,14 +1,15 @@
 -- A step that is frozen at a log's floor keeps its value while the generation is the same: no sample that is taken later is below
 -- the floor, and none is deleted.
-use Rattle.std.proofs.Common.{◌≡◌, ℕ, ℤ, ◌+◌, ◌-◌, ◌≤◌, Bool, true, false, cond, ◌||◌, List, [], ◌∷◌, ◌++◌, Option, Some, None, refl, sym, ap, ◌∙◌, filter, take, drop, append-nil, arith}
+use Rattle.std.proofs.Common.{◌≡◌, ℕ, ℤ, ◌+◌, ◌-◌, ◌≤◌, Bool, true, false, cond, ◌||◌, List, [], ◌∷◌, ◌++◌, Option, Some, None, refl, sym, ap, ◌∙◌, subst, filter, take, drop, append-nil, arith}
 use Rattle.std.proofs.Math.Seq.{take-add}
 use Rattle.std.proofs.lemmas.Bool.{eqb-true, leb-true}
 use Rattle.std.proofs.lemmas.Bool.Decides.{nat_tests}
+use Rattle.std.proofs.lemmas.Int.{ints}
 use Rattle.std.proofs.lemmas.List.Elements.{filter-append}
 use Rattle.std.specs.Cmp.{first_so, second_so}
 use Rattle.std.specs.Prelude.{max, nat_eq, nat_le, nat_lt, unwrap_or}
 use Rattle.pf_base.specs.declared.plain.Row.{Row}
-use Rattle.pf_journal.specs.Frozen.{FrozenSteps, KeptCells}
+use Rattle.pf_journal.specs.Frozen.{FrozenSteps, KeptCells, KeptSteps}
 use Rattle.pf_model.proofs.TimesRead.{frozen_same, is_before}
 use Rattle.pf_model.specs.Evaluation.{eval}
 use Rattle.pf_model.specs.Log.{Change, Rules, Store, append, changed, compared, delete, empty_store, floor_at, floor_below, floor_of, held_value, is_taken, newest_with, store_after, store_of, taken_rows, too_old, verdict_on, verdicts_on}
@@ -136,3 +137,67 @@ kept_cells rules log pin asked query t h k =
     let b = (store_of rules (take asked log)).generation in
     let c = nat_le pin asked || is_frozen query t (floor_of rules (take asked log)) in
     kept_by rules log pin asked query t (nat_le pin asked) refl (eqb-true a b (first_so (nat_eq a b) c k)) h (second_so (nat_eq a b) c k)
+
+-- ---- the floor of more changes
+
+abbrev IsNotLower : Option ℕ → Option ℕ → Type 0
+IsNotLower None high = Unit {0}
+IsNotLower (Some low) None = ⊥
+IsNotLower (Some low) (Some high) = low ≤ high
+
+same_height : (floor : Option ℕ) → IsNotLower floor floor
+same_height None = tt
+same_height (Some floor) = omega arith
+
+both_higher : (a b c : Option ℕ) → IsNotLower a b → IsNotLower b c → IsNotLower a c
+both_higher None b c h k = tt
+both_higher (Some a) None c h k = absurd h
+both_higher (Some a) (Some b) None h k = absurd k
+both_higher (Some a) (Some b) (Some c) h k = omega (arith, h, k)
+
+floor_with : (window : ℕ) (newest : Option ℕ) (rows : List Row) → IsNotLower (floor_below window newest) (floor_below window (newest_with newest rows))
+floor_with window newest [] = same_height (floor_below window newest)
+floor_with window None (r ∷ rs) = tt
+floor_with window (Some newest) (r ∷ rs) =
+    let h : newest - window ≤ max newest r.time - window = grind arith in
+    both_higher (Some (newest - window)) (Some (max newest r.time - window)) (floor_below window (newest_with (Some (max newest r.time)) rs)) h
+    (floor_with window (Some (max newest r.time)) rs)
+
+floor_after : (s : Store) (cs : List Change) → IsNotLower (floor_at s) (floor_at (store_after s cs))
+floor_after s [] = same_height (floor_at s)
+floor_after s (append rows ∷ cs) =
+    let t = changed s (append rows) in
+    both_higher (floor_at s) (floor_at t) (floor_at (store_after t cs))
+    (floor_with s.window s.newest (taken_rows rows (verdicts_on (floor_at s) s.samples rows))) (floor_after t cs)
+floor_after s (delete ms from to ∷ cs) = floor_after (changed s (delete ms from to)) cs
+
+-- what is read below a floor is below a higher one
+below_higher : (reached : Option ℤ) (low high : Option ℕ) → IsNotLower low high → is_below reached low ≡ true → is_below reached high ≡ true
+below_higher None low high h k = refl
+below_higher (Some latest) None high h k = cc
+below_higher (Some latest) (Some low) None h k = absurd h
+below_higher (Some latest) (Some low) (Some high) h k = grind (arith, ints)
+
+front_floor : (rules : Rules) (log : List Change) (short long : ℕ) → short ≤ long
+    → IsNotLower (floor_of rules (take short log)) (floor_of rules (take long log))
+front_floor rules log short long h =
+    let more = take (long - short) (drop short log) in
+    subst (λ l. IsNotLower (floor_of rules (take short log)) (floor_of rules l)) (sym (longer log short long h))
+    (subst (λ (s : Store). IsNotLower (floor_of rules (take short log)) (floor_at s)) (sym (after_both (empty_store rules) (take short log) more))
+    (floor_after (store_of rules (take short log)) more))
+
+frozen_for : (rules : Rules) (log : List Change) (pin asked : ℕ) (query : Tree) (t : ℤ) (b : Bool) → nat_le pin asked ≡ b
+    → is_frozen query t (floor_of rules (take pin log)) ≡ true
+    → (b || is_frozen query t (floor_of rules (take asked log))) ≡ true
+    → is_frozen query t (floor_of rules (take asked log)) ≡ true
+frozen_for rules log pin asked query t true e h k =
+    below_higher (reach query t) (floor_of rules (take pin log)) (floor_of rules (take asked log))
+    (front_floor rules log pin asked (leb-true pin asked e)) h
+frozen_for rules log pin asked query t false e h k = k
+
+pub kept_steps : KeptSteps
+kept_steps rules log pin asked query t h k =
+    let a = (store_of rules (take pin log)).generation in
+    let b = (store_of rules (take asked log)).generation in
+    let c = nat_le pin asked || is_frozen query t (floor_of rules (take asked log)) in
+    frozen_for rules log pin asked query t (nat_le pin asked) refl h (second_so (nat_eq a b) c k)

@@ -56,7 +56,7 @@ at_the_end_is_a_session = (
     (
       record { allowed = record { tenant = record { next = lit≤ tt; most = lit< tt }; below = lit< tt; pinned = refl; aged = refl; floored = refl }; room = lit≤ tt; named = lit≤ tt },
       (
-        record { allowed = record { coded = inl refl; stepped = inl refl }; room = lit≤ tt; named = lit≤ tt },
+        record { allowed = record { coded = inl refl; stepped = inl refl; reused = record { at_once = λ h. cc; frozen = lit≤ tt } }; room = lit≤ tt; named = lit≤ tt },
         tt,
       ),
     ),
@@ -111,9 +111,9 @@ later_asker_is_a_session = (
           (
             record { allowed = record { tenant = record { next = lit≤ tt; most = lit< tt }; below = lit< tt; pinned = refl; aged = refl; floored = refl }; room = lit≤ tt; named = lit≤ tt },
             (
-              record { allowed = record { coded = inl refl; stepped = inl refl }; room = lit≤ tt; named = lit≤ tt },
+              record { allowed = record { coded = inl refl; stepped = inl refl; reused = record { at_once = λ h. cc; frozen = lit≤ tt } }; room = lit≤ tt; named = lit≤ tt },
               (
-                record { allowed = record { coded = inl refl; stepped = inl refl }; room = lit≤ tt; named = lit≤ tt },
+                record { allowed = record { coded = inl refl; stepped = inl refl; reused = record { at_once = λ h. cc; frozen = lit≤ tt } }; room = lit≤ tt; named = lit≤ tt },
                 tt,
               ),
             ),
@@ -178,13 +178,13 @@ counted_is_a_session = (
     (
       record { allowed = record { tenant = record { next = lit≤ tt; most = lit< tt }; below = lit< tt; pinned = refl; aged = refl; floored = refl }; room = lit≤ tt; named = lit≤ tt },
       (
-        record { allowed = record { coded = inl refl; stepped = inl refl }; room = lit≤ tt; named = lit≤ tt },
+        record { allowed = record { coded = inl refl; stepped = inl refl; reused = record { at_once = λ h. cc; frozen = lit≤ tt } }; room = lit≤ tt; named = lit≤ tt },
         (
           record { allowed = record { tenant = record { next = lit≤ tt; most = lit< tt }; judged = refl; counted = refl }; room = lit≤ tt; named = lit≤ tt },
           (
             record { allowed = record { tenant = record { next = lit≤ tt; most = lit< tt }; below = lit< tt; pinned = refl; aged = refl; floored = refl }; room = lit≤ tt; named = lit≤ tt },
             (
-              record { allowed = record { coded = inl refl; stepped = inl refl }; room = lit≤ tt; named = lit≤ tt },
+              record { allowed = record { coded = inl refl; stepped = inl refl; reused = record { at_once = λ h. cc; frozen = lit≤ tt } }; room = lit≤ tt; named = lit≤ tt },
               tt,
             ),
           ),
@@ -242,17 +242,17 @@ deleted_is_a_session = (
     (
       record { allowed = record { tenant = record { next = lit≤ tt; most = lit< tt }; below = lit< tt; pinned = refl; aged = refl; floored = refl }; room = lit≤ tt; named = lit≤ tt },
       (
-        record { allowed = record { coded = inl refl; stepped = inl refl }; room = lit≤ tt; named = lit≤ tt },
+        record { allowed = record { coded = inl refl; stepped = inl refl; reused = record { at_once = λ h. cc; frozen = lit≤ tt } }; room = lit≤ tt; named = lit≤ tt },
         (
           record { allowed = record { tenant = record { next = lit≤ tt; most = lit< tt }; below = lit< tt; pinned = refl; aged = refl; floored = refl }; room = lit≤ tt; named = lit≤ tt },
           (
             record { allowed = record { tenant = record { next = lit≤ tt; most = lit< tt }; aged = refl; counted = refl }; room = lit≤ tt; named = lit≤ tt },
             (
-              record { allowed = record { coded = inl refl; stepped = inl refl }; room = lit≤ tt; named = lit≤ tt },
+              record { allowed = record { coded = inl refl; stepped = inl refl; reused = record { at_once = λ h. cc; frozen = lit≤ tt } }; room = lit≤ tt; named = lit≤ tt },
               (
                 record { allowed = record { tenant = record { next = lit≤ tt; most = lit< tt }; below = lit< tt; pinned = refl; aged = refl; floored = refl }; room = lit≤ tt; named = lit≤ tt },
                 (
-                  record { allowed = record { coded = inl refl; stepped = inl refl }; room = lit≤ tt; named = lit≤ tt },
+                  record { allowed = record { coded = inl refl; stepped = inl refl; reused = record { at_once = λ h. cc; frozen = lit≤ tt } }; room = lit≤ tt; named = lit≤ tt },
                   tt,
                 ),
               ),
@@ -322,11 +322,11 @@ two_open_is_a_session = (
         (
           record { allowed = record { tenant = record { next = lit≤ tt; most = lit< tt }; below = lit< tt; pinned = refl; aged = refl; floored = refl }; room = lit≤ tt; named = lit≤ tt },
           (
-            record { allowed = record { coded = inl refl; stepped = inl refl }; room = lit≤ tt; named = lit≤ tt },
+            record { allowed = record { coded = inl refl; stepped = inl refl; reused = record { at_once = λ h. cc; frozen = lit≤ tt } }; room = lit≤ tt; named = lit≤ tt },
             (
               record { allowed = record { tenant = record { next = lit≤ tt; most = lit< tt }; below = lit< tt; pinned = refl; aged = refl; floored = refl }; room = lit≤ tt; named = lit≤ tt },
               (
-                record { allowed = record { coded = inl refl; stepped = inl refl }; room = lit≤ tt; named = lit≤ tt },
+                record { allowed = record { coded = inl refl; stepped = inl refl; reused = record { at_once = λ h. cc; frozen = lit≤ tt } }; room = lit≤ tt; named = lit≤ tt },
                 tt,
               ),
             ),
@@ -393,19 +393,19 @@ in_turn_is_a_session = (
       (
         record { allowed = record { tenant = record { next = lit≤ tt; most = lit< tt }; below = lit< tt; pinned = refl; aged = refl; floored = refl }; room = lit≤ tt; named = lit≤ tt },
         (
-          record { allowed = record { coded = inl refl; stepped = inl refl }; room = lit≤ tt; named = lit≤ tt },
+          record { allowed = record { coded = inl refl; stepped = inl refl; reused = record { at_once = λ h. cc; frozen = lit≤ tt } }; room = lit≤ tt; named = lit≤ tt },
           (
             record { allowed = record { tenant = record { next = lit≤ tt; most = lit< tt }; below = lit< tt; pinned = refl; aged = refl; floored = refl }; room = lit≤ tt; named = lit≤ tt },
             (
-              record { allowed = record { coded = inl refl; stepped = inl refl }; room = lit≤ tt; named = lit≤ tt },
+              record { allowed = record { coded = inl refl; stepped = inl refl; reused = record { at_once = λ h. cc; frozen = lit≤ tt } }; room = lit≤ tt; named = lit≤ tt },
               (
                 record { allowed = record { tenant = record { next = lit≤ tt; most = lit< tt }; below = lit< tt; pinned = refl; aged = refl; floored = refl }; room = lit≤ tt; named = lit≤ tt },
                 (
-                  record { allowed = record { coded = inl refl; stepped = inl refl }; room = lit≤ tt; named = lit≤ tt },
+                  record { allowed = record { coded = inl refl; stepped = inl refl; reused = record { at_once = λ h. cc; frozen = lit≤ tt } }; room = lit≤ tt; named = lit≤ tt },
                   (
                     record { allowed = record { tenant = record { next = lit≤ tt; most = lit< tt }; below = lit< tt; pinned = refl; aged = refl; floored = refl }; room = lit≤ tt; named = lit≤ tt },
                     (
-                      record { allowed = record { coded = inl refl; stepped = inl refl }; room = lit≤ tt; named = lit≤ tt },
+                      record { allowed = record { coded = inl refl; stepped = inl refl; reused = record { at_once = λ h. cc; frozen = lit≤ tt } }; room = lit≤ tt; named = lit≤ tt },
                       tt,
                     ),
                   ),

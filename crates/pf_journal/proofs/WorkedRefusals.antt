@@ -1,15 +1,15 @@
 -- Worked examples of what the definitions do not allow, and of a tenant too many, whose entry fits its line.
-use Rattle.std.proofs.Common.{Bool, true, ◌≡◌, ℕ, ◌+◌, ◌<◌, ◌≤◌, ◌⊎◌, length, sum, take, zero, suc, pos, false, List, [], ◌∷◌, refl, sym, Option, Some, None, codes, nat_eq, arith, inl, inr}
+use Rattle.std.proofs.Common.{Bool, true, ◌≡◌, ℕ, ◌+◌, ◌<◌, ◌≤◌, ◌⊎◌, length, sum, take, zero, suc, pos, false, List, [], ◌∷◌, refl, sym, Option, Some, None, codes, nat_eq, arith, inl, inr, lit≤}
 use Rattle.std.proofs.lemmas.Bool.{false≢true}
 use Rattle.std.specs.Option.{is_none}
 use Rattle.pf_base.specs.Arithmetic.{clamp}
 use Rattle.pf_model.specs.declared.expr.Kind.TheVariants as kind
 use Rattle.pf_model.specs.Log.{append}
-use Rattle.pf_journal.proofs.Examples.{differ, grid, limits_of, named, on_nothing, row, up_a, usual}
+use Rattle.pf_journal.proofs.Examples.{differ, grid, limits_of, named, on_nothing, row, up, up_a, usual}
 use Rattle.pf_journal.proofs.Sessions.{ask_up, asked_up, failed_journal, ingested_up}
 use Rattle.pf_journal.specs.Entered.{Fits}
 use Rattle.pf_journal.specs.Legal.{Moment, machine_after}
-use Rattle.pf_journal.specs.Machine.{AreSteps, IsCode, Open, answer, no_tenant, reserved, started}
+use Rattle.pf_journal.specs.Machine.{AreSteps, CanBeCached, IsCode, Open, answer, no_tenant, reserved, started}
 use Rattle.pf_journal.specs.Rest.{Told, at_end, at_full, failed_five, journal_full, no_memory, nothing, of_keep, of_plan, of_take, waiting}
 use Rattle.pf_journal.specs.Scripts as script
 use Rattle.pf_journal.specs.Steps.{busy, keep_refused, none_waits, plan_refused, took}
@@ -120,6 +120,29 @@ failure_without_steps : AreSteps 1 500 0 → ⊥
 failure_without_steps (inl h) = differ (nat_eq 0) _ _ refl refl h
 failure_without_steps (inr (h, inl k)) = differ (nat_eq 500) _ _ refl refl k
 failure_without_steps (inr (h, inr k)) = differ (nat_eq 500) _ _ refl refl k
+
+-- of a range query whose last step isn't frozen two steps may be cached, and not all three
+of_three : (instant : Bool) → Open
+of_three instant = record {
+  place = 1;
+  tenant = 0;
+  asked = record { query = record { tree = up; grid = grid 60000 60000 3 }; kind = kind.Instant; instant = instant; text = [] };
+  log = append (row up_a 780000 (pos 1000000) ∷ []) ∷ [];
+  cancelled = None;
+}
+
+two_of_three : CanBeCached usual.limits (of_three false) 2
+unfolding of_three
+two_of_three = record { at_once = λ h. cc; frozen = lit≤ tt }
+
+three_of_three : CanBeCached usual.limits (of_three false) 3 → ⊥
+unfolding of_three
+three_of_three h = let few = h.frozen in omega (arith, few)
+
+-- and none of an instant query
+one_at_once : CanBeCached usual.limits (of_three true) 1 → ⊥
+unfolding of_three
+one_at_once h = differ (nat_eq 1) _ _ refl refl (h.at_once refl)
 
 -- a success of an error, and an error of a cancelled query
 failing : Option ℕ → Open

@@ -53,7 +53,7 @@ limit_is_a_session = (
     (
       record { allowed = record { known = lit< tt; counted = refl; most = refl }; room = lit≤ tt; named = lit≤ tt },
       (
-        record { allowed = record { coded = inl refl; stepped = inl refl }; room = lit≤ tt; named = lit≤ tt },
+        record { allowed = record { coded = inl refl; stepped = inl refl; reused = record { at_once = λ h. cc; frozen = lit≤ tt } }; room = lit≤ tt; named = lit≤ tt },
         (
           record { allowed = record { tenant = record { next = lit≤ tt; most = lit< tt }; below = lit< tt; pinned = refl; aged = refl; floored = refl }; room = lit≤ tt; named = lit≤ tt },
           tt,
@@ -103,7 +103,7 @@ cancel_is_a_session = (
       (
         record { allowed = refl; room = lit≤ tt; named = lit≤ tt },
         (
-          record { allowed = record { coded = refl; stepped = inl refl }; room = lit≤ tt; named = lit≤ tt },
+          record { allowed = record { coded = refl; stepped = inl refl; reused = record { at_once = λ h. cc; frozen = lit≤ tt } }; room = lit≤ tt; named = lit≤ tt },
           tt,
         ),
       ),
@@ -266,7 +266,7 @@ failed_is_a_session = (
     (
       record { allowed = record { tenant = record { next = lit≤ tt; most = lit< tt }; below = lit< tt; pinned = refl; aged = refl; floored = refl }; room = lit≤ tt; named = lit≤ tt },
       (
-        record { allowed = record { coded = inr (inl refl); stepped = inl refl }; room = lit≤ tt; named = lit≤ tt },
+        record { allowed = record { coded = inr (inl refl); stepped = inl refl; reused = record { at_once = λ h. cc; frozen = lit≤ tt } }; room = lit≤ tt; named = lit≤ tt },
         tt,
       ),
     ),
@@ -314,7 +314,7 @@ want_is_a_session = (
     (
       record { allowed = record { tenant = record { next = lit≤ tt; most = lit< tt }; below = lit< tt; pinned = refl; aged = refl; floored = refl }; room = lit≤ tt; named = lit≤ tt },
       (
-        record { allowed = record { coded = inr (inr refl); stepped = inr (refl, inr refl) }; room = lit≤ tt; named = lit≤ tt },
+        record { allowed = record { coded = inr (inr refl); stepped = inr (refl, inr refl); reused = record { at_once = λ h. cc; frozen = lit≤ tt } }; room = lit≤ tt; named = lit≤ tt },
         tt,
       ),
     ),
@@ -367,9 +367,9 @@ two_is_a_session = (
       (
         record { allowed = record { tenant = record { next = lit≤ tt; most = lit< tt }; below = lit< tt; pinned = refl; aged = refl; floored = refl }; room = lit≤ tt; named = lit≤ tt },
         (
-          record { allowed = record { coded = inl refl; stepped = inl refl }; room = lit≤ tt; named = lit≤ tt },
+          record { allowed = record { coded = inl refl; stepped = inl refl; reused = record { at_once = λ h. cc; frozen = lit≤ tt } }; room = lit≤ tt; named = lit≤ tt },
           (
-            record { allowed = record { coded = inl refl; stepped = inl refl }; room = lit≤ tt; named = lit≤ tt },
+            record { allowed = record { coded = inl refl; stepped = inl refl; reused = record { at_once = λ h. cc; frozen = lit≤ tt } }; room = lit≤ tt; named = lit≤ tt },
             tt,
           ),
         ),

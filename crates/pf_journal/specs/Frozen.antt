@@ -24,3 +24,12 @@ KeptCells =
     → may_be_used pin (store_of rules (take pin log)).generation asked (store_of rules (take asked log)).generation
     (floor_of rules (take asked log)) (reach query t) ≡ true
     → eval (store_of rules (take pin log)).samples query t ≡ eval (store_of rules (take asked log)).samples query t
+
+-- and the step of such a cell is frozen at the asker's floor, too
+abbrev pub KeptSteps : Type 0
+KeptSteps =
+    (rules : Rules) (log : List Change) (pin asked : ℕ) (query : Tree) (t : ℤ)
+    → may_be_kept query t (floor_of rules (take pin log)) ≡ true
+    → may_be_used pin (store_of rules (take pin log)).generation asked (store_of rules (take asked log)).generation
+    (floor_of rules (take asked log)) (reach query t) ≡ true
+    → is_frozen query t (floor_of rules (take asked log)) ≡ true

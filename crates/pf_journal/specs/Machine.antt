@@ -1,11 +1,12 @@
 -- The journal machine: what one entry of the journal may be, and what it changes. This project's own.
-use Rattle.std.specs.Prelude.{◌≡◌, ℕ, zero, suc, ◌+◌, ◌<◌, ◌≤◌, ◌⊎◌, Option, None, Some, cond, List, [], ◌∷◌, ◌++◌, length, take, nat_eq, slice_get}
+use Rattle.std.specs.Prelude.{◌≡◌, ℕ, zero, suc, pos, ◌+◌, ◌<◌, ◌≤◌, ◌⊎◌, true, Option, None, Some, cond, List, [], ◌∷◌, ◌++◌, filter, length, take, nat_eq, slice_get}
 use Rattle.pf_base.specs.declared.plain.Limits.{Limits}
 use Rattle.pf_base.specs.Batches.{BatchData}
 use Rattle.pf_base.specs.Grids.{points}
 use Rattle.pf_model.specs.declared.expr.Matcher.{Matcher}
 use Rattle.pf_model.specs.Direct.{Answer, gathered, failed, direct}
 use Rattle.pf_model.specs.Log.{Change, Verdict, rules_of, store_of, floor_of, verdicts_of, log_with, log_without}
+use Rattle.pf_model.specs.Reach.{is_frozen}
 use Rattle.pf_journal.specs.Asking.{Asked}
 
 -- what an entry of the journal says; a tenant is a number, and a query the place of its ask in the journal
@@ -174,9 +175,20 @@ CanBeUnplanned code = (code ≡ 503) ⊎ (code ≡ 507)
 abbrev pub AreSteps : (steps code counted : ℕ) → Type 0
 AreSteps steps code counted = (counted ≡ steps) ⊎ ((counted ≡ 0) × CanBeUnplanned code)
 
+-- how many steps of a query are frozen at the floor of its tenant's log at the ask
+abbrev pub frozen_steps : Limits → Open → ℕ
+frozen_steps l o =
+    length (filter (λ t. is_frozen o.asked.query.tree (pos t) (floor_of (rules_of l) o.log)) (points o.asked.query.grid))
+
+-- so many steps of a query may be cached: none of an instant query, and at most those that are frozen
+pub record CanBeCached (l : Limits) (o : Open) (cached : ℕ) : Type 0 where
+  pub at_once : o.asked.instant ≡ true → cached ≡ 0
+  pub frozen : cached ≤ frozen_steps l o
+
 pub record AnswersRight (l : Limits) (o : Open) (code cached evaluated : ℕ) : Type 0 where
   pub coded : IsCode l o o.cancelled code
   pub stepped : AreSteps (length (points o.asked.query.grid)) code (cached + evaluated)
+  pub reused : CanBeCached l o cached
 
 abbrev pub AnswersOpen : Limits → Option Open → ℕ → ℕ → ℕ → Type 0
 AnswersOpen l None code cached evaluated = ⊥

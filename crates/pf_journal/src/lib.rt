@@ -4,4 +4,4 @@
 
 mod laws;
 
-pub use laws::{frozen_steps, kept_cells, shared_weave};
+pub use laws::{frozen_steps, kept_cells, kept_steps, shared_weave};

@@ -1,6 +1,7 @@
 -- What is kept is true for whoever uses it, once more is kept, and while logs grow.
-use Rattle.std.proofs.Common.{◌≡◌, ◌∙◌, ℕ, pos, ◌/◌, ◌≤◌, inl, inr, Bool, true, false, cond, Option, Some, None, List, [], ◌∷◌, ◌++◌, length-append, take, refl, sym, ap, subst, arith}
+use Rattle.std.proofs.Common.{◌≡◌, ◌∙◌, ℕ, pos, ◌/◌, ◌≤◌, inl, inr, Bool, true, false, cond, Option, Some, None, List, [], ◌∷◌, ◌++◌, length, length-append, filter, take, refl, sym, ap, subst, arith}
 use Rattle.std.proofs.lemmas.List.{take-append-le}
+use Rattle.std.proofs.lemmas.List.Elements.{filter-append}
 use Rattle.std.specs.Prelude.{IfSome, slice_index_or}
 use Rattle.pf_base.specs.GridLists.{GridData}
 use Rattle.pf_extent.specs.Steps.{Extents, Known, extent_at, has_step, known_at, known_of}
@@ -8,7 +9,7 @@ use Rattle.pf_extent.specs.Uses.{is_usable}
 use Rattle.pf_extent.specs.declared.extent.Asker.{Asker}
 use Rattle.pf_extent.specs.declared.extent.Extent.{Extent}
 use Rattle.pf_extent.specs.declared.key.Key.{Key}
-use Rattle.pf_journal.specs.Frozen.{KeptCells}
+use Rattle.pf_journal.specs.Frozen.{KeptCells, KeptSteps}
 use Rattle.pf_model.specs.Canonical.{canonical}
 use Rattle.pf_model.specs.declared.cell.Element.{Element}
 use Rattle.pf_model.specs.declared.cell.StepCell.TheVariants.{Good}
@@ -19,7 +20,7 @@ use Rattle.pf_model.specs.Log.{Change, Rules, floor_of, store_of}
 use Rattle.pf_model.specs.Reach.{may_be_kept, may_be_used, reach}
 use Rattle.pf_model.specs.Trees.{Tree, height}
 use Rattle.pf_print.specs.OwnTexts.{HasText, HaveOwnTexts}
-use Rattle.pf_results.specs.Keeping.{IsFixedStep, KeepsOthers}
+use Rattle.pf_results.specs.Keeping.{IsFixedStep, KeepsOthers, is_fixed}
 use Rattle.pf_results.specs.Serving.{is_served, served_steps, serves, step_of}
 use Rattle.pf_results.specs.Truth.{IsAsker, IsEvaluated, IsTrueList, IsTrueStep, IsValue, StayTrue}
 
@@ -62,18 +63,28 @@ known_by_extent : (es : List Extent) (t : ℕ) (e : Extent) → extent_at t es �
 known_by_extent [] t e h = absurd (none_extent h)
 known_by_extent (x ∷ es) t e h = known_by_cond x e t es (has_step t x) (known_by_extent es t e) h
 
+module _ (rules : Rules) (interval : ℕ) (log : List Change) (key : Key) (es : Extents) (a : Asker) (q : Tree) (w : HasText q) (text : canonical q ≡ key.text)
+    (truth : IsTrueList rules interval log key es) (asker : IsAsker rules log a) where
+  -- what an asker can use is true, and may be used over its log
+  used_step : (t : ℕ) (e : Extent) → extent_at t es ≡ Some e → IsTrueStep rules interval log key q t (known_of t e)
+  used_step t e h = truth q w text t (known_of t e) (known_by_extent es t e h)
+
+  may_use : (t : ℕ) (e : Extent) → extent_at t es ≡ Some e → is_usable e (reach q (pos t)) a ≡ true
+      → may_be_used e.pin (store_of rules (take e.pin log)).generation a.pin (store_of rules (take a.pin log)).generation
+      (floor_of rules (take a.pin log)) (reach q (pos t)) ≡ true
+  may_use t e h u =
+      subst (λ g. may_be_used e.pin g a.pin (store_of rules (take a.pin log)).generation (floor_of rules (take a.pin log)) (reach q (pos t)) ≡ true)
+      (used_step t e h).generation
+      (subst (λ g. may_be_used e.pin e.generation a.pin g (floor_of rules (take a.pin log)) (reach q (pos t)) ≡ true) asker.generation
+      (subst (λ (f : Option ℕ). may_be_used e.pin e.generation a.pin a.generation f (reach q (pos t)) ≡ true) asker.floor u))
+
 module _ (kept : KeptCells) (rules : Rules) (interval : ℕ) (log : List Change) (key : Key) (es : Extents) (a : Asker) (q : Tree) (w : HasText q) (text : canonical q ≡ key.text)
     (truth : IsTrueList rules interval log key es) (asker : IsAsker rules log a) where
   value_by : (t : ℕ) (e : Extent) → extent_at t es ≡ Some e → is_usable e (reach q (pos t)) a ≡ true
       → eval (store_of rules (take a.pin log)).samples q (pos t) ≡ Good (known_of t e).cell
   value_by t e h u =
-      let s = truth q w text t (known_of t e) (known_by_extent es t e h) in
-      let may : may_be_used e.pin (store_of rules (take e.pin log)).generation a.pin (store_of rules (take a.pin log)).generation
-      (floor_of rules (take a.pin log)) (reach q (pos t)) ≡ true =
-      subst (λ g. may_be_used e.pin g a.pin (store_of rules (take a.pin log)).generation (floor_of rules (take a.pin log)) (reach q (pos t)) ≡ true) s.generation
-      (subst (λ g. may_be_used e.pin e.generation a.pin g (floor_of rules (take a.pin log)) (reach q (pos t)) ≡ true) asker.generation
-      (subst (λ (f : Option ℕ). may_be_used e.pin e.generation a.pin a.generation f (reach q (pos t)) ≡ true) asker.floor u)) in
-      sym (kept rules log e.pin a.pin q (pos t) s.frozen may) ∙ s.value
+      let s = used_step rules interval log key es a q w text truth asker t e h in
+      sym (kept rules log e.pin a.pin q (pos t) s.frozen (may_use rules interval log key es a q w text truth asker t e h u)) ∙ s.value
 
   each_value : (t : ℕ) (o : Option Extent) → extent_at t es ≡ o → (b : Bool) → serves o q a t ≡ b → Each (IsValue rules log a q) (cond b (step_of t o) [])
   each_value t o h false s = tt
@@ -89,6 +100,30 @@ module _ (kept : KeptCells) (rules : Rules) (interval : ℕ) (log : List Change)
   values (t ∷ ts) =
       each_more (cond (is_served es q a t) (step_of t (extent_at t es)) []) (served_steps es q a ts)
       (each_value t (extent_at t es) refl (is_served es q a t) refl) (values ts)
+
+-- ---- what serves an asker is fixed for it
+
+module _ (steps : KeptSteps) (rules : Rules) (interval : ℕ) (log : List Change) (key : Key) (es : Extents) (a : Asker) (q : Tree) (w : HasText q) (text : canonical q ≡ key.text)
+    (truth : IsTrueList rules interval log key es) (asker : IsAsker rules log a) where
+  fixed_by : (t : ℕ) (e : Extent) → extent_at t es ≡ Some e → is_usable e (reach q (pos t)) a ≡ true → is_fixed q a t ≡ true
+  fixed_by t e h u =
+      let s = used_step rules interval log key es a q w text truth asker t e h in
+      subst (λ (f : Option ℕ). is_frozen q (pos t) f ≡ true) (sym asker.floor)
+      (steps rules log e.pin a.pin q (pos t) s.frozen (may_use rules interval log key es a q w text truth asker t e h u))
+
+  few_at : (t : ℕ) (o : Option Extent) → extent_at t es ≡ o → (b : Bool) → serves o q a t ≡ b → length (cond b (step_of t o) []) ≤ length (filter (is_fixed q a) (t ∷ []))
+  few_at t o h false s = omega arith
+  few_at t None h true s = omega arith
+  few_at t (Some e) h true s = rw (fixed_by t e h s) (omega arith)
+
+  pub few : (ts : List ℕ) → length (served_steps es q a ts) ≤ length (filter (is_fixed q a) ts)
+  few [] = omega arith
+  few (t ∷ ts) =
+      let here = few_at t (extent_at t es) refl (is_served es q a t) refl in
+      let rest = few ts in
+      let all = length-append (cond (is_served es q a t) (step_of t (extent_at t es)) []) (served_steps es q a ts) in
+      let both = ap length (filter-append (is_fixed q a) (t ∷ []) ts) ∙ length-append (filter (is_fixed q a) (t ∷ [])) (filter (is_fixed q a) ts) in
+      omega (arith, here, rest, all, both)
 
 -- nothing is kept
 pub none_true : (rules : Rules) (interval : ℕ) (log : List Change) (key : Key) → IsTrueList rules interval log key []

@@ -1,18 +1,21 @@
 -- What is found, used and kept of pieces, one piece after another.
-use Rattle.std.proofs.Common.{◌≡◌, ◌∙◌, ◌⊎◌, ℕ, zero, suc, ◌+◌, ◌/◌, ◌≤◌, ◌<◌, inl, inr, Bool, true, false, not, List, [], ◌∷◌, ◌++◌, append_assoc, append-nil, length, length-append, take, get_or, refl, sym, ap, subst, arith}
+use Rattle.std.proofs.Common.{◌≡◌, ◌∙◌, ◌⊎◌, ℕ, zero, suc, ◌+◌, ◌/◌, ◌≤◌, ◌<◌, inl, inr, Bool, true, false, not, List, [], ◌∷◌, ◌++◌, append_assoc, append-nil, filter, length, length-append, take, get_or, refl, sym, ap, subst, arith}
 use Rattle.std.proofs.Math.Seq.{take-suc}
+use Rattle.std.proofs.lemmas.List.Elements.{filter-append}
 use Rattle.std.specs.Prelude.{◌==◌}
 use Rattle.lru.specs.LruCache.{LruCache}
 use Rattle.pf_base.specs.GridLists.{GridData}
 use Rattle.pf_base.specs.Grids.{points}
+use Rattle.pf_columns.specs.Columns.{timed}
 use Rattle.pf_extent.specs.Done.{AreWhole, steps_in}
 use Rattle.pf_extent.specs.Steps.{Extents}
 use Rattle.pf_extent.specs.declared.done.DoneCells.{DoneCells}
 use Rattle.pf_extent.specs.declared.extent.Asker.{Asker}
 use Rattle.pf_extent.specs.declared.key.Key.{Key}
-use Rattle.pf_journal.specs.Frozen.{KeptCells}
+use Rattle.pf_journal.specs.Frozen.{KeptCells, KeptSteps}
 use Rattle.pf_model.specs.Canonical.{canonical}
 use Rattle.pf_model.specs.Direct.{Step}
+use Rattle.pf_model.specs.declared.cell.Element.{Element}
 use Rattle.pf_model.specs.Lists.{Each}
 use Rattle.pf_model.specs.Log.{Rules}
 use Rattle.pf_model.specs.Trees.{Tree}
@@ -22,12 +25,12 @@ use Rattle.pf_split.specs.Pieces.{pieces_of, put_before}
 use Rattle.pf_split.specs.declared.splitting.Piece.{Piece}
 use Rattle.pf_results.specs.Entries.{kept_under, put_under, touched}
 use Rattle.pf_results.specs.Pieces.{AreEvaluated, AreOfOneQuery, fixed_over, kept_over, kept_with, key_at, key_of, missing_over, served_over, touched_over}
-use Rattle.pf_results.specs.Keeping.{extents_of, fixed_count, kept_list}
+use Rattle.pf_results.specs.Keeping.{extents_of, fixed_count, is_fixed, kept_list}
 use Rattle.pf_results.specs.Runs.{lengths, runs_of}
 use Rattle.pf_results.specs.Serving.{is_served, served_steps, steps_of}
 use Rattle.pf_results.specs.Truth.{AreAllSpaced, AreTrue, IsAsker, IsEvaluated, IsValue, Logs}
 use Rattle.pf_results.specs.Woven.{AreWoven, AreWovenIn, done_in, wanted_in}
-use Rattle.pf_results.proofs.Growing.{values}
+use Rattle.pf_results.proofs.Growing.{few, values}
 use Rattle.pf_results.proofs.Keys.{touched_spaced, touched_true, true_under}
 use Rattle.pf_results.proofs.Served.{count_more}
 use Rattle.pf_base.proofs.GridTimes.{length-times_from as length_times}
@@ -156,6 +159,45 @@ module _ (c : LruCache Key Extents) (key : Key) (q : Tree) (a : Asker) where
       each_append (IsValue rules (logs key.tenant) a q) (served_steps (kept_under own c) q a (points p.run)) (served_over c key q a ps)
       (values kept rules interval (logs key.tenant) own (kept_under own c) a q w text (true_under rules interval logs c own h) asker (points p.run))
       (values_over kept rules interval logs h asker w text ps)
+
+  -- at most the fixed steps are served
+  pub few_over : KeptSteps → (rules : Rules) (interval : ℕ) (logs : Logs) → AreTrue rules interval logs c.entries → IsAsker rules (logs key.tenant) a → HasText q
+      → canonical q ≡ key.text → (ps : List Piece) → length (served_over c key q a ps) ≤ length (filter (is_fixed q a) (split.steps_of ps))
+  few_over steps rules interval logs h asker w text [] = omega arith
+  few_over steps rules interval logs h asker w text (p ∷ ps) =
+      let own : Key = key_at key p.interval in
+      let here = few steps rules interval (logs key.tenant) own (kept_under own c) a q w text (true_under rules interval logs c own h) asker (points p.run) in
+      let rest = few_over steps rules interval logs h asker w text ps in
+      let all = length-append (served_steps (kept_under own c) q a (points p.run)) (served_over c key q a ps) in
+      let both = ap length (filter-append (is_fixed q a) (points p.run) (split.steps_of ps))
+      ∙ length-append (filter (is_fixed q a) (points p.run)) (filter (is_fixed q a) (split.steps_of ps)) in
+      omega (arith, here, rest, all, both)
+
+-- how many steps cells are of
+timed_many : (ts : List ℕ) (cells : List (List Element)) → length cells ≡ length ts → length (timed ts cells) ≡ length ts
+timed_many [] cells h = refl
+timed_many (t ∷ ts) [] h = absurd (omega (arith, h))
+timed_many (t ∷ ts) (c ∷ cells) h = ap suc (timed_many ts cells (omega (arith, h)))
+
+pub steps_many : (ds : List DoneCells) → AreWhole ds → length (steps_of ds) ≡ steps_in ds
+steps_many [] h = refl
+steps_many (d ∷ ds) h =
+    let own = length_times d.run.start d.run.step d.run.len in
+    let here = timed_many (points d.run) d.cells (h.0 ∙ sym own) in
+    let rest = steps_many ds h.1 in
+    let all = length-append (timed (points d.run) d.cells) (steps_of ds) in
+    omega (arith, own, here, rest, all)
+
+-- cells that are found are of at most the fixed steps
+pub few_found : (c : LruCache Key Extents) (key : Key) (q : Tree) (a : Asker) → KeptSteps → (rules : Rules) (interval : ℕ) (logs : Logs) → AreTrue rules interval logs c.entries
+    → IsAsker rules (logs key.tenant) a → HasText q → canonical q ≡ key.text → (ps : List Piece) (ts : List ℕ) → split.steps_of ps ≡ ts
+    → (ds : List DoneCells) → AreWhole ds → steps_of ds ≡ served_over c key q a ps → steps_in ds ≤ length (filter (is_fixed q a) ts)
+few_found c key q a steps rules interval logs h asker w text ps ts all ds whole served =
+    let few = few_over c key q a steps rules interval logs h asker w text ps in
+    let many = steps_many ds whole in
+    let same = ap (λ (ss : List Step). length ss) served in
+    let of_all = ap (λ (xs : List ℕ). length (filter (is_fixed q a) xs)) all in
+    omega (arith, few, many, same, of_all)
 
 -- ---- what is used
 

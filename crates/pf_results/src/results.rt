@@ -1,6 +1,6 @@
 //! The cache.
 
-ghost use Rattle.std.specs.Prelude.{◌≡◌, ℕ, ◌+◌, ◌≤◌, ◌++◌, not, [], IfOk, IfSome, OnErr, OnOk, length, take};
+ghost use Rattle.std.specs.Prelude.{◌≡◌, ℕ, ◌+◌, ◌≤◌, ◌++◌, not, [], IfOk, IfSome, OnErr, OnOk, filter, length, take};
 ghost use Rattle.lru.specs.LruCache.{lru_cache};
 ghost use Rattle.pf_base.specs.Grids.{points};
 ghost use Rattle.pf_base.specs.Limits.{most_steps};
@@ -13,7 +13,7 @@ ghost use Rattle.pf_model.specs.Trees.{tree_of};
 ghost use Rattle.pf_print.specs.OwnTexts.{HasText};
 ghost use Rattle.pf_split.specs.Pieces.{pieces_of};
 ghost use Rattle.pf_results.specs.Entries.{kept_under, put_under};
-ghost use Rattle.pf_results.specs.Keeping.{KeepsOthers, extents_of, fixed_count, kept_list};
+ghost use Rattle.pf_results.specs.Keeping.{KeepsOthers, extents_of, fixed_count, is_fixed, kept_list};
 ghost use Rattle.pf_results.specs.Pieces.{AreEvaluated, AreOfOneQuery, IsDoneAt, fixed_over, kept_over, missing_over, served_over, touched_over};
 ghost use Rattle.pf_results.specs.Runs.{CanBeAsked, lengths, runs_of};
 ghost use Rattle.pf_results.specs.Serving.{is_served, served_steps, steps_of};
@@ -26,7 +26,7 @@ use pf_base::{Grid, OutOfMemory};
 use pf_cache::Bounded;
 use pf_columns::Cells;
 use pf_extent::{Asker, DoneCells, Key, List};
-use pf_journal::kept_cells;
+use pf_journal::{kept_cells, kept_steps};
 use pf_model::Expr;
 use pf_print::have_own_texts;
 use pf_split::pieces;
@@ -144,8 +144,12 @@ impl Results {
 
         // What is kept being true, the cells are what the query is over the asker's samples.
         ensures values { (rules : Rules) (logs : Logs) → AreTrue rules interval logs self.now.entries → IsAsker rules (logs key.old.tenant) asker.now → HasText (tree_of expr.now) → canonical (tree_of expr.now) ≡ key.old.text → IfOk result (λ f. Each (IsValue rules (logs key.old.tenant) asker.now (tree_of expr.now)) (steps_of f.cached.items)) }
+
+        // Nor are they more than the steps that are fixed for the asker.
+        ensures few { (rules : Rules) (logs : Logs) → AreTrue rules interval logs self.now.entries → IsAsker rules (logs key.old.tenant) asker.now → HasText (tree_of expr.now) → canonical (tree_of expr.now) ≡ key.old.text → IfOk result (λ f. steps_in f.cached.items ≤ length (filter (is_fixed (tree_of expr.now) asker.now) (points grid.now))) }
     {
         kept_cells();
+        kept_steps();
         let mut found = Found {
             cached: Vec::new(alloc),
             runs: Vec::new(alloc),

@@ -9,4 +9,4 @@ returns c =
     c.asked.inside.grid c.asker_of-asker.result (tree_of c.tree_in-expr.result.now) (search rules) (search rules) (search rules) (search rules) (search rules)
     (search rules) (search rules) (search rules) (search rules) (search rules) (search rules)
     c.in_ok-found.ensures.key c.in_ok-found.ensures.woven c.in_ok-found.ensures.whole c.in_ok-found.ensures.cached c.in_ok-found.ensures.runs c.in_ok-found.ensures.all
-    c.in_ok-found.ensures.values
+    c.in_ok-found.ensures.values c.in_ok-found.ensures.few

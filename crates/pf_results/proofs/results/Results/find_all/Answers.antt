@@ -5,7 +5,7 @@ use Rattle.pf_model.specs.Lists.{Each}
 use Rattle.pf_model.specs.Trees.{tree_of}
 use Rattle.pf_split.specs.Pieces.{pieces_of, steps_of}
 use Rattle.pf_results.specs.Truth.{IsValue}
-use Rattle.pf_results.proofs.Pieced.{one_query, over_more, over_none, same_key, steps_all, values_over, woven_all}
+use Rattle.pf_results.proofs.Pieced.{few_found, one_query, over_more, over_none, same_key, steps_all, values_over, woven_all}
 use Rattle.pf_results.proofs.results.Results.find_all.Goals as goal
 
 pub loop-piece-init : goal.loop-piece-init
@@ -43,3 +43,13 @@ returns-clause-values c = λ log_rules logs h asker w text.
     c.loop-piece.found.cached.items c.loop-piece.found.runs.items c.loop-piece.invariant.found (search rules)))
     (values_over c.args.self.now c.args.key.now (tree_of c.args.expr.now) c.args.asker.now c.kept_cells.ensures log_rules c.args.interval logs h asker w text
     (pieces_of c.args.interval c.args.grid.now.step (points c.args.grid.now)))
+
+pub returns-clause-few : goal.returns-clause-few
+returns-clause-few c = λ rules logs h asker w text.
+    let found = c.loop-piece.invariant.found in
+    few_found c.args.self.now c.args.key.now (tree_of c.args.expr.now) c.args.asker.now c.kept_steps.ensures rules c.args.interval logs h asker w text
+    (pieces_of c.args.interval c.args.grid.now.step (points c.args.grid.now)) (points c.args.grid.now)
+    (ap steps_of (sym c.pieces-piece-items.ensures.pieces) ∙ c.pieces-piece-items.ensures.all) c.loop-piece.found.cached.items found.whole
+    (steps_all c.args.self.now c.args.key.now (tree_of c.args.expr.now) c.args.asker.now
+    (pieces_of c.args.interval c.args.grid.now.step (points c.args.grid.now)) c.loop-piece.piece-iterator c.args.grid.now.len
+    c.loop-piece.found.cached.items c.loop-piece.found.runs.items found (search rules))
