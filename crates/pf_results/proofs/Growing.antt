@@ -17,7 +17,7 @@ use Rattle.pf_model.specs.Direct.{Step}
 use Rattle.pf_model.specs.Evaluation.{eval}
 use Rattle.pf_model.specs.Lists.{Each}
 use Rattle.pf_model.specs.Log.{Change, Rules, floor_of, store_of}
-use Rattle.pf_model.specs.Reach.{may_be_kept, may_be_used, reach}
+use Rattle.pf_model.specs.Reach.{is_frozen, may_be_kept, may_be_used, reach}
 use Rattle.pf_model.specs.Trees.{Tree, height}
 use Rattle.pf_print.specs.OwnTexts.{HasText, HaveOwnTexts}
 use Rattle.pf_results.specs.Keeping.{IsFixedStep, KeepsOthers, is_fixed}

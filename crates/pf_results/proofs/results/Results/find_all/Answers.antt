@@ -45,9 +45,9 @@ returns-clause-values c = λ log_rules logs h asker w text.
     (pieces_of c.args.interval c.args.grid.now.step (points c.args.grid.now)))
 
 pub returns-clause-few : goal.returns-clause-few
-returns-clause-few c = λ rules logs h asker w text.
+returns-clause-few c = λ log_rules logs h asker w text.
     let found = c.loop-piece.invariant.found in
-    few_found c.args.self.now c.args.key.now (tree_of c.args.expr.now) c.args.asker.now c.kept_steps.ensures rules c.args.interval logs h asker w text
+    few_found c.args.self.now c.args.key.now (tree_of c.args.expr.now) c.args.asker.now c.kept_steps.ensures log_rules c.args.interval logs h asker w text
     (pieces_of c.args.interval c.args.grid.now.step (points c.args.grid.now)) (points c.args.grid.now)
     (ap steps_of (sym c.pieces-piece-items.ensures.pieces) ∙ c.pieces-piece-items.ensures.all) c.loop-piece.found.cached.items found.whole
     (steps_all c.args.self.now c.args.key.now (tree_of c.args.expr.now) c.args.asker.now
