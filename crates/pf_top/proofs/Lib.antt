@@ -6,6 +6,7 @@ pub mod Seeds
 pub mod SessionLaws
 pub mod SessionLines
 pub mod SessionScripts
+mod Spared
 pub mod WordLaws
 mod WorkedReads
 mod WorkedWords

@@ -2,7 +2,7 @@ use Rattle.std.proofs.Common.{rules, Some, inl, refl}
 use Rattle.pf_client.proofs.Cases.{if_ok_map}
 use Rattle.pf_client.proofs.Texts.{short_by}
 use Rattle.pf_top.specs.Commands.{evaluate}
-use Rattle.pf_top.specs.Seen.{files_seen, hops_seen}
+use Rattle.pf_top.specs.Seen.{files_seen}
 use Rattle.pf_top.specs.WordSteps.{evaluation_in}
 use Rattle.pf_top.proofs.OutputLaws.{evaluation_said, unread_said}
 use Rattle.pf_top.proofs.driver.evaluate_file.Goals as goal
