@@ -291,7 +291,7 @@ class Session:
         code = text.split(" ")[2]
         coded = {"503": "refl", "500": "inr (inl refl)"}.get(code, "inl refl")
         stepped = "inl refl" if query.planned else "inr (refl, inl refl)"
-        at_once = "λ h. refl" if text.split(" ")[3] == "0" else "λ h. cc"
+        at_once = "λ h. refl" if query.cached_count == 0 else "λ h. cc"
         return "record { coded = %s; stepped = %s; reused = record { at_once = %s; frozen = lit≤ tt } }" % (coded, stepped, at_once)
 
     def matched(self, note):
