@@ -8,15 +8,21 @@ use crate::logged::Logged;
 use crate::steps::{Agree, Begin, Cut, Glue, Lower, Raise, Turns, View};
 use atomic_table::{Refused, Seat, Table};
 use std::alloc::{AllocFailed, Global};
+use std::hint;
 use std::marker::Model;
 use std::snapshot::Snapshot;
 use std::sync::Wait;
-use std::thread;
+use std::sync::atomic::{AtomicU64, Ordering};
+
+// How often a thread tries to begin a turn before it sleeps.
+const SPINS: u32 = 100;
 
 /// A value that one thread at a time may have. Contracts see which lock it is.
 #[derive(Drop)]
 pub struct PassLock<S: Logged> {
     table: Table<Option<S>, View<S::Entry, S::Base>, Snapshot<S>, Turns<S>, Global>,
+    // how many threads sleep, or are about to
+    sleepers: AtomicU64,
 }
 
 impl<S: Logged> Model for PassLock<S> {
@@ -78,7 +84,10 @@ impl<S: Logged> PassLock<S> {
             return Err(NewError::OutOfMemory(value.unwrap()));
         }
         match Table::new(alloc, &[2 * count], slots, &key) {
-            Ok((table, seat)) => Ok((PassLock { table }, Pass { seat, count })),
+            Ok((table, seat)) => {
+                let sleepers = AtomicU64::new(0);
+                Ok((PassLock { table, sleepers }, Pass { seat, count }))
+            }
             Err(Refused { mut slots }) => {
                 let value = slots.pop().unwrap();
                 slots.destroy_empty();
@@ -141,7 +150,24 @@ impl<S: Logged> PassLock<S> {
         }
     }
 
-    /// Begins a turn, once no other is held: it tries again, and yields to other threads between two tries.
+    // Sleeps while a turn is held. Who leaves that turn finds the sleeper counted, since it was before the word was looked at.
+    fn sleep<R: Wait>(&self, rt: &R) {
+        let held = self.table.shared.peek(0);
+        if held % 2 == 1 {
+            self.sleepers.fetch_add(1, Ordering::SeqCst);
+            self.table.shared.park(rt, 0, (held & 0xffff_ffff) as u32);
+            self.sleepers.fetch_sub(1, Ordering::SeqCst);
+        }
+    }
+
+    // Wakes one of those that sleep.
+    fn wake(&self) {
+        if self.sleepers.load(Ordering::SeqCst) > 0 {
+            self.table.shared.wake_one(0);
+        }
+    }
+
+    /// Begins a turn, once no other is held: it tries again for a while, and then sleeps until the turn that is held ends.
     pub fn enter<R: Wait>(&self, rt: &R, pass: &mut Pass<S>) -> Turn<S>
         requires lock { pass.old.lock ≡ self.now }
         requires idle { pass.old.turn ≡ 0 }
@@ -153,12 +179,19 @@ impl<S: Logged> PassLock<S> {
         ensures shuts { Shuts S.closes (S.history result.value) pass.old.own }
         ensures base { pass.old.base ≡ Some (S.base result.value) }
         ensures room { length (S.history result.value) < 2 ^ 62 }
+        ensures alone { pass.old.parts ≡ 64 → (S.history result.value ≡ pass.old.seen) × OwnsAll (length pass.old.seen) pass.old.own }
     {
+        let mut tries = 0;
         for _ in rt.forever() {
             if let Some(turn) = self.try_enter(pass) {
                 return turn;
             }
-            thread::yield_now();
+            if tries < SPINS {
+                tries += 1;
+                hint::spin_loop();
+            } else {
+                self.sleep(rt);
+            }
         }
         unreachable!()
     }
@@ -184,6 +217,7 @@ impl<S: Logged> PassLock<S> {
                 .fetch_add::<Raise<S>>(&mut pass.seat, 0, 1);
         }
         pass.count = count;
+        self.wake();
     }
 
     /// Gives the value, to the pass that all others were joined to.
@@ -195,7 +229,7 @@ impl<S: Logged> PassLock<S> {
         ensures base { pass.base ≡ Some (S.base result) }
         ensures own { OwnsAll (length pass.seen) pass.own }
     {
-        let PassLock { table } = self;
+        let PassLock { table, sleepers: _ } = self;
         let Pass { seat, count: _ } = pass;
         let mut closed = table.close_with(seat);
         let slot = closed.take(0);
